@@ -1,0 +1,84 @@
+-- What a message does at once, by its cases: a law for each part that decides something.
+use Prim.Native.Nat.{ℕ, max}
+use native.Mathlib.Decide.{ℕ-discrete, decLt}
+use mathlib.Core.Path.{_≡_, refl}
+use mathlib.Core.Logic.{ite}
+use mathlib.Core.Bool.{Bool, true, false, cond}
+use mathlib.Core.List.{List, [], _∷_}
+use Rattle.theory.specs.Update.{upd}
+use Rattle.eqaso.specs.Message.{Value, echo, value}
+use Rattle.eqaso.specs.Algorithm.{Operation, Round, Nodes, Wait, idle, reading, writing, comparing, borrowing, Node, Step, still, sending, waiting, has, receive, raise, readAnswered, writeAnswered}
+use Rattle.eqaso.proofs.Change.{topping, holding}
+
+-- The tag is above maxtag, or it is not.
+pub raise-cases : (Q : Step → Type 0) (t : ℕ) (ν : Node) → Q (sending (echo t ∷ []) (topping t ν)) → Q (still ν)
+    → Q (raise t ν)
+raise-cases Q t ν x y = elim (decLt (ν .maxtag) t) as (λ d. Q (ite d (sending (echo t ∷ []) (topping t ν)) (still ν)))
+    [ yes h ↦ x | no h ↦ y ]
+
+-- The values from each node, after v has come from node k.
+abbrev pub from-by : ℕ → Value → Node → ℕ → List Value
+from-by k v ν = upd (ν .from) k (v ∷ ν .from k)
+
+-- The value is known, or it is new.
+pub receive-cases : (Q : Step → Type 0) (k : ℕ) (v : Value) (ν : Node) → Q (still (holding (ν .all) (from-by k v ν) ν))
+    → Q (sending (value v ∷ []) (holding (v ∷ ν .all) (from-by k v ν) ν)) → Q (receive k v ν)
+receive-cases Q k v ν x y = elim (has (ν .all) v) as (λ b. Q (cond b (still (holding (ν .all) (from-by k v ν) ν))
+    (sending (value v ∷ []) (holding (v ∷ ν .all) (from-by k v ν) ν))))
+    [ true ↦ x | false ↦ y ]
+
+-- A read answer from node k to the last request is counted, if read answers are awaited.
+abbrev pub ReadCounted : ℕ → Wait → Type 0
+ReadCounted k (reading op s u) = s k ≡ true
+ReadCounted k idle = Unit {0}
+ReadCounted k (writing op r u s) = Unit {0}
+ReadCounted k (comparing op r u) = Unit {0}
+ReadCounted k (borrowing op u) = Unit {0}
+
+-- A write answer with tag t from node k to the last request, likewise.
+abbrev pub WriteCounted : ℕ → ℕ → Wait → Type 0
+WriteCounted k t (writing op r u s) = t ≡ u → s k ≡ true
+WriteCounted k t idle = Unit {0}
+WriteCounted k t (reading op s u) = Unit {0}
+WriteCounted k t (comparing op r u) = Unit {0}
+WriteCounted k t (borrowing op u) = Unit {0}
+
+-- An answer changes nothing, and is counted if it should be; or it is counted now. P is known of the wait.
+module _ (P : Wait → Type 0) (Q : Node → Type 0) (k q t : ℕ) (ν : Node) where
+  pub read-cases : (w : Wait) → P w → ((q ≡ ν .request → ReadCounted k w) → Q (waiting w ν))
+      → ((op : Operation) (s : Nodes) (u : ℕ) → P (reading op s u)
+      → Q (waiting (reading op (upd s k true) (max u t)) ν))
+      → Q (readAnswered k q t (waiting w ν) w)
+  read-cases idle p stay count = stay (λ e. tt)
+  read-cases (writing op r u s) p stay count = stay (λ e. tt)
+  read-cases (comparing op r u) p stay count = stay (λ e. tt)
+  read-cases (borrowing op u) p stay count = stay (λ e. tt)
+  read-cases (reading op s u) p stay count = go (ℕ-discrete q (ν .request)) (s k) refl
+    where
+      ν′ : Node
+      ν′ = waiting (reading op s u) ν
+
+      go : (d : Dec (q ≡ ν .request)) (b : Bool) → s k ≡ b
+          → Q (ite d (cond b ν′ (waiting (reading op (upd s k true) (max u t)) ν)) ν′)
+      go (yes e) true is = stay (λ e. is)
+      go (yes e) false is = count op s u p
+      go (no e) b is = stay (λ x. absurd (e x))
+
+  pub write-cases : (w : Wait) → P w → ((q ≡ ν .request → WriteCounted k t w) → Q (waiting w ν))
+      → ((op : Operation) (r : Round) (u : ℕ) (s : Nodes) → P (writing op r u s)
+      → Q (waiting (writing op r u (upd s k true)) ν))
+      → Q (writeAnswered k q t (waiting w ν) w)
+  write-cases idle p stay count = stay (λ e. tt)
+  write-cases (reading op s u) p stay count = stay (λ e. tt)
+  write-cases (comparing op r u) p stay count = stay (λ e. tt)
+  write-cases (borrowing op u) p stay count = stay (λ e. tt)
+  write-cases (writing op r u s) p stay count = go (ℕ-discrete q (ν .request)) (ℕ-discrete t u)
+    where
+      ν′ : Node
+      ν′ = waiting (writing op r u s) ν
+
+      go : (d : Dec (q ≡ ν .request)) (d′ : Dec (t ≡ u))
+          → Q (ite d (ite d′ (waiting (writing op r u (upd s k true)) ν) ν′) ν′)
+      go (yes e) (yes is) = count op r u s p
+      go (yes e) (no is) = stay (λ x z. absurd (is z))
+      go (no e) d′ = stay (λ x. absurd (e x))

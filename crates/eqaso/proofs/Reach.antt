@@ -1,0 +1,86 @@
+-- Who the messages in the list of an event go to: an answer to the node that asked, any other to nodes.
+use Prim.Native.Nat.{ℕ, zero, suc}
+use native.Mathlib.Omega.{arith}
+use native.Mathlib.Decide.{ℕ-discrete}
+use mathlib.Core.Path.{_≡_, sym, subst, ap}
+use mathlib.Core.Logic.{inl, inr}
+use mathlib.Core.Bool.{cond, decide}
+use mathlib.Core.List.{List, [], _∷_, List·Memᴰ·head, List·Memᴰ·tail, Memᴰ·append-left}
+use mathlib.Core.List.{List·Memᴰ·append-cases, List·Memᴰ·eq-of-singleton}
+use lib.ListN.{drop, take-append-drop}
+use Rattle.theory.specs.Log.{_∈_}
+use Rattle.eqaso.specs.Message.{Message}
+use Rattle.eqaso.specs.Algorithm.{table}
+use Rattle.eqaso.specs.Cluster.{Extent, whole, cut, Sent, addressed, entries, letOut, sentTo}
+use Rattle.eqaso.specs.Order.{OneTo}
+use Rattle.eqaso.proofs.Meant.{Address, one, all, address}
+use Rattle.eqaso.proofs.Entries.{entry, addressed-by, addressed-is}
+
+-- A message may go to node b.
+abbrev ReachesBy : ℕ → ℕ → Address → Type 0
+ReachesBy n b (one to) = to ≡ b
+ReachesBy n b all = OneTo n b
+
+abbrev pub Reaches : ℕ → ℕ → Message → Type 0
+Reaches n b m = ReachesBy n b (address m)
+
+abbrev pub Entered : ℕ → Sent → Type 0
+Entered n s = Reaches n (s .to) (s .message)
+
+table-in : {A : Type 0} {x : A} (g : ℕ → A) (n : ℕ) → x ∈ table g n → (j : ℕ) × OneTo n j × (x ≡ g j)
+unfolding table
+table-in g zero i = elim i [ ]
+table-in g (suc n) i = elim (List·Memᴰ·append-cases (table g n) i) [
+  | inl old ↦ (let (j, h, e) = table-in g n old in (j, (h .0, omega arith), e))
+  | inr last ↦ (suc n, (omega arith, omega arith), List·Memᴰ·eq-of-singleton last)
+]
+
+addressed-reach : {s : Sent} (n : ℕ) (m : Message) → s ∈ addressed n m → Entered n s
+addressed-reach {s} n m i =
+    let (e, h) = go (address m) (subst (λ z. s ∈ z) (addressed-is n m) i) in
+    subst (λ z. ReachesBy n (s .to) (address z)) (sym e) h
+  where
+    go : (d : Address) → s ∈ addressed-by n m d → (s .message ≡ m) × ReachesBy n (s .to) d
+    go (one to) j = let e = List·Memᴰ·eq-of-singleton j in (ap (λ z. z .message) e, ap (λ z. z .to) (sym e))
+    go all j = let (k, h, e) = table-in (λ j. entry j m) n j in
+        (ap (λ z. z .message) e, subst (λ z. OneTo n (z .to)) (sym e) h)
+
+entries-reach : {s : Sent} (n : ℕ) (l : List Message) → s ∈ entries n l → Entered n s
+unfolding entries
+entries-reach n [] i = elim i [ ]
+entries-reach n (m ∷ l) i = elim (List·Memᴰ·append-cases (addressed n m) i)
+    [ inl h ↦ addressed-reach n m h | inr h ↦ entries-reach n l h ]
+
+letOut-in : {s : Sent} (x : Extent) (l : List Sent) → s ∈ letOut x l → s ∈ l
+letOut-in whole l i = i
+letOut-in {s} (cut k) l i = subst (λ z. s ∈ z) (take-append-drop k l) (Memᴰ·append-left (drop k l) i)
+
+pub sentTo-in : {m : Message} (b : ℕ) (l : List Sent) → m ∈ sentTo b l → entry b m ∈ l
+unfolding sentTo decide
+sentTo-in b [] i = elim i [ ]
+sentTo-in {m} b (s ∷ l) i = go (ℕ-discrete (s .to) b) i (sentTo-in b l)
+  where
+    go : (d : Dec (s .to ≡ b)) → m ∈ cond (decide d) (s .message ∷ sentTo b l) (sentTo b l)
+        → (m ∈ sentTo b l → entry b m ∈ l) → entry b m ∈ (s ∷ l)
+    go (yes e) (List·Memᴰ·head h) rest = List·Memᴰ·head (subst (λ z. entry z m ≡ s) e (ap (entry (s .to)) h))
+    go (yes e) (List·Memᴰ·tail j) rest = List·Memᴰ·tail (rest j)
+    go (no e) j rest = List·Memᴰ·tail (rest j)
+
+pub sentTo-of : {s : Sent} {l : List Sent} → s ∈ l → s .message ∈ sentTo (s .to) l
+unfolding sentTo decide
+sentTo-of {s} (List·Memᴰ·head {x} {xs} e) = go (ℕ-discrete (x .to) (s .to))
+  where
+    go : (d : Dec (x .to ≡ s .to)) → s .message ∈ cond (decide d) (x .message ∷ sentTo (s .to) xs) (sentTo (s .to) xs)
+    go (yes h) = List·Memᴰ·head (ap (λ z. z .message) e)
+    go (no h) = absurd (h (ap (λ z. z .to) (sym e)))
+sentTo-of {s} (List·Memᴰ·tail {x} {xs} i) = go (ℕ-discrete (x .to) (s .to)) (sentTo-of i)
+  where
+    go : (d : Dec (x .to ≡ s .to)) → s .message ∈ sentTo (s .to) xs
+        → s .message ∈ cond (decide d) (x .message ∷ sentTo (s .to) xs) (sentTo (s .to) xs)
+    go (yes h) j = List·Memᴰ·tail j
+    go (no h) j = j
+
+-- What goes to b in the list of an event may go to b.
+pub sent-reach : {m : Message} (n b : ℕ) (x : Extent) (l : List Message) → m ∈ sentTo b (letOut x (entries n l))
+    → Reaches n b m
+sent-reach n b x l i = entries-reach n l (letOut-in x (entries n l) (sentTo-in b _ i))

@@ -1,0 +1,190 @@
+-- A cluster: n nodes and a first-in first-out channel from each to each, itself included. Document 01 calls it a house,
+-- with cabinets and trunks. An event is accepted or refused, and a refused one leaves all as it was.
+use Prim.Native.Nat.{ℕ, zero, suc, _-_, _≤_, _<_}
+use native.Mathlib.Decide.{ℕ-discrete, decLe, decLt}
+use mathlib.Core.Path.{_≡_}
+use mathlib.Core.Logic.{ite}
+use mathlib.Core.Bool.{Bool, true, false, cond, decide, not, _&&_, Bool-discrete}
+use mathlib.Core.List.{List, [], _∷_, _++_}
+use lib.ListN.{length, take}
+use Rattle.theory.specs.Count.{count}
+use Rattle.theory.specs.Update.{upd, upd2}
+use Rattle.eqaso.specs.Message.{Message, read, readAnswer, write, writeAnswer, echo, value, good}
+use Rattle.eqaso.specs.Algorithm.{limit, table, Operation, Wait, idle, reading, writing, comparing, borrowing, Node, fresh, Ending, none, Step, still, beginStep, messageStep}
+
+-- How much of a step's list an event lets out: all of it, or its first m entries, after which the node stops.
+pub data Extent : Type 0 where
+  whole : Extent
+  cut : ℕ → Extent
+
+-- What may happen, with any numbers.
+pub data Event : Type 0 where
+  begin : (node : ℕ) → Operation → Extent → Event
+  deliver : (sender receiver : ℕ) → Extent → Event
+  stop : (node : ℕ) → Event
+
+-- A refusal by its number in document 01, or the ending that the event gives.
+pub data Answer : Type 0 where
+  refused : ℕ → Answer
+  accepted : Ending → Answer
+
+-- A message let out to one node.
+pub record Sent : Type 0 where
+  pub to : ℕ
+  pub message : Message
+
+pub record Cluster : Type 0 where
+  pub nodes : ℕ → Node
+  pub stopped : ℕ → Bool
+  -- What waits on the channel from one node to another, oldest first.
+  pub channel : ℕ → ℕ → List Message
+
+abbrev pub start : Cluster
+start = record { nodes = λ c. fresh; stopped = λ c. false; channel = λ a b. [] }
+
+-- What an event does: the cluster after it, its answer, and the messages let out, in order.
+pub record Result : Type 0 where
+  pub cluster : Cluster
+  pub answer : Answer
+  pub sent : List Sent
+
+abbrev pub refuse : ℕ → Cluster → Result
+refuse k σ = record { cluster = σ; answer = refused k; sent = [] }
+
+-- A refusal stands on its condition: without what it demands the answer is its number, else it is what comes after.
+abbrev pub demand : {P : Type 0} → Dec P → ℕ → Cluster → Result → Result
+demand d k σ next = ite d next (refuse k σ)
+
+-- The entries of a list of messages: an answer goes to the node that asked, any other message to 1 to n in turn.
+abbrev pub addressed : ℕ → Message → List Sent
+addressed n (readAnswer to q t) = record { to = to; message = readAnswer to q t } ∷ []
+addressed n (writeAnswer to q t) = record { to = to; message = writeAnswer to q t } ∷ []
+addressed n (read q) = table (λ b. record { to = b; message = read q }) n
+addressed n (write q t) = table (λ b. record { to = b; message = write q t }) n
+addressed n (echo t) = table (λ b. record { to = b; message = echo t }) n
+addressed n (value v) = table (λ b. record { to = b; message = value v }) n
+addressed n (good t v) = table (λ b. record { to = b; message = good t v }) n
+
+unfoldable pub entries : ℕ → List Message → List Sent
+entries n [] = []
+entries n (m ∷ ms) = addressed n m ++ entries n ms
+
+abbrev pub letOut : Extent → List Sent → List Sent
+letOut whole l = l
+letOut (cut m) l = take m l
+
+-- The messages among the entries that go to node b.
+unfoldable pub sentTo : ℕ → List Sent → List Message
+sentTo b [] = []
+sentTo b (s ∷ l) = cond (decide (ℕ-discrete (s .to) b)) (s .message ∷ sentTo b l) (sentTo b l)
+
+-- Who has stopped after an event that node c handles.
+abbrev pub halted : Extent → ℕ → (ℕ → Bool) → ℕ → Bool
+halted whole c stopped = stopped
+halted (cut m) c stopped = upd stopped c true
+
+-- A cut event does not give its ending.
+abbrev pub given : Extent → Ending → Ending
+given whole e = e
+given (cut m) e = none
+
+-- The channels after node c has let l out: each entry at the end of its channel, and nothing to a stopped node.
+abbrev pub channels : (ℕ → Bool) → ℕ → List Sent → (ℕ → ℕ → List Message) → ℕ → ℕ → List Message
+channels stopped c l channel a b =
+    cond (stopped b) [] (cond (decide (ℕ-discrete a c)) (channel a b ++ sentTo b l) (channel a b))
+
+-- Node c takes step s and lets l out. The channels are given as the event found them, for a delivery without the message.
+abbrev pub commit : ℕ → Extent → Step → List Sent → (ℕ → ℕ → List Message) → Cluster → Result
+commit c x s l channel σ = record {
+    cluster = record {
+        nodes = upd (σ .nodes) c (s .node);
+        stopped = halted x c (σ .stopped);
+        channel = channels (halted x c (σ .stopped)) c l channel };
+    answer = accepted (given x (s .ending));
+    sent = l }
+
+-- The most messages that a channel holds.
+abbrev pub capacity : ℕ
+capacity = 16
+
+-- Each channel from c to 1 to n holds at most its capacity.
+unfoldable pub roomy : ℕ → ℕ → (ℕ → ℕ → List Message) → Bool
+roomy c zero channel = true
+roomy c (suc n) channel = decide (decLe (length (channel c (suc n))) capacity) && roomy c n channel
+
+-- Refusal 11, judged on the channels as the event would leave them.
+abbrev pub unlessFull : ℕ → ℕ → Cluster → Result → Result
+unlessFull n c σ r = demand (Bool-discrete (roomy c n (r .cluster .channel)) true) 11 σ r
+
+abbrev pub settle : ℕ → ℕ → Extent → Step → (ℕ → ℕ → List Message) → Cluster → Result
+settle n c x s channel σ = unlessFull n c σ (commit c x s (letOut x (entries n (s .sent))) channel σ)
+
+-- What the other refusals demand.
+
+-- 3: a node's number is 1 to n.
+abbrev pub isNode : ℕ → ℕ → Bool
+isNode n c = decide (decLt 0 c) && decide (decLe c n)
+
+-- 4: the node has not stopped.
+abbrev pub stands : Cluster → ℕ → Bool
+stands σ c = not (σ .stopped c)
+
+-- 5: no operation is open.
+abbrev pub isIdle : Wait → Bool
+isIdle idle = true
+isIdle (reading op s u) = false
+isIdle (writing op r t s) = false
+isIdle (comparing op r t) = false
+isIdle (borrowing op t) = false
+
+-- 10: one more node may stop.
+abbrev pub mayStop : ℕ → ℕ → Cluster → Bool
+mayStop n f σ = decide (decLt (count (σ .stopped) n) f)
+
+abbrev pub mayCut : ℕ → ℕ → Extent → Cluster → Bool
+mayCut n f whole σ = true
+mayCut n f (cut m) σ = mayStop n f σ
+
+abbrev pub holds : (b : Bool) → Dec (b ≡ true)
+holds b = Bool-discrete b true
+
+-- The three kinds of event.
+
+abbrev pub beginEvent : (n f c : ℕ) → Operation → Extent → Cluster → Result
+beginEvent n f c op x σ =
+    demand (holds (isNode n c)) 3 σ
+    (demand (holds (stands σ c)) 4 σ
+    (demand (holds (isIdle (σ .nodes c .wait))) 5 σ
+    (demand (decLe 5 (limit - σ .nodes c .request)) 6 σ
+    (demand (holds (mayCut n f x σ)) 10 σ
+    (settle n c x (beginStep n f c op (σ .nodes c)) (σ .channel) σ)))))
+
+-- The delivery of what has waited longest on its channel.
+abbrev pub deliverFirst : (n f a b : ℕ) → Extent → Cluster → List Message → Result
+deliverFirst n f a b x σ [] = refuse 8 σ
+deliverFirst n f a b x σ (m ∷ rest) =
+    demand (holds (mayCut n f x σ)) 10 σ
+    (settle n b x (messageStep n f b a m (σ .nodes b)) (upd2 (σ .channel) a b rest) σ)
+
+abbrev pub deliverEvent : (n f a b : ℕ) → Extent → Cluster → Result
+deliverEvent n f a b x σ =
+    demand (holds (isNode n a && isNode n b)) 3 σ
+    (demand (holds (stands σ b)) 4 σ
+    (deliverFirst n f a b x σ (σ .channel a b)))
+
+abbrev pub stopEvent : (n f c : ℕ) → Cluster → Result
+stopEvent n f c σ =
+    demand (holds (isNode n c)) 3 σ
+    (demand (holds (stands σ c)) 4 σ
+    (demand (holds (mayStop n f σ)) 10 σ
+    (commit c (cut 0) (still (σ .nodes c)) [] (σ .channel) σ)))
+
+unfoldable pub event : (n f : ℕ) → Event → Cluster → Result
+event n f (begin c op x) σ = beginEvent n f c op x σ
+event n f (deliver a b x) σ = deliverEvent n f a b x σ
+event n f (stop c) σ = stopEvent n f c σ
+
+-- The cluster after a list of events.
+unfoldable pub after : (n f : ℕ) → Cluster → List Event → Cluster
+after n f σ [] = σ
+after n f σ (e ∷ es) = after n f (event n f e σ .cluster) es

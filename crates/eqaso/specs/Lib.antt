@@ -1,0 +1,7 @@
+pub mod Message
+pub mod Algorithm
+pub mod Cluster
+pub mod Trace
+pub mod Order
+pub mod Bounded
+pub mod Claims

@@ -1,0 +1,97 @@
+-- Demand 3 of document 01, as two claims about the trace of a whole list of events: there is one single order of its
+-- operations, and where no message waits for a standing node, no operation is open.
+use Prim.Native.Nat.{ℕ, zero, suc, _*_, _<_, _≤_}
+use native.Mathlib.Decide.{ℕ-discrete}
+use mathlib.Core.Path.{_≡_}
+use mathlib.Core.Logic.{_↔_, ite}
+use mathlib.Core.Bool.{false}
+use mathlib.Core.List.{List, [], _∷_}
+use Rattle.theory.specs.Log.{_∈_}
+use Rattle.eqaso.specs.Message.{Entry, absent}
+use Rattle.eqaso.specs.Algorithm.{Ending, none, done, shown, spent}
+use Rattle.eqaso.specs.Cluster.{Event}
+use Rattle.eqaso.specs.Trace.{Trace, trace, Begun, nothing, updating, scanning, begun, Fate, unfinished, ended, fate, tagAt, writesBy, viewOf, entryAt, stopped, waits}
+
+-- w is the number of a node.
+abbrev pub OneTo : ℕ → ℕ → Type 0
+OneTo n w = (1 ≤ w) × (w ≤ n)
+
+abbrev pub Finished : Fate → Type 0
+Finished unfinished = ⊥
+Finished (ended k e) = Unit {0}
+
+abbrev pub IsScan : Begun → Type 0
+IsScan nothing = ⊥
+IsScan (updating c p) = ⊥
+IsScan (scanning c) = Unit {0}
+
+-- The operation at index s is a finished scan whose view has tag t and report p at node c: it shows the update of node c
+-- with that tag and report. An update without a tag is shown by none.
+pub record Shows (tr : Trace) (s c t p : ℕ) : Type 0 where
+  pub scan : IsScan (begun tr s)
+  pub finished : Finished (fate tr s)
+  pub tagged : 0 < t
+  pub entry : entryAt (viewOf (fate tr s)) c ≡ record { tag = t; report = p }
+
+-- What has a place in the order: a finished scan, a finished update that is not spent, and an unfinished update that
+-- some finished scan shows.
+abbrev pub PlacedBy : Trace → ℕ → Begun → Fate → Type 0
+PlacedBy tr t nothing x = ⊥
+PlacedBy tr t (scanning c) unfinished = ⊥
+PlacedBy tr t (scanning c) (ended k e) = Unit {0}
+PlacedBy tr t (updating c p) unfinished = (s : ℕ) × Shows tr s c (tagAt tr t c) p
+PlacedBy tr t (updating c p) (ended k none) = Unit {0}
+PlacedBy tr t (updating c p) (ended k (done r v)) = Unit {0}
+PlacedBy tr t (updating c p) (ended k (shown r v)) = Unit {0}
+PlacedBy tr t (updating c p) (ended k spent) = ⊥
+
+abbrev pub Placed : Trace → ℕ → Type 0
+Placed tr t = PlacedBy tr t (begun tr t) (fate tr t)
+
+-- No operation stands twice.
+unfoldable pub Once : List ℕ → Type 0
+Once [] = Unit {0}
+Once (t ∷ l) = ¬ (t ∈ l) × Once l
+
+-- The part of a line before x.
+unfoldable pub before : ℕ → List ℕ → List ℕ
+before x [] = []
+before x (t ∷ l) = ite (ℕ-discrete t x) [] (t ∷ before x l)
+
+-- What node w has written last when the operations of a line have been done one after the other.
+unfoldable pub written : Trace → ℕ → List ℕ → Entry → Entry
+written tr w [] old = old
+written tr w (t ∷ l) old = written tr w l (writesBy tr t w (begun tr t) old)
+
+-- The operation ended before index t.
+abbrev pub EndedBefore : Fate → ℕ → Type 0
+EndedBefore unfinished t = ⊥
+EndedBefore (ended k e) t = k < t
+
+-- One single order: a line of operations such that
+pub record SingleOrder (n : ℕ) (tr : Trace) : Type 0 where
+  pub line : List ℕ
+  -- each stands once,
+  pub once : Once line
+  -- just those that have a place stand in it,
+  pub members : (t : ℕ) → (t ∈ line) ↔ Placed tr t
+  -- each scan shows of every node the last update before it, and no report where there is none,
+  pub legal : (s : ℕ) → s ∈ line → IsScan (begun tr s) → (w : ℕ) → OneTo n w
+    → entryAt (viewOf (fate tr s)) w ≡ written tr w (before s line) absent
+  -- and what ended before another began stands before it.
+  pub timely : (a b : ℕ) → a ∈ line → b ∈ line → EndedBefore (fate tr a) b → a ∈ before b line
+
+-- The operation at index t is not open: it has finished, or its node has stopped.
+abbrev pub ClosedBy : Trace → ℕ → Begun → Type 0
+ClosedBy tr t nothing = Unit {0}
+ClosedBy tr t (updating c p) = stopped tr c ≡ false → Finished (fate tr t)
+ClosedBy tr t (scanning c) = stopped tr c ≡ false → Finished (fate tr t)
+
+-- Where no message waits for a standing node, no operation is open.
+abbrev pub Quiet : ℕ → Trace → Type 0
+Quiet n tr = ((a b : ℕ) → OneTo n a → OneTo n b → stopped tr b ≡ false → waits tr a b ≡ [])
+    → (t : ℕ) → ClosedBy tr t (begun tr t)
+
+-- Demand 3: of every list of events, with any numbers.
+abbrev pub Demand3 : (n f : ℕ) → Type 0
+Demand3 n f = (es : List Event) → SingleOrder n (trace n f es) × Quiet n (trace n f es)

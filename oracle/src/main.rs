@@ -1,0 +1,98 @@
+//! The oracle: Algorithm 1 with document 01's amendments over sets that never forget, run from session text. It shares
+//! no code and no layout with the proved crates, so that agreement with them says something.
+
+mod cluster;
+mod dice;
+mod habits;
+mod message;
+mod node;
+mod oddities;
+mod order;
+mod random;
+mod session;
+mod stats;
+mod text;
+
+#[cfg(test)]
+mod tests;
+
+use std::env;
+use std::io::{self, BufWriter, Write};
+use std::process::ExitCode;
+
+const USAGE: &str = "usage:
+  oracle run                      < session   plays a session and prints its answers
+  oracle check                    < session   plays a session and tries demand 3 on it
+  oracle stats                    < session   counts what happens in a session
+  oracle random SEED EVENTS [N]               prints a random session";
+
+fn main() -> ExitCode {
+    let arguments: Vec<String> = env::args().skip(1).collect();
+    let words: Vec<&str> = arguments.iter().map(String::as_str).collect();
+    let result = match words[..] {
+        ["run"] => run(),
+        ["check"] => return check(),
+        ["stats"] => stats(),
+        ["random", seed, events] => random_session(seed, events, None),
+        ["random", seed, events, n] => random_session(seed, events, Some(n)),
+        _ => Err(io::Error::new(io::ErrorKind::InvalidInput, USAGE)),
+    };
+    match result {
+        Ok(()) => ExitCode::SUCCESS,
+        Err(error) => failed(&error.to_string()),
+    }
+}
+
+fn failed(why: &str) -> ExitCode {
+    eprintln!("{why}");
+    ExitCode::FAILURE
+}
+
+fn run() -> io::Result<()> {
+    let mut out = BufWriter::new(io::stdout().lock());
+    session::play(io::stdin().lock(), |played, _| {
+        let node = played.event.as_ref().map(|event| event.node());
+        match text::answer(played.number, node, &played.outcome) {
+            Some(answer) => writeln!(out, "{answer}"),
+            None => Ok(()),
+        }
+    })?;
+    out.flush()
+}
+
+fn check() -> ExitCode {
+    let mut all = vec![];
+    let mut n = 0;
+    let read = session::play(io::stdin().lock(), |played, cluster| {
+        n = cluster.map_or(0, |cluster| cluster.n());
+        all.push(played);
+        Ok(())
+    });
+    match read.map_err(|error| error.to_string()).and_then(|()| order::check(n, &all)) {
+        Ok(passed) => {
+            println!("one order: {} of {} operations in the line", passed.in_line, passed.operations);
+            ExitCode::SUCCESS
+        }
+        Err(why) => failed(&why),
+    }
+}
+
+fn stats() -> io::Result<()> {
+    let mut stats = stats::Stats::default();
+    session::play(io::stdin().lock(), |played, cluster| {
+        stats.see(&played, cluster);
+        Ok(())
+    })?;
+    write!(io::stdout().lock(), "{stats}")
+}
+
+fn random_session(seed: &str, events: &str, n: Option<&str>) -> io::Result<()> {
+    let bad = |_| io::Error::new(io::ErrorKind::InvalidInput, USAGE);
+    let seed: u64 = seed.parse().map_err(bad)?;
+    let events: usize = events.parse().map_err(bad)?;
+    let n: Option<usize> = n.map(str::parse).transpose().map_err(bad)?;
+    if n.is_some_and(|n| !(1..=5).contains(&n)) {
+        return Err(io::Error::new(io::ErrorKind::InvalidInput, "N is 1 to 5"));
+    }
+    io::stdout().lock().write_all(&random::session(seed, events, n))
+}

@@ -1,0 +1,31 @@
+//! Plays a session: each line is an event of one cluster, and whoever watches sees each outcome.
+
+use crate::cluster::{Cluster, Event, Outcome, BAD_LINE};
+use crate::text::{parse_event, parse_first, Lines};
+use std::io::{self, Read};
+
+/// One event of a session as it went. A bad line is an event without a meaning.
+pub struct Played {
+    /// Events count from 1. A bad first line counts as event 0.
+    pub number: usize,
+    pub event: Option<Event>,
+    pub outcome: Outcome,
+}
+
+/// Plays the input to its end and hands each event to `watch`, with the cluster after it. A bad first line is handed
+/// over without a cluster and ends the session.
+pub fn play<R: Read>(input: R, mut watch: impl FnMut(Played, Option<&Cluster>) -> io::Result<()>) -> io::Result<()> {
+    let mut lines = Lines::new(input);
+    let Some(n) = lines.next_line()?.as_ref().and_then(parse_first) else {
+        return watch(Played { number: 0, event: None, outcome: Err(BAD_LINE) }, None);
+    };
+    let mut cluster = Cluster::fresh(n);
+    let mut number = 0;
+    while let Some(line) = lines.next_line()? {
+        number += 1;
+        let event = parse_event(&line);
+        let outcome = event.as_ref().map_or(Err(BAD_LINE), |event| cluster.event(event));
+        watch(Played { number, event, outcome }, Some(&cluster))?;
+    }
+    Ok(())
+}
