@@ -8,6 +8,7 @@ mod message;
 mod node;
 mod oddities;
 mod order;
+mod picture;
 mod random;
 mod session;
 mod stats;
@@ -16,6 +17,7 @@ mod text;
 #[cfg(test)]
 mod tests;
 
+use session::Played;
 use std::env;
 use std::io::{self, BufWriter, Write};
 use std::process::ExitCode;
@@ -24,6 +26,7 @@ const USAGE: &str = "usage:
   oracle run                      < session   plays a session and prints its answers
   oracle check                    < session   plays a session and tries demand 3 on it
   oracle stats                    < session   counts what happens in a session
+  oracle picture                  < session   prints a picture of a session, as SVG
   oracle random SEED EVENTS [N]               prints a random session";
 
 fn main() -> ExitCode {
@@ -31,21 +34,20 @@ fn main() -> ExitCode {
     let words: Vec<&str> = arguments.iter().map(String::as_str).collect();
     let result = match words[..] {
         ["run"] => run(),
-        ["check"] => return check(),
+        ["check"] => check(),
         ["stats"] => stats(),
+        ["picture"] => picture(),
         ["random", seed, events] => random_session(seed, events, None),
         ["random", seed, events, n] => random_session(seed, events, Some(n)),
         _ => Err(io::Error::new(io::ErrorKind::InvalidInput, USAGE)),
     };
     match result {
         Ok(()) => ExitCode::SUCCESS,
-        Err(error) => failed(&error.to_string()),
+        Err(error) => {
+            eprintln!("{error}");
+            ExitCode::FAILURE
+        }
     }
-}
-
-fn failed(why: &str) -> ExitCode {
-    eprintln!("{why}");
-    ExitCode::FAILURE
 }
 
 fn run() -> io::Result<()> {
@@ -60,21 +62,27 @@ fn run() -> io::Result<()> {
     out.flush()
 }
 
-fn check() -> ExitCode {
-    let mut all = vec![];
-    let mut n = 0;
-    let read = session::play(io::stdin().lock(), |played, cluster| {
+/// A whole session: how many nodes, and its events.
+fn whole() -> io::Result<(usize, Vec<Played>)> {
+    let (mut n, mut all) = (0, vec![]);
+    session::play(io::stdin().lock(), |played, cluster| {
         n = cluster.map_or(0, |cluster| cluster.n());
         all.push(played);
         Ok(())
-    });
-    match read.map_err(|error| error.to_string()).and_then(|()| order::check(n, &all)) {
-        Ok(passed) => {
-            println!("one order: {} of {} operations in the line", passed.in_line, passed.operations);
-            ExitCode::SUCCESS
-        }
-        Err(why) => failed(&why),
-    }
+    })?;
+    Ok((n, all))
+}
+
+fn check() -> io::Result<()> {
+    let (n, all) = whole()?;
+    let passed = order::check(n, &all).map_err(io::Error::other)?;
+    writeln!(io::stdout().lock(), "one order: {} of {} operations in the line", passed.in_line, passed.operations)
+}
+
+fn picture() -> io::Result<()> {
+    let (n, all) = whole()?;
+    let svg = picture::svg(n, &all).map_err(io::Error::other)?;
+    io::stdout().lock().write_all(svg.as_bytes())
 }
 
 fn stats() -> io::Result<()> {

@@ -22,7 +22,8 @@ pub struct Op {
 }
 
 impl Op {
-    fn view(&self) -> Option<&View> {
+    /// What a finished scan shows.
+    pub fn view(&self) -> Option<&View> {
         match &self.end {
             Some((_, Ending::Scan(_, view))) => Some(view),
             _ => None,

@@ -4,6 +4,7 @@ use crate::cluster::{Event, Extent, Refusal};
 use crate::message::{Message, Value, LIMIT};
 use crate::node::{Ending, Node, Operation, Rule, To};
 use crate::order::{check, check_line, line, operations};
+use crate::picture::{self, Scene};
 use crate::random;
 use crate::session::{play, Played};
 use crate::text::{self, Line, Lines};
@@ -154,4 +155,38 @@ fn a_refused_event_changes_nothing() {
     let refusals: Vec<_> = all.iter().map(|played| played.outcome.as_ref().err().copied()).collect();
     assert_eq!(refusals, [None, Some(Refusal(10)), None, Some(Refusal(5)), Some(Refusal(10)), None]);
     assert_eq!(all[5].event, Some(Event::Deliver { from: 1, to: 1, extent: Extent::Whole }));
+}
+
+#[test]
+fn the_stored_picture_is_the_one_that_is_drawn() {
+    let tree = Path::new(env!("CARGO_MANIFEST_DIR")).join("..");
+    let session = fs::read(tree.join("sessions/picture.txt")).expect("the session of the picture can be read");
+    let stored = fs::read_to_string(tree.join("docs/run.svg")).expect("the picture can be read");
+    let (n, all) = played(&session);
+    assert!(picture::svg(n, &all) == Ok(stored), "docs/run.svg is not the picture of sessions/picture.txt");
+}
+
+/// What a picture shows is true of the run: each delivery ends the way of one message, and each operation of the order
+/// has its moment between begin and end, later than the one before.
+#[test]
+fn a_picture_is_true_of_its_run() {
+    for seed in 0..100 {
+        let (n, all) = played(&random::session(seed, 200, None));
+        if n == 0 {
+            continue; // A bad first line.
+        }
+        let scene = Scene::new(n, &all).expect("each random session has one order");
+        let deliveries = all.iter().filter(|played| played.outcome.is_ok());
+        let deliveries = deliveries.filter(|played| matches!(played.event, Some(Event::Deliver { .. })));
+        let mut ends: Vec<usize> = scene.flights.iter().filter_map(|flight| flight.end).collect();
+        ends.sort_unstable();
+        assert!(ends.into_iter().eq(deliveries.map(|played| played.number)), "seed {seed}");
+
+        assert!(scene.moments.windows(2).all(|pair| pair[0] < pair[1]), "seed {seed}");
+        for (&place, &moment) in scene.line.iter().zip(&scene.moments) {
+            let op = &scene.ops[place];
+            let end = op.end.as_ref().map_or(scene.last, |end| end.0);
+            assert!(op.begin as f64 <= moment && moment <= end as f64, "seed {seed}");
+        }
+    }
 }

@@ -1,0 +1,88 @@
+-- The length of n entries, and that each sum fits 32 bits.
+use Prim.Native.Nat.{ℕ, _+_, _*_, _/_, _%_, _^_, _<_, _≤_}
+use mathlib.Core.Path.{_≡_, refl, sym}
+use mathlib.Core.Bool.{Bool, true, false}
+use mathlib.Core.List.{List}
+use native.Mathlib.Omega.{arith}
+use lib.ListN.{length, length-take}
+use lib.Pow.{pow-mono}
+use lib.Dec.{eqb}
+use borrow.Author.Tests.{eqb-true, eq-eqb}
+use Rattle.octets.specs.Test.{pick, both}
+use Rattle.octets.specs.Bytes.{Bytes, num, part}
+use Rattle.octets.proofs.Test.{both-left, both-right, both-true}
+use Rattle.octets.proofs.Number.{num-lt}
+use Rattle.octets.proofs.Put.{part-bytes}
+use Rattle.octets.proofs.Loop.{sumTo-le}
+use Rattle.view.specs.Report.{noReport, reportOf}
+use Rattle.view.specs.View.{tagAt}
+use Rattle.view.specs.declared.Report.{Report}
+use Rattle.figures.specs.declared.Totals.{Totals}
+use Rattle.figures.specs.Figures.{shown, total, totals}
+
+same-test : (x y : Bool) → (x ≡ true → y ≡ true) → (y ≡ true → x ≡ true) → x ≡ y
+same-test true y f g = sym (f refl)
+same-test false true f g = g refl
+same-test false false f g = refl
+
+-- the remainder and the quotient tell whether a length is 16 n
+pub long-is : (n len : ℕ) → both (eqb (len % 16) 0) (eqb (len / 16) n) ≡ eqb len (16 * n)
+long-is n len =
+    same-test (both (eqb (len % 16) 0) (eqb (len / 16) n)) (eqb len (16 * n)) there back
+  where
+    there : both (eqb (len % 16) 0) (eqb (len / 16) n) ≡ true → eqb len (16 * n) ≡ true
+    there h =
+        let r : len % 16 ≡ 0 = eqb-true (len % 16) 0 (both-left (eqb (len % 16) 0) (eqb (len / 16) n) h) in
+        let q : len / 16 ≡ n = eqb-true (len / 16) n (both-right (eqb (len % 16) 0) (eqb (len / 16) n) h) in
+        eq-eqb len (16 * n) (omega arith)
+
+    back : eqb len (16 * n) ≡ true → both (eqb (len % 16) 0) (eqb (len / 16) n) ≡ true
+    back h =
+        let e : len ≡ 16 * n = eqb-true len (16 * n) h in
+        both-true (eq-eqb (len % 16) 0 (omega arith)) (eq-eqb (len / 16) n (omega arith))
+
+short : (b : List ℕ) (at : ℕ) → length (part b at 2) ≤ 2
+unfolding part
+short b at = simp length-take (omega arith)
+
+-- two bytes, or fewer, are a number below 2 ^ 16
+pair-most : (b : List ℕ) (at : ℕ) → Bytes b → num (part b at 2) ≤ 65535
+pair-most b at h =
+    let l : num (part b at 2) < 2 ^ (8 * length (part b at 2)) = num-lt (part b at 2) (part-bytes b at 2 h) in
+    let m : length (part b at 2) ≤ 2 = short b at in
+    let p : 2 ^ (8 * length (part b at 2)) ≤ 65536 = pow-mono {j = 16} (omega arith) in
+    omega arith
+
+-- a count is at most 65,535 in each report that bytes are
+pub record Count (count : Report → ℕ) : Type 0 where
+  pub none : count noReport ≡ 0
+  pub most : (b : List ℕ) → Bytes b → count (reportOf b) ≤ 65535
+
+shown-most : (count : Report → ℕ) → Count count → (t : Bool) (b : List ℕ) → Bytes b → count
+    (pick t noReport (reportOf b)) ≤ 65535
+shown-most count c true b h = rw (c .none) (omega arith)
+shown-most count c false b h = c .most b h
+
+pub total-fits : (count : Report → ℕ) (n : ℕ) (v : List ℕ) → Count count → Bytes v → n ≤ 16 → total count n v < 2 ^ 32
+total-fits count n v c h l =
+    let m : total count n v ≤ n * 65535 =
+    sumTo-le n 65535 (λ i. count (shown v i))
+    (λ i. shown-most count c (eqb (tagAt v i) 0) (part v (16 * i + 8) 8) (part-bytes v (16 * i + 8) 8 h)) in
+    omega arith
+
+-- each of the four sums fits 32 bits
+pub record Fit (t : Totals) : Type 0 where
+  pub extensions : t .extensions < 2 ^ 32
+  pub lines : t .lines < 2 ^ 32
+  pub waiting : t .waiting < 2 ^ 32
+  pub wakeups : t .wakeups < 2 ^ 32
+
+pub totals-fit : (n : ℕ) (v : List ℕ) → Bytes v → n ≤ 16 → Fit (totals n v)
+unfolding totals reportOf
+totals-fit n v h l =
+    record {
+      extensions = total-fits (λ p. p .extensions) n v (record { none = refl; most = λ b g. pair-most b 0 g }) h l;
+      lines = total-fits (λ p. p .lines) n v (record { none = refl; most = λ b g. pair-most b 2 g }) h l;
+      waiting = total-fits (λ p. p .waiting) n v (record { none = refl; most = λ b g. pair-most b 4 g }) h l;
+      wakeups = total-fits (λ p. p .wakeups) n v (record { none = refl; most = λ b g. pair-most b 6 g }) h l;
+    }

@@ -1,0 +1,43 @@
+-- House figures of document 01: four sums over a view for n nodes, in which no report adds zero.
+use Prim.Native.Nat.{ℕ, _*_}
+use mathlib.Core.List.{List}
+use lib.ListN.{length}
+use lib.Dec.{eqb}
+use Rattle.octets.specs.Answer.{Answer, result, refused}
+use Rattle.octets.specs.Test.{pick}
+use Rattle.octets.specs.Loop.{sumTo}
+use Rattle.view.specs.Size.{isSize, limit, entrySize}
+use Rattle.view.specs.Report.{noReport}
+use Rattle.view.specs.View.{tagAt, reportAt, viewOk}
+use Rattle.view.specs.declared.Report.{Report}
+use Rattle.figures.specs.declared.Totals.{Totals}
+use Rattle.figures.specs.declared.Summed.{Summed}
+use Rattle.figures.specs.declared.Summed.the-variants.{Sums, Refused}
+
+-- the report that entry i shows: none beside tag 0
+abbrev pub shown : List ℕ → ℕ → Report
+shown v i = pick (eqb (tagAt v i) 0) noReport (reportAt v i)
+
+-- the sum of one count over n entries
+abbrev pub total : (Report → ℕ) → ℕ → List ℕ → ℕ
+total count n v = sumTo n (λ i. count (shown v i))
+
+unfoldable pub totals : ℕ → List ℕ → Totals
+totals n v =
+    record {
+      extensions = total (λ p. p .extensions) n v;
+      lines = total (λ p. p .lines) n v;
+      waiting = total (λ p. p .waiting) n v;
+      wakeups = total (λ p. p .wakeups) n v;
+    }
+
+-- 12: the length is not 16 n, for any n; 1: n; 7: a tag above its limit, or bytes beside tag 0
+unfoldable pub figuresOf : ℕ → List ℕ → Answer Totals
+figuresOf n v =
+    pick (eqb (length v) (entrySize * n))
+    (pick (isSize n) (pick (viewOk n limit v) (result (totals n v)) (refused 7)) (refused 1)) (refused 12)
+
+-- what the answer says in document 01's terms
+abbrev pub summed : Summed → Answer Totals
+summed (Sums t) = result t
+summed (Refused c) = refused c

@@ -1,0 +1,88 @@
+// House figures: four sums over the bytes of a view.
+ghost use mathlib.Core.Path.{_≡_};
+ghost use Prim.Native.Nat.{_*_, _≤_};
+ghost use lib.ListN.{length};
+ghost use lib.Dec.{eqb};
+ghost use Rattle.octets.specs.Test.{pick};
+ghost use Rattle.view.specs.Report.{noReport};
+ghost use Rattle.figures.specs.Figures.{totals, figuresOf, summed};
+use view::ENTRY;
+use view::LIMIT;
+use view::NODES;
+use view::Report;
+
+// The four sums.
+pub struct Totals {
+    pub extensions: u32,
+    pub lines: u32,
+    pub waiting: u32,
+    pub wakeups: u32,
+}
+
+// The sums, or the number of a refusal.
+pub enum Summed {
+    Sums(Totals),
+    Refused(u8),
+}
+
+// Whether `len` bytes are n entries. The product is not computed, since n may be any number.
+fn is_long(n: usize, len: usize) -> bool
+    ensures { λ r. ⌜ r ≡ eqb len (16 * n) ⌝ }
+{
+    octets::and(len % ENTRY == 0, len / ENTRY == n)
+}
+
+// The report that stands beside a tag: none beside tag 0.
+fn beside(tag: u64, p: Report) -> Report
+    ensures { λ r. ⌜ r ≡ pick (eqb tag 0) noReport p ⌝ }
+{
+    if tag == 0 { view::none() } else { p }
+}
+
+// The sums over n entries.
+fn sums(n: usize, v: &[u8]) -> Totals
+    requires { ⌜ (n ≤ 16) × (16 * n ≤ length (now v)) ⌝ }
+    ensures { λ r. ⌜ r ≡ totals n (now (v .entry)) ⌝ }
+{
+    let mut extensions: u32 = 0;
+    let mut lines: u32 = 0;
+    let mut waiting: u32 = 0;
+    let mut wakeups: u32 = 0;
+    let mut i = 0;
+    while i < n {
+        let at = ENTRY * i;
+        let middle = at + 8;
+        let end = at + ENTRY;
+        let p = beside(octets::get_word(v, at), view::read_report(&v[middle..end]));
+        extensions += p.extensions as u32;
+        lines += p.lines as u32;
+        waiting += p.waiting as u32;
+        wakeups += p.wakeups as u32;
+        i += 1;
+    }
+    Totals {
+        extensions: extensions,
+        lines: lines,
+        waiting: waiting,
+        wakeups: wakeups,
+    }
+}
+
+// The four sums over a view of n nodes, or 12, 1, 7.
+pub fn figures(n: usize, v: &[u8]) -> Summed
+    ensures { λ r. ⌜ summed r ≡ figuresOf n (now (v .entry)) ⌝ }
+{
+    if is_long(n, v.len()) {
+        if octets::and(1 <= n, n <= NODES) {
+            if view::view_ok(n, LIMIT, v) {
+                Summed::Sums(sums(n, v))
+            } else {
+                Summed::Refused(7)
+            }
+        } else {
+            Summed::Refused(1)
+        }
+    } else {
+        Summed::Refused(12)
+    }
+}

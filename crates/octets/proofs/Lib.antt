@@ -1,0 +1,7 @@
+pub mod Lent
+pub mod Loop
+pub mod Number
+pub mod Put
+pub mod Table
+pub mod Test
+pub mod Word

@@ -1,0 +1,36 @@
+-- What loops compute: a value changed for each number below k, tests of all or the count of those that hold, the list
+-- of a rule's values, the runs of a rule one after the other, and a value changed for each element of a list.
+use Prim.Native.Nat.{ℕ, zero, suc, _+_}
+use mathlib.Core.Bool.{Bool, true}
+use mathlib.Core.List.{List, [], _∷_, _++_}
+use Rattle.octets.specs.Test.{pick, both}
+
+unfoldable pub upTo : {A : Type 0} → ℕ → (ℕ → A → A) → A → A
+upTo zero f a = a
+upTo (suc k) f a = f k (upTo k f a)
+
+unfoldable pub allTo : ℕ → (ℕ → Bool) → Bool
+allTo zero p = true
+allTo (suc k) p = both (p k) (allTo k p)
+
+unfoldable pub countTo : ℕ → (ℕ → Bool) → ℕ
+countTo zero p = 0
+countTo (suc k) p = pick (p k) (countTo k p + 1) (countTo k p)
+
+unfoldable pub sumTo : ℕ → (ℕ → ℕ) → ℕ
+sumTo zero f = 0
+sumTo (suc k) f = sumTo k f + f k
+
+-- f 0, f 1, .. f (k - 1)
+unfoldable pub tab : {A : Type 0} → ℕ → (ℕ → A) → List A
+tab zero f = []
+tab (suc k) f = tab k f ++ (f k ∷ [])
+
+-- the runs f 0, f 1, .. f (k - 1), one after the other
+unfoldable pub join : {A : Type 0} → ℕ → (ℕ → List A) → List A
+join zero f = []
+join (suc k) f = join k f ++ f k
+
+unfoldable pub each : {A S : Type 0} → (A → S → S) → List A → S → S
+each f [] s = s
+each f (x ∷ l) s = each f l (f x s)

@@ -1,0 +1,193 @@
+// Bytes and numbers: big-endian numbers, runs of bytes in a slice, words of eight bytes and tables of them.
+// The definitions that the contracts cite are in specs/, the laws about them in proofs/.
+ghost use mathlib.Core.Path.{_≡_};
+ghost use Prim.Native.Nat.{_+_, _-_, _*_, _<_, _≤_, min};
+ghost use lib.ListN.{length, replicate};
+ghost use Rattle.octets.specs.Test.{both};
+ghost use Rattle.octets.specs.Bytes.{num, be, part, put};
+ghost use Rattle.octets.specs.Word.{word, words, wordBytes};
+
+// A byte as a wide number.
+pub fn wide(x: u8) -> u64
+    ensures { λ r. ⌜ (r ≡ x) × (r < 256) ⌝ }
+{
+    x as u64
+}
+
+// Both tests hold.
+pub fn and(a: bool, b: bool) -> bool
+    ensures { λ r. ⌜ r ≡ both a b ⌝ }
+{
+    if a { b } else { false }
+}
+
+// The difference, and 0 where it would be below 0.
+pub fn less(x: u64, y: u64) -> u64
+    ensures { λ r. ⌜ r ≡ x - y ⌝ }
+{
+    if y <= x { x - y } else { 0 }
+}
+
+// The lesser of two numbers.
+pub fn least(x: usize, y: usize) -> usize
+    ensures { λ r. ⌜ r ≡ min x y ⌝ }
+{
+    if x <= y { x } else { y }
+}
+
+// The number of two bytes.
+pub fn number2(s: &[u8]) -> u16
+    requires { ⌜ length (now s) ≡ 2 ⌝ }
+    ensures { λ r. ⌜ r ≡ num (now (s .entry)) ⌝ }
+{
+    (wide(s[0]) * 256 + wide(s[1])) as u16
+}
+
+// The number of eight bytes.
+pub fn number8(s: &[u8]) -> u64
+    requires { ⌜ length (now s) ≡ 8 ⌝ }
+    ensures { λ r. ⌜ r ≡ num (now (s .entry)) ⌝ }
+{
+    let high = wide(s[0]) * 16777216 + wide(s[1]) * 65536 + wide(s[2]) * 256 + wide(s[3]);
+    let low = wide(s[4]) * 16777216 + wide(s[5]) * 65536 + wide(s[6]) * 256 + wide(s[7]);
+    high * 4294967296 + low
+}
+
+// The two bytes of a number.
+pub fn digits2(x: u16) -> [u8; 2]
+    ensures { λ r. ⌜ r ≡ be 2 x ⌝ }
+{
+    [(x / 256) as u8, (x % 256) as u8]
+}
+
+// The eight bytes of a number.
+pub fn digits8(x: u64) -> [u8; 8]
+    ensures { λ r. ⌜ r ≡ be 8 x ⌝ }
+{
+    let a = x % 72057594037927936;
+    let b = a % 281474976710656;
+    let c = b % 1099511627776;
+    let d = c % 4294967296;
+    let e = d % 16777216;
+    let f = e % 65536;
+    [
+        (x / 72057594037927936) as u8,
+        (a / 281474976710656) as u8,
+        (b / 1099511627776) as u8,
+        (c / 4294967296) as u8,
+        (d / 16777216) as u8,
+        (e / 65536) as u8,
+        (f / 256) as u8,
+        (f % 256) as u8,
+    ]
+}
+
+// Writes the bytes of s into b, from a place on.
+pub fn put_bytes(b: &mut [u8], at: usize, s: &[u8])
+    requires { ⌜ at + length (now s) ≤ length (now b) ⌝ }
+    ensures { λ _. ⌜ now (b .exit) ≡ put (now (b .entry)) at (now (s .entry)) ⌝ }
+{
+    let mut i = 0;
+    while i < s.len() {
+        b[at + i] = s[i];
+        i += 1;
+    }
+}
+
+// Moves some bytes of b to a lower place.
+pub fn move_down(b: &mut [u8], at: usize, from: usize, count: usize)
+    requires { ⌜ (at ≤ from) × (from + count ≤ length (now b)) ⌝ }
+    ensures { λ _. ⌜ now (b .exit) ≡ put (now (b .entry)) at (part (now (b .entry)) from count) ⌝ }
+{
+    let mut i = 0;
+    while i < count {
+        b[at + i] = b[from + i];
+        i += 1;
+    }
+}
+
+// Makes every byte of b an x.
+pub fn fill(b: &mut [u8], x: u8)
+    ensures { λ _. ⌜ now (b .exit) ≡ replicate (length (now (b .entry))) x ⌝ }
+{
+    let mut i = 0;
+    while i < b.len() {
+        b[i] = x;
+        i += 1;
+    }
+}
+
+// The word at a place.
+pub fn get_word(b: &[u8], at: usize) -> u64
+    requires { ⌜ at + 8 ≤ length (now b) ⌝ }
+    ensures { λ r. ⌜ r ≡ word (now (b .entry)) at ⌝ }
+{
+    let end = at + 8;
+    number8(&b[at..end])
+}
+
+// Writes a word at a place.
+pub fn put_word(b: &mut [u8], at: usize, x: u64)
+    requires { ⌜ at + 8 ≤ length (now b) ⌝ }
+    ensures { λ _. ⌜ now (b .exit) ≡ put (now (b .entry)) at (be 8 x) ⌝ }
+{
+    let d = digits8(x);
+    put_bytes(b, at, &d);
+}
+
+// Fills t with the words of b, from a place on.
+pub fn get_words(b: &[u8], at: usize, t: &mut [u64])
+    requires { ⌜ at + 8 * length (now t) ≤ length (now b) ⌝ }
+    ensures { λ _. ⌜ now (t .exit) ≡ words (length (now (t .entry))) (now (b .entry)) at ⌝ }
+{
+    let mut i = 0;
+    while i < t.len() {
+        t[i] = get_word(b, at + 8 * i);
+        i += 1;
+    }
+}
+
+// Writes the words of t into b, from a place on.
+pub fn put_words(b: &mut [u8], at: usize, t: &[u64])
+    requires { ⌜ at + 8 * length (now t) ≤ length (now b) ⌝ }
+    ensures { λ _. ⌜ now (b .exit) ≡ put (now (b .entry)) at (wordBytes (now (t .entry))) ⌝ }
+{
+    let mut i = 0;
+    while i < t.len() {
+        put_word(b, at + 8 * i, t[i]);
+        i += 1;
+    }
+}
+
+// Tables of sixteen and of 256 words: an array that is a field of a struct is lent whole.
+pub fn get_table16(b: &[u8], at: usize) -> [u64; 16]
+    requires { ⌜ at + 128 ≤ length (now b) ⌝ }
+    ensures { λ r. ⌜ r ≡ words 16 (now (b .entry)) at ⌝ }
+{
+    let mut t = [0u64; 16];
+    get_words(b, at, &mut t);
+    t
+}
+
+pub fn put_table16(b: &mut [u8], at: usize, t: &[u64; 16])
+    requires { ⌜ at + 128 ≤ length (now b) ⌝ }
+    ensures { λ _. ⌜ now (b .exit) ≡ put (now (b .entry)) at (wordBytes (now (t .entry))) ⌝ }
+{
+    put_words(b, at, t);
+}
+
+pub fn get_table256(b: &[u8], at: usize) -> [u64; 256]
+    requires { ⌜ at + 2048 ≤ length (now b) ⌝ }
+    ensures { λ r. ⌜ r ≡ words 256 (now (b .entry)) at ⌝ }
+{
+    let mut t = [0u64; 256];
+    get_words(b, at, &mut t);
+    t
+}
+
+pub fn put_table256(b: &mut [u8], at: usize, t: &[u64; 256])
+    requires { ⌜ at + 2048 ≤ length (now b) ⌝ }
+    ensures { λ _. ⌜ now (b .exit) ≡ put (now (b .entry)) at (wordBytes (now (t .entry))) ⌝ }
+{
+    put_words(b, at, t);
+}

@@ -1,0 +1,37 @@
+-- A report and its eight bytes give back each other.
+use Prim.Native.Nat.{ℕ, _+_, _≤_}
+use mathlib.Core.Path.{_≡_, sym, ap, ap₂, _∙_}
+use mathlib.Core.List.{List, _++_}
+use native.Mathlib.Omega.{arith}
+use lib.ListN.{length, replicate}
+use Rattle.octets.specs.Bytes.{Bytes, num, be, part}
+use Rattle.octets.proofs.Number.{num-be-suc, be-num, num-zero}
+use Rattle.octets.proofs.Put.{part-add, part-all, part-bytes, length-part}
+use Rattle.view.specs.Report.{noReport, reportBytes, reportOf}
+use Rattle.view.specs.declared.Report.{Report}
+
+pub report-back : (p : Report) → reportOf (reportBytes p) ≡ p
+unfolding reportOf part
+report-back p =
+    simp (num-be-suc 1 (p .extensions), num-be-suc 1 (p .lines), num-be-suc 1 (p .waiting), num-be-suc 1 (p .wakeups))
+
+-- a part is the bytes of its number
+pub be-part : (b : List ℕ) (at len : ℕ) → Bytes b → at + len ≤ length b → be len (num (part b at len)) ≡ part b at len
+be-part b at len h l =
+    ap (λ (k : ℕ). be k (num (part b at len))) (sym (length-part b at len l)) ∙ be-num (part b at len)
+    (part-bytes b at len h)
+
+pub report-bytes-back : (b : List ℕ) → Bytes b → length b ≡ 8 → reportBytes (reportOf b) ≡ b
+unfolding reportOf
+report-bytes-back b h l =
+    let q : (at : ℕ) → at + 2 ≤ 8 → be 2 (num (part b at 2)) ≡ part b at 2 = λ at m. be-part b at 2 h (omega arith) in
+    ap₂ (λ (s t : List ℕ). s ++ t) (ap₂ (λ (s t : List ℕ). s ++ t) (ap₂ (λ (s t : List ℕ). s ++ t)
+    (q 0 (omega arith)) (q 2 (omega arith))) (q 4 (omega arith))) (q 6 (omega arith))
+    ∙ ap (λ (t : List ℕ). t ++ part b 4 2 ++ part b 6 2) (sym (part-add b 0 2 2))
+    ∙ ap (λ (t : List ℕ). t ++ part b 6 2) (sym (part-add b 0 4 2)) ∙ sym (part-add b 0 6 2) ∙ part-all b 8
+    (omega arith)
+
+-- eight zeros are no report
+pub zero-report : (b : List ℕ) → Bytes b → length b ≡ 8 → num b ≡ 0 → reportOf b ≡ noReport
+unfolding reportOf part
+zero-report b h l e = ap reportOf (num-zero b h e ∙ ap (λ (k : ℕ). replicate k 0) l)

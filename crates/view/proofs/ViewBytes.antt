@@ -1,0 +1,149 @@
+-- A view and its bytes give back each other, and what the test of view bytes tells.
+use Prim.Native.Nat.{ℕ, _+_, _*_, _<_, _≤_}
+use mathlib.Core.Path.{_≡_, refl, sym, ap, ap₂, _∙_}
+use mathlib.Core.Bool.{Bool, true, false}
+use mathlib.Core.List.{List, _++_}
+use native.Mathlib.Nat.{add-zero, le-trans}
+use native.Mathlib.Omega.{arith}
+use lib.ListN.{length, getD, take}
+use lib.Dec.{leb, eqb}
+use borrow.Author.Tests.{leb-true, le-leb, eqb-true, eq-eqb}
+use Rattle.octets.specs.Test.{pick}
+use Rattle.octets.specs.Bytes.{Bytes, num, part}
+use Rattle.octets.specs.Word.{word}
+use Rattle.octets.proofs.Test.{both-left, both-right, both-true}
+use Rattle.octets.proofs.Number.{num-be-suc}
+use Rattle.octets.proofs.Put.{part-left, part-part, part-add, part-bytes, length-part}
+use Rattle.octets.proofs.Loop.{allTo-at, allTo-all}
+use Rattle.octets.proofs.Table.{length-join, part-join, join-parts, join-ext, padded, getD-padded, getD-past}
+use Rattle.octets.proofs.Table.{length-padded}
+use Rattle.view.specs.Size.{nodes}
+use Rattle.view.specs.Report.{noReport, reportBytes, reportOf}
+use Rattle.view.specs.View.{entryBytes, viewBytes, tagAt, reportAt, reportWord, viewOf, AbsentPast, entryOk}
+use Rattle.view.specs.View.{entryOkAt, viewOk}
+use Rattle.view.specs.declared.Report.{Report}
+use Rattle.view.specs.declared.View.{View}
+use Rattle.view.proofs.ReportBytes.{report-back, report-bytes-back, be-part, zero-report}
+
+pub length-viewBytes : (n : ℕ) (v : View) → length (viewBytes n v) ≡ 16 * n
+unfolding viewBytes
+length-viewBytes n v = length-join n 16 (λ i. entryBytes (getD (v .tags) i 0) (getD (v .reports) i noReport))
+    (λ i. refl)
+
+-- ---- entries of a view's bytes, with anything after them
+
+module _ (n : ℕ) (v : View) (rest : List ℕ) (i : ℕ) (l : i < n) where
+  entry-part : (j k : ℕ) → j + k ≤ 16
+      → part (viewBytes n v ++ rest) (16 * i + j) k
+      ≡ part (entryBytes (getD (v .tags) i 0) (getD (v .reports) i noReport)) j k
+  unfolding viewBytes
+  entry-part j k h =
+      let m : 16 * i + j + k ≤ length (viewBytes n v) = rw (length-viewBytes n v) (omega arith) in
+      let f : ℕ → List ℕ = λ j. entryBytes (getD (v .tags) j 0) (getD (v .reports) j noReport) in
+      part-left (viewBytes n v) rest (16 * i + j) k m ∙ sym (part-part (viewBytes n v) (16 * i) 16 j k h)
+      ∙ ap (λ (e : List ℕ). part e j k) (part-join n 16 f i (λ j. refl) l)
+
+  pub tag-written : tagAt (viewBytes n v ++ rest) i ≡ getD (v .tags) i 0
+  unfolding part
+  tag-written =
+      ap (λ (k : ℕ). word (viewBytes n v ++ rest) k) (sym (add-zero (16 * i)))
+      ∙ ap num (entry-part 0 8 (omega arith)) ∙ num-be-suc 7 (getD (v .tags) i 0)
+
+  pub report-written : reportAt (viewBytes n v ++ rest) i ≡ getD (v .reports) i noReport
+  unfolding part
+  report-written = ap reportOf (entry-part 8 8 (omega arith)) ∙ report-back (getD (v .reports) i noReport)
+
+  pub word-written : reportWord (viewBytes n v ++ rest) i ≡ num (reportBytes (getD (v .reports) i noReport))
+  unfolding part
+  word-written = ap num (entry-part 8 8 (omega arith))
+
+-- ---- both ways
+
+pub view-back : (n : ℕ) (v : View) (rest : List ℕ) → AbsentPast n v → viewOf n (viewBytes n v ++ rest) ≡ v
+unfolding viewOf
+view-back n v rest h =
+    ap₂ (λ (t : List ℕ) (p : List Report). with t p)
+    (padded n 16 (tagAt (viewBytes n v ++ rest)) 0 (v .tags) (h .size) (h .tags-length)
+    (λ i l. tag-written n v rest i l)
+    (h .no-tag))
+    (padded n 16 (reportAt (viewBytes n v ++ rest)) noReport (v .reports) (h .size) (h .reports-length)
+    (λ i l. report-written n v rest i l) (h .no-report))
+  where
+    with : List ℕ → List Report → View
+    with t p = record { tags = t; reports = p }
+
+pub view-absent : (n : ℕ) (b : List ℕ) → n ≤ nodes → AbsentPast n (viewOf n b)
+unfolding viewOf
+view-absent n b h =
+    record {
+      size = h;
+      tags-length = length-padded n 16 (tagAt b) 0 h;
+      reports-length = length-padded n 16 (reportAt b) noReport h;
+      no-tag = λ i l. getD-past n 16 (tagAt b) i 0 l;
+      no-report = λ i l. getD-past n 16 (reportAt b) i noReport l;
+    }
+
+entry-back : (b : List ℕ) (i : ℕ) → Bytes b → 16 * i + 16 ≤ length b → entryBytes (tagAt b i) (reportAt b i) ≡ part b
+    (16 * i) 16
+entry-back b i h l =
+    ap₂ (λ (s t : List ℕ). s ++ t) (be-part b (16 * i) 8 h (omega arith))
+    (report-bytes-back (part b (16 * i + 8) 8) (part-bytes b (16 * i + 8) 8 h)
+    (length-part b (16 * i + 8) 8 (omega arith)))
+    ∙ sym (part-add b (16 * i) 8 8)
+
+pub view-bytes-back : (n : ℕ) (b : List ℕ) → Bytes b → 16 * n ≤ length b → viewBytes n (viewOf n b) ≡ take (16 * n) b
+unfolding viewBytes viewOf
+view-bytes-back n b h l =
+    join-ext n (λ i. entryBytes (getD (viewOf n b .tags) i 0) (getD (viewOf n b .reports) i noReport))
+    (λ i. part b (16 * i) 16)
+    (λ i m. ap₂ (λ (t : ℕ) (p : Report). entryBytes t p) (getD-padded n 16 (tagAt b) i 0 m)
+    (getD-padded n 16 (reportAt b) i noReport m) ∙ entry-back b i h (omega arith))
+    ∙ join-parts n 16 b
+
+-- ---- the test of view bytes
+
+beside-zero : (tag report : ℕ) → pick (eqb tag 0) (eqb report 0) true ≡ true → tag ≡ 0 → report ≡ 0
+beside-zero tag report h e = eqb-true report 0 (rw (eq-eqb tag 0 e) at h)
+
+ok-entry : (top tag : ℕ) (p : Report) → tag ≤ top → (tag ≡ 0 → p ≡ noReport) → entryOk top tag (num (reportBytes p))
+    ≡ true
+ok-entry top tag p l h = both-true (le-leb tag top l) (go (eqb tag 0) refl)
+  where
+    go : (t : Bool) → eqb tag 0 ≡ t → pick t (eqb (num (reportBytes p)) 0) true ≡ true
+    go true e = ap (λ (q : Report). eqb (num (reportBytes q)) 0) (h (eqb-true tag 0 e))
+    go false e = refl
+
+module _ (n top : ℕ) (b : List ℕ) (ok : viewOk n top b ≡ true) (i : ℕ) (l : i < n) where
+  beside : Bool
+  beside = pick (eqb (tagAt b i) 0) (eqb (reportWord b i) 0) true
+
+  entry-ok : entryOkAt top b i ≡ true
+  unfolding viewOk
+  entry-ok = allTo-at n (entryOkAt top b) i ok l
+
+  pub ok-tag : tagAt b i ≤ top
+  unfolding beside
+  ok-tag = leb-true (tagAt b i) top (both-left (leb (tagAt b i) top) beside entry-ok)
+
+  pub ok-report : Bytes b → 16 * n ≤ length b → tagAt b i ≡ 0 → reportAt b i ≡ noReport
+  unfolding beside
+  ok-report h m e =
+      zero-report (part b (16 * i + 8) 8) (part-bytes b (16 * i + 8) 8 h) (length-part b (16 * i + 8) 8 (omega arith))
+      (beside-zero (tagAt b i) (reportWord b i) (both-right (leb (tagAt b i) top) beside entry-ok) e)
+
+pub ok-more : (n top top′ : ℕ) (b : List ℕ) → viewOk n top b ≡ true → top ≤ top′ → viewOk n top′ b ≡ true
+unfolding viewOk
+ok-more n top top′ b ok h =
+    allTo-all n (entryOkAt top′ b)
+    (λ i l. both-true (le-leb (tagAt b i) top′ (le-trans (ok-tag n top b ok i l) h))
+    (both-right (leb (tagAt b i) top) (pick (eqb (tagAt b i) 0) (eqb (reportWord b i) 0) true)
+    (allTo-at n (entryOkAt top b) i ok l)))
+
+pub ok-written : (n top : ℕ) (v : View) (rest : List ℕ) → ((i : ℕ) → i < n → getD (v .tags) i 0 ≤ top)
+    → ((i : ℕ) → i < n → getD (v .tags) i 0 ≡ 0 → getD (v .reports) i noReport ≡ noReport)
+    → viewOk n top (viewBytes n v ++ rest) ≡ true
+unfolding viewOk
+ok-written n top v rest tags reports =
+    allTo-all n (entryOkAt top (viewBytes n v ++ rest))
+    (λ i l. ap₂ (λ (t r : ℕ). entryOk top t r) (tag-written n v rest i l) (word-written n v rest i l)
+    ∙ ok-entry top (getD (v .tags) i 0) (getD (v .reports) i noReport) (tags i l) (reports i l))

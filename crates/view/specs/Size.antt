@@ -1,0 +1,24 @@
+-- The limits and sizes of document 01 that messages, views and nodes share.
+use Prim.Native.Nat.{ℕ}
+use mathlib.Core.Bool.{Bool}
+use lib.Dec.{leb}
+use Rattle.octets.specs.Test.{both}
+
+-- the most nodes (cabinets)
+abbrev pub nodes : ℕ
+nodes = 16
+
+-- 2 ^ 63 - 1, the greatest tag (stamp) and the greatest request number
+abbrev pub limit : ℕ
+limit = 9223372036854775807
+
+-- the bytes of a report, and of a view's entry, which is a tag and a report
+abbrev pub reportSize : ℕ
+reportSize = 8
+
+abbrev pub entrySize : ℕ
+entrySize = 16
+
+-- n nodes
+abbrev pub isSize : ℕ → Bool
+isSize n = both (leb 1 n) (leb n nodes)

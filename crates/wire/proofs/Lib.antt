@@ -1,0 +1,6 @@
+pub mod Entries
+pub mod Fields
+pub mod Front
+pub mod Numbers
+pub mod RoundTrip
+pub mod Shape

@@ -1,0 +1,52 @@
+-- What an allowed message tells, and the length of its bytes.
+use Prim.Native.Nat.{ℕ, _*_, _≤_}
+use mathlib.Core.Path.{_≡_, refl}
+use mathlib.Core.Bool.{true}
+use mathlib.Core.List.{List}
+use lib.ListN.{length}
+use lib.Dec.{leb, eqb}
+use native.Mathlib.Omega.{arith}
+use borrow.Author.Tests.{leb-true, eqb-true}
+use Rattle.octets.specs.Test.{both}
+use Rattle.octets.proofs.Test.{both-left, both-right}
+use Rattle.view.specs.Size.{isSize}
+use Rattle.view.specs.View.{viewOk}
+use Rattle.view.specs.declared.Report.{Report}
+use Rattle.wire.specs.Layout.{encode, allowed, size, isTag}
+use Rattle.wire.specs.declared.Message.{Message}
+use Rattle.wire.specs.declared.Message.the-variants.{Read, ReadAnswer, Write, WriteAnswer, Echo, Value, Good}
+
+pub size-most : (n : ℕ) → isSize n ≡ true → n ≤ 16
+size-most n h = leb-true n 16 (both-right (leb 1 n) (leb n 16) h)
+
+pub writer-most : (n t w : ℕ) (p : Report) (v : List ℕ) → allowed n (Value t w p) v ≡ true → w ≤ n
+unfolding allowed
+writer-most n t w p v h =
+    leb-true w n (both-right (leb 1 w) (leb w n) (both-right (both (leb 1 t) (isTag t)) (both (leb 1 w) (leb w n)) h))
+
+pub view-length : (n t : ℕ) (v : List ℕ) → allowed n (Good t) v ≡ true → length v ≡ 16 * n
+unfolding allowed
+view-length n t v h =
+    eqb-true (length v) (16 * n) (both-left (eqb (length v) (16 * n)) (both (isTag t) (viewOk n t v)) h)
+
+-- the seven lengths
+pub length-encode : (n : ℕ) (m : Message) (v : List ℕ) → allowed n m v ≡ true → length (encode m v) ≡ size n m
+unfolding encode size
+length-encode n (Read r) v h = refl
+length-encode n (ReadAnswer r t) v h = refl
+length-encode n (Write r t) v h = refl
+length-encode n (WriteAnswer r t) v h = refl
+length-encode n (Echo t) v h = refl
+length-encode n (Value t w p) v h = refl
+length-encode n (Good t) v h = let e : length v ≡ 16 * n = view-length n t v h in omega arith
+
+-- no message is longer than a good one for sixteen nodes
+pub size-bound : (n : ℕ) (m : Message) → n ≤ 16 → size n m ≤ 274
+unfolding size
+size-bound n (Read r) l = omega arith
+size-bound n (ReadAnswer r t) l = omega arith
+size-bound n (Write r t) l = omega arith
+size-bound n (WriteAnswer r t) l = omega arith
+size-bound n (Echo t) l = omega arith
+size-bound n (Value t w p) l = omega arith
+size-bound n (Good t) l = omega arith

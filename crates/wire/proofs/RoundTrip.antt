@@ -1,0 +1,217 @@
+-- Reading gives back what was written, and only what could have been written is read. For every n from 1 to 16.
+use Prim.Native.Nat.{ℕ, _+_, _*_}
+use mathlib.Core.Path.{_≡_, refl, sym, ap, ap₂, _∙_}
+use mathlib.Core.Bool.{Bool, true, false}
+use mathlib.Core.List.{List, [], _++_, append-nil}
+use mathlib.Core.Logic.{_↔_}
+use native.Mathlib.Omega.{arith}
+use lib.ListN.{length, take, drop, getD, take-append-drop}
+use lib.Seq.{take-at, take-length}
+use lib.Dec.{eqb}
+use borrow.Author.Tests.{eq-eqb, eqb-true}
+use Rattle.octets.specs.Answer.{Answer, result, refused}
+use Rattle.octets.specs.Test.{pick, both}
+use Rattle.octets.specs.Bytes.{part}
+use Rattle.octets.proofs.Test.{both-left, both-right, pick-same}
+use Rattle.octets.proofs.Number.{num-be-suc}
+use Rattle.view.specs.Size.{isSize}
+use Rattle.view.proofs.ReportBytes.{report-back}
+use Rattle.wire.specs.Layout.{encode, allowed}
+use Rattle.wire.specs.Codec.{said, viewAt, begins, frontIs, front, whole, decode, viewPart, viewIn}
+use Rattle.wire.specs.declared.Message.{Message}
+use Rattle.wire.specs.declared.Message.the-variants.{Read, ReadAnswer, Write, WriteAnswer, Echo, Value, Good}
+use Rattle.wire.proofs.Numbers.{view-length}
+use Rattle.wire.proofs.Fields.{begins-front, begins-append}
+use Rattle.wire.proofs.Front.{chosen, not-chosen, first-passed}
+
+-- ---- what stands at the places of a message's bytes
+
+said-written : (m : Message) (v rest : List ℕ) → said (encode m v ++ rest) ≡ m
+unfolding said encode part
+said-written (Read r) v rest = ap (λ (x : ℕ). Read x) (num-be-suc 7 r)
+said-written (ReadAnswer r t) v rest = ap₂ (λ (x y : ℕ). ReadAnswer x y) (num-be-suc 7 r) (num-be-suc 7 t)
+said-written (Write r t) v rest = ap₂ (λ (x y : ℕ). Write x y) (num-be-suc 7 r) (num-be-suc 7 t)
+said-written (WriteAnswer r t) v rest = ap₂ (λ (x y : ℕ). WriteAnswer x y) (num-be-suc 7 r) (num-be-suc 7 t)
+said-written (Echo t) v rest = ap (λ (x : ℕ). Echo x) (num-be-suc 7 t)
+said-written (Value t w p) v rest = ap₂ (λ x q. Value x w q) (num-be-suc 7 t) (report-back p)
+said-written (Good t) v rest = ap (λ (x : ℕ). Good x) (num-be-suc 7 t)
+
+-- the view stands at bytes 18 to 18 + 16 n
+pub view-place : (n t : ℕ) (v rest : List ℕ) → allowed n (Good t) v ≡ true → viewAt n (encode (Good t) v ++ rest) ≡ v
+unfolding encode part
+view-place n t v rest h = take-at v rest (16 * n) (view-length n t v h)
+
+-- only a good message looks at the view
+front-view : (n : ℕ) (b : List ℕ) (m : Message) (v w : List ℕ) → (((t : ℕ) → m ≡ Good t → w ≡ v)) → frontIs n b m w
+    ≡ frontIs n b m v
+unfolding encode allowed
+front-view n b (Read r) v w h = refl
+front-view n b (ReadAnswer r t) v w h = refl
+front-view n b (Write r t) v w h = refl
+front-view n b (WriteAnswer r t) v w h = refl
+front-view n b (Echo t) v w h = refl
+front-view n b (Value t w′ p) v w h = refl
+front-view n b (Good t) v w h = ap (λ (x : List ℕ). frontIs n b (Good t) x) (h t refl)
+
+-- ---- reading after writing
+
+-- the reader of the front: the message and its length, whatever stands after it
+pub front-back : (n : ℕ) (m : Message) (v rest : List ℕ) → isSize n ≡ true → allowed n m v ≡ true
+    → front n (encode m v ++ rest) ≡ result (m, length (encode m v))
+unfolding front
+front-back n m v rest s h =
+    rw s
+    (ap (λ (x : Message). frontIs n b x (viewAt n b)) (said-written m v rest) ∙ front-view n b m v
+    (viewAt n b) same-view
+    ∙ ap₂ (λ (t u : Bool). pick (both t u) (result (m, length (encode m v))) (refused 7))
+    (begins-append (encode m v) rest) h)
+  where
+    b : List ℕ
+    b = encode m v ++ rest
+
+    same-view : (t : ℕ) → m ≡ Good t → viewAt n b ≡ v
+    same-view t e =
+        ap (λ (x : Message). viewAt n (encode x v ++ rest)) e
+        ∙ view-place n t v rest (ap (λ (x : Message). allowed n x v) (sym e) ∙ h)
+
+pub read-back : (n : ℕ) (m : Message) (v : List ℕ) → isSize n ≡ true → allowed n m v ≡ true
+    → decode n (encode m v) ≡ result m
+unfolding decode
+read-back n m v s h =
+    let e : front n (encode m v) ≡ result (m, length (encode m v)) = rw (append-nil (encode m v)) at
+    (front-back n m v [] s h) in
+    rw e (rw (eq-eqb (length (encode m v)) (length (encode m v)) refl))
+
+none : (t u : Bool) → pick {A = List ℕ} t (pick u [] []) [] ≡ []
+none t u = ap (λ (x : List ℕ). pick t x []) (pick-same u []) ∙ pick-same t []
+
+-- and its view
+pub view-back : (n : ℕ) (m : Message) (v : List ℕ) → isSize n ≡ true → allowed n m v ≡ true
+    → viewPart n (encode m v) ≡ viewIn m v
+unfolding viewPart encode
+view-back n (Read r) v s h = none (isSize n) (eqb 15 (18 + 16 * n))
+view-back n (ReadAnswer r t) v s h = none (isSize n) (eqb 26 (18 + 16 * n))
+view-back n (Write r t) v s h = none (isSize n) (eqb 26 (18 + 16 * n))
+view-back n (WriteAnswer r t) v s h = none (isSize n) (eqb 26 (18 + 16 * n))
+view-back n (Echo t) v s h = none (isSize n) (eqb 15 (18 + 16 * n))
+view-back n (Value t w p) v s h = none (isSize n) (eqb 30 (18 + 16 * n))
+view-back n (Good t) v s h =
+    let l : length v ≡ 16 * n = view-length n t v h in
+    let e : viewAt n (encode (Good t) v) ≡ v =
+    ap (λ (b : List ℕ). viewAt n b) (sym (append-nil (encode (Good t) v))) ∙ view-place n t v [] h in
+    rw (s, eq-eqb (length (encode (Good t) v)) (18 + 16 * n) (omega arith)) e
+
+-- ---- only what could have been written is read
+
+-- what an answer of the reader of the front tells
+pub record Front (n : ℕ) (b : List ℕ) (m : Message) (k : ℕ) : Type 0 where
+  pub sized : isSize n ≡ true
+  pub allowed-is : allowed n m (viewAt n b) ≡ true
+  pub long : k ≡ length (encode m (viewAt n b))
+  pub bytes : take k b ≡ encode m (viewAt n b)
+
+pub front-only : (n : ℕ) (b : List ℕ) (m : Message) (k : ℕ) → front n b ≡ result (m, k) → Front n b m k
+unfolding front
+front-only n b m k e =
+    let v = viewAt n b in
+    let x = said b in
+    let p = first-passed (isSize n) (frontIs n b x v) 1 (m, k) e in
+    let q = chosen (both (begins b (encode x v)) (allowed n x v)) (m, k) (x, length (encode x v)) 7 (sym (p .1)) in
+    let f : m ≡ x = ap (λ (y : Message × ℕ). y .0) (q .1) in
+    let g : k ≡ length (encode m v) = ap (λ (y : Message × ℕ). y .1) (q .1) ∙ ap
+    (λ (y : Message). length (encode y v)) (sym f) in
+    record {
+      sized = p .0;
+      allowed-is = ap (λ (y : Message). allowed n y v) f ∙ both-right (begins b (encode x v)) (allowed n x v) (q .0);
+      long = g;
+      bytes = ap (λ (j : ℕ). take j b) g
+          ∙ begins-front b (encode m v)
+          (ap (λ (y : Message). begins b (encode y v)) f ∙ both-left (begins b (encode x v)) (allowed n x v) (q .0));
+    }
+
+-- equal fronts are read alike
+pub front-same : (n : ℕ) (b c : List ℕ) (m : Message) (k : ℕ) → front n b ≡ result (m, k) → take k c ≡ take k b
+    → front n c ≡ result (m, k)
+front-same n b c m k e p =
+    let f = front-only n b m k e in
+    let v = viewAt n b in
+    ap (λ (t : List ℕ). front n t)
+    (sym (ap (λ (t : List ℕ). t ++ drop k c) (sym (p ∙ f .bytes)) ∙ take-append-drop k c))
+    ∙ front-back n m v (drop k c) (f .sized) (f .allowed-is) ∙ ap (λ (j : ℕ). result (m, j)) (sym (f .long))
+
+whole-got : (k : ℕ) (a : Answer (Message × ℕ)) (m : Message) → whole k a ≡ result m → a ≡ result (m, k)
+whole-got k (result p) m e =
+    let q = chosen (eqb (p .1) k) m (p .0) 7 (sym e) in
+    ap₂ (λ (x : Message) (j : ℕ). result (x, j)) (sym (q .1)) (eqb-true (p .1) k (q .0))
+whole-got k (refused c) m e = cc
+
+pub record Whole (n : ℕ) (b : List ℕ) (m : Message) : Type 0 where
+  pub sized : isSize n ≡ true
+  pub allowed-is : allowed n m (viewPart n b) ≡ true
+  pub bytes : b ≡ encode m (viewPart n b)
+
+-- the place of the view is the view's part, where it matters
+placed : (n : ℕ) (b : List ℕ) (m : Message) → isSize n ≡ true → allowed n m (viewAt n b) ≡ true → b ≡ encode m
+    (viewAt n b)
+    → Whole n b m
+unfolding encode allowed viewPart
+placed n b (Read r) s h e = record { sized = s; allowed-is = h; bytes = e }
+placed n b (ReadAnswer r t) s h e = record { sized = s; allowed-is = h; bytes = e }
+placed n b (Write r t) s h e = record { sized = s; allowed-is = h; bytes = e }
+placed n b (WriteAnswer r t) s h e = record { sized = s; allowed-is = h; bytes = e }
+placed n b (Echo t) s h e = record { sized = s; allowed-is = h; bytes = e }
+placed n b (Value t w p) s h e = record { sized = s; allowed-is = h; bytes = e }
+placed n b (Good t) s h e =
+    let l : length (viewAt n b) ≡ 16 * n = view-length n t (viewAt n b) h in
+    let m : length b ≡ length (encode (Good t) (viewAt n b)) = ap (λ (x : List ℕ). length x) e in
+    let q : viewPart n b ≡ viewAt n b =
+    rw (
+      s,
+      eq-eqb (length b) (18 + 16 * n) (omega arith),
+      eq-eqb (getD b 3 0) 7
+          (ap (λ (x : List ℕ). getD x 3 0) e),
+    ) in
+    record {
+      sized = s;
+      allowed-is = ap (λ (x : List ℕ). allowed n (Good t) x) q ∙ h;
+      bytes = e ∙ ap (λ (x : List ℕ). encode (Good t) x) (sym q);
+    }
+
+pub read-only : (n : ℕ) (b : List ℕ) (m : Message) → decode n b ≡ result m → Whole n b m
+unfolding decode
+read-only n b m e =
+    let f = front-only n b m (length b) (whole-got (length b) (front n b) m e) in
+    placed n b m (f .sized) (f .allowed-is) (sym (take-length b) ∙ f .bytes)
+
+-- bytes are read as m just where they are what is written of m, allowed, with some view
+pub accepts : (n : ℕ) (b : List ℕ) (m : Message) → isSize n ≡ true
+    → (decode n b ≡ result m) ↔ ((v : List ℕ) × (allowed n m v ≡ true) × (b ≡ encode m v))
+accepts n b m s = (
+  λ e. let w = read-only n b m e in (viewPart n b, w .allowed-is, w .bytes),
+  λ x. ap (λ (t : List ℕ). decode n t) (x .2) ∙ read-back n m (x .0) s (x .1),
+)
+
+seven : (k : ℕ) (t : Bool) (x : Message × ℕ) (c : ℕ) → whole k (pick t (result x) (refused 7)) ≡ refused c → c ≡ 7
+seven k true x c e = not-chosen (eqb (x .1) k) (x .0) c 7 (sym e) .1
+seven k false x c e = cc
+
+-- for n from 1 to 16 every refusal is 7, and for another n it is 1
+pub refuses-seven : (n : ℕ) (b : List ℕ) (c : ℕ) → isSize n ≡ true → decode n b ≡ refused c → c ≡ 7
+unfolding decode front
+refuses-seven n b c s e =
+    seven (length b) (both (begins b (encode (said b) (viewAt n b))) (allowed n (said b) (viewAt n b)))
+    (said b, length (encode (said b) (viewAt n b))) c (rw s at e)
+
+pub refuses-one : (n : ℕ) (b : List ℕ) → isSize n ≡ false → decode n b ≡ refused 1
+unfolding decode front
+refuses-one n b s = rw s
+
+-- ---- no two messages have the same bytes
+
+pub injective : (n : ℕ) (m m′ : Message) (v v′ : List ℕ) → isSize n ≡ true → allowed n m v ≡ true → allowed n m′ v′
+    ≡ true
+    → encode m v ≡ encode m′ v′ → (m ≡ m′) × (viewIn m v ≡ viewIn m′ v′)
+injective n m m′ v v′ s h h′ e =
+    let p : result m ≡ result m′ = sym (read-back n m v s h) ∙ ap (λ (b : List ℕ). decode n b) e
+    ∙ read-back n m′ v′ s h′ in
+    (cc, sym (view-back n m v s h) ∙ ap (λ (b : List ℕ). viewPart n b) e ∙ view-back n m′ v′ s h′)

@@ -1,0 +1,79 @@
+-- Reading and writing one message, for n nodes. Reading goes back from writing: bytes are read as the message whose
+-- encoding they are, and as nothing if they are no allowed message's.
+use Prim.Native.Nat.{ℕ, _+_, _*_}
+use mathlib.Core.Bool.{Bool}
+use mathlib.Core.List.{List, []}
+use lib.ListN.{length, take, getD}
+use lib.Dec.{leb, eqb}
+use Rattle.octets.specs.Answer.{Answer, result, refused}
+use Rattle.octets.specs.Test.{pick, both}
+use Rattle.octets.specs.Bytes.{part, put, same}
+use Rattle.octets.specs.Word.{word}
+use Rattle.view.specs.Size.{isSize, entrySize, reportSize}
+use Rattle.view.specs.Report.{reportOf}
+use Rattle.wire.specs.Layout.{encode, allowed}
+use Rattle.wire.specs.declared.Message.{Message}
+use Rattle.wire.specs.declared.Message.the-variants.{Read, ReadAnswer, Write, WriteAnswer, Echo, Value, Good}
+
+-- the one message that bytes of kind k can begin with, by the numbers at the layout's places, and the view's place
+abbrev pub saidAs : ℕ → List ℕ → Message
+saidAs k b =
+    pick (eqb k 1) (Read (word b 7))
+    (pick (eqb k 2) (ReadAnswer (word b 7) (word b 18))
+    (pick (eqb k 3) (Write (word b 7) (word b 18))
+    (pick (eqb k 4) (WriteAnswer (word b 7) (word b 18))
+    (pick (eqb k 5) (Echo (word b 7))
+    (pick (eqb k 6) (Value (word b 7) (getD b 18 0) (reportOf (part b 22 reportSize)))
+    (Good (word b 7)))))))
+
+unfoldable pub said : List ℕ → Message
+said b = saidAs (getD b 3 0) b
+
+abbrev pub viewAt : ℕ → List ℕ → List ℕ
+viewAt n b = part b 18 (entrySize * n)
+
+-- whether b begins with e
+unfoldable pub begins : List ℕ → List ℕ → Bool
+begins b e = same (take (length e) b) e
+
+-- the message at the front of b and its length
+abbrev pub frontIs : ℕ → List ℕ → Message → List ℕ → Answer (Message × ℕ)
+frontIs n b m v =
+    pick (both (begins b (encode m v)) (allowed n m v)) (result (m, length (encode m v))) (refused 7)
+
+unfoldable pub front : ℕ → List ℕ → Answer (Message × ℕ)
+front n b = pick (isSize n) (frontIs n b (said b) (viewAt n b)) (refused 1)
+
+-- the message that b is, with nothing after it
+abbrev pub whole : ℕ → Answer (Message × ℕ) → Answer Message
+whole k (result p) = pick (eqb (p .1) k) (result (p .0)) (refused 7)
+whole k (refused c) = refused c
+
+unfoldable pub decode : ℕ → List ℕ → Answer Message
+decode n b = whole (length b) (front n b)
+
+-- the view in bytes that are a good message; bytes of another kind or length have the empty part
+unfoldable pub viewPart : ℕ → List ℕ → List ℕ
+viewPart n b =
+    pick (isSize n) (pick (eqb (length b) (18 + entrySize * n)) (pick (eqb (getD b 3 0) 7) (viewAt n b) []) []) []
+
+-- the view that belongs to a message
+abbrev pub viewIn : Message → List ℕ → List ℕ
+viewIn (Read r) v = []
+viewIn (ReadAnswer r t) v = []
+viewIn (Write r t) v = []
+viewIn (WriteAnswer r t) v = []
+viewIn (Echo t) v = []
+viewIn (Value t w p) v = []
+viewIn (Good t) v = v
+
+-- writing into a buffer of so many bytes, and the buffer afterwards
+unfoldable pub answer : ℕ → Message → List ℕ → ℕ → Answer ℕ
+answer n m v room =
+    pick (isSize n)
+    (pick (allowed n m v)
+    (pick (leb (length (encode m v)) room) (result (length (encode m v))) (refused 12)) (refused 7)) (refused 1)
+
+abbrev pub after : Answer ℕ → List ℕ → List ℕ → List ℕ
+after (result k) e out = put out 0 e
+after (refused c) e out = out

@@ -1,0 +1,49 @@
+-- How the reader tests the layout: the lengths and the heads of the fields, by kind. The theorem `shape-is` of proofs/
+-- says that these tests find just the bytes that begin with an allowed message.
+use Prim.Native.Nat.{ℕ, _+_, _*_}
+use mathlib.Core.Bool.{Bool, false}
+use mathlib.Core.List.{List, _∷_}
+use lib.ListN.{length, getD}
+use lib.Dec.{leb, eqb}
+use Rattle.octets.specs.Answer.{Answer, result, refused}
+use Rattle.octets.specs.Test.{pick, both}
+use Rattle.octets.specs.Bytes.{be, part, same}
+use Rattle.view.specs.Size.{entrySize}
+use Rattle.wire.specs.Codec.{said}
+use Rattle.wire.specs.declared.Message.{Message}
+
+-- mark and length of a field stand at a place
+unfoldable pub headAt : List ℕ → ℕ → ℕ → ℕ → Bool
+headAt b at mark size = same (part b at 3) (mark ∷ be 2 size)
+
+unfoldable pub twoHeads : List ℕ → Bool
+twoHeads b = both (headAt b 4 2 8) (headAt b 15 3 8)
+
+unfoldable pub valueHeads : List ℕ → Bool
+valueHeads b = both (headAt b 4 3 8) (both (headAt b 15 4 1) (headAt b 19 5 8))
+
+unfoldable pub goodHeads : ℕ → List ℕ → Bool
+goodHeads n b = both (headAt b 4 3 8) (headAt b 15 6 (entrySize * n))
+
+abbrev pub twoShape : List ℕ → Bool
+twoShape b = both (leb 26 (length b)) (twoHeads b)
+
+unfoldable pub shapeAs : ℕ → ℕ → List ℕ → Bool
+shapeAs k n b =
+    pick (eqb k 1) (headAt b 4 2 8)
+    (pick (eqb k 2) (twoShape b)
+    (pick (eqb k 3) (twoShape b)
+    (pick (eqb k 4) (twoShape b)
+    (pick (eqb k 5) (headAt b 4 3 8)
+    (pick (eqb k 6) (both (leb 30 (length b)) (valueHeads b))
+    (pick (eqb k 7) (both (leb (18 + entrySize * n) (length b)) (goodHeads n b)) false))))))
+
+unfoldable pub shape : ℕ → List ℕ → Bool
+shape n b = both (leb 15 (length b)) (both (headAt b 0 1 1) (shapeAs (getD b 3 0) n b))
+
+-- the message of that shape, its numbers not yet judged
+abbrev pub shapedAs : ℕ → List ℕ → Answer Message
+shapedAs n b = pick (shapeAs (getD b 3 0) n b) (result (said b)) (refused 7)
+
+abbrev pub shaped : ℕ → List ℕ → Answer Message
+shaped n b = pick (shape n b) (result (said b)) (refused 7)
