@@ -1,167 +1,180 @@
--- The course of a whole step: a message handed over, and a begin.
-use Prim.Native.Nat.{ℕ, zero, suc, _+_, _-_, _≤_, _<_, max}
+-- The course of the two steps of a node: a message handed over, and a begin.
+use Prim.Native.Nat.{ℕ, suc, _+_, _-_, _≤_, _<_}
 use native.Mathlib.Omega.{arith}
-use native.Mathlib.Decide.{ℕ-discrete, decLt}
-use mathlib.Core.Path.{_≡_, refl, sym, _∙_, ap, subst}
-use mathlib.Core.Logic.{_⊎_, inl, inr, ite}
-use mathlib.Core.Bool.{Bool, true, false, true≢false, cond}
-use mathlib.Core.List.{List, [], _∷_, _++_, append-nil, List·Memᴰ·head, List·Memᴰ·tail, List·Memᴰ·append-cases, Memᴰ·append-right}
-use Rattle.theory.specs.Count.{count}
-use Rattle.theory.specs.Update.{upd}
-use Rattle.theory.specs.Log.{_∈_}
-use Rattle.eqaso.specs.Message.{Value, of, Message, read, readAnswer, write, writeAnswer, echo, value, good}
-use Rattle.eqaso.specs.Algorithm.{limit, Operation, update, scan, Round, round0, round1, Nodes, nobody, Wait, idle, reading, writing, comparing, borrowing, Node, Ending, none, done, shown, spent, Step, still, sending, ended, then-by, _then_, waiting, asking, quorum?, has, raise, receive, readAnswered, writeAnswered, react, opening, afterRead, readPass, writePass, comparePass, borrowPass, moveOn, messageStep, beginStep}
-use Rattle.eqaso.proofs.Change.{topping, holding}
-use Rattle.eqaso.proofs.Sets.{has-of}
-use Rattle.eqaso.proofs.Read.{IsValue, readTag}
-use Rattle.eqaso.proofs.Course.{Rests, Reads, Staged, Of, Opened, From, Makes, GoesBy, Goes, AsksBy, Asks, then-still, from-append, goes-then, plain, empty, write-goes, compare-goes, borrow-goes}
+use mathlib.Core.Path.{_≡_, refl, sym, ap, subst}
+use mathlib.Core.Logic.{_⊎_, inl, inr}
+use mathlib.Core.List.{List, [], _∷_, List·Memᴰ·head}
+use Rattle.theory.specs.Count.{count, count-none}
+use Rattle.theory.specs.Log.{_∈_, push, push-or}
+use Rattle.eqaso.specs.Message.{Value, Message, read, readAnswer, write, writeAnswer, echo, value, good}
+use Rattle.eqaso.specs.Algorithm.{Operation, update, scan, nobody, Wait, reading, writing, comparing, borrowing}
+use Rattle.eqaso.specs.Algorithm.{Node, Ending, none, done, shown, spent, Step, sending, _then_, react}
+use Rattle.eqaso.specs.Algorithm.{messageStep, beginStep}
+use Rattle.eqaso.proofs.Read.{readTag}
+use Rattle.eqaso.proofs.Cases.{raise-cases, receive-by, read-cases, write-cases}
+use Rattle.eqaso.proofs.Passes.{Claim, On}
+use Rattle.eqaso.proofs.MoveOn.{Moves, message-leaves, begin-leaves}
+use Rattle.eqaso.proofs.Course.{Rests, Reads, Staged, Of, Opened, answered, Only, Makes, EndsBy, SpentBy, plain}
+use Rattle.eqaso.proofs.Course.{listed, rest-moves, staged-moves, Asks, ask-moves}
 
-pub count-nobody : (n : ℕ) → count nobody n ≡ 0
-unfolding count
-count-nobody zero = refl
-count-nobody (suc n) = omega (arith, count-nobody n)
+-- v is a new value, which the message hands over.
+abbrev pub Passed : Message → Node → Value → Type 0
+Passed m ν v = (m ≡ value v) × ¬ (v ∈ ν .all)
 
-abbrev valueIn : Message → Value
-valueIn (value v) = v
-valueIn (read q) = of 0 0 0
-valueIn (readAnswer to q t) = of 0 0 0
-valueIn (write q t) = of 0 0 0
-valueIn (writeAnswer to q t) = of 0 0 0
-valueIn (echo t) = of 0 0 0
-valueIn (good t v) = of 0 0 0
+-- The second wait is of the kind of the first.
+pub record Alike (w w′ : Wait) : Type 0 where
+  pub rests : Rests w → Rests w′
+  pub reads : Reads w → Reads w′
+  pub staged : Staged w → Staged w′
+  pub same-op : (op : Operation) → Of op w → Of op w′
 
-pub value-one : {u v : Value} → value u ≡ value v → u ≡ v
-value-one e = ap valueIn e
+alike : (w : Wait) → Alike w w
+alike w = record { rests = λ h. h; reads = λ h. h; staged = λ h. h; same-op = λ op h. h }
 
-module _ (n f i : ℕ) (half : f + f < n) where
-  -- A round that has just opened has no quorum.
-  pub none-yet : {A : Type 0} (d : Dec (n - f ≤ count nobody n)) (a b : A) → ite d a b ≡ b
-  none-yet (yes h) a b = absurd (omega (arith, count-nobody n))
-  none-yet (no h) a b = refl
+none-in : (K : Value → Type 0) → Only K []
+none-in K v m = elim m [ ]
 
-  write-still : (ν : Node) (w : Wait) → (Reads w ⊎ Opened w) → writePass n f (waiting w ν) w ≡ still (waiting w ν)
-  write-still ν (reading o s u) (inl h) = refl
-  write-still ν w (inr (o, r, t, e)) = subst (λ z. writePass n f (waiting z ν) z ≡ still (waiting z ν)) (sym e)
-    (none-yet (quorum? n f nobody) (still (waiting (comparing o r t) ν)) (still (waiting (writing o r t nobody) ν)))
+-- What a message leads to at once: the wait is of the same kind, and a value that is sent is a new one.
+abbrev Reacts : Message → Node → Step → Type 0
+Reacts m ν s = Alike (ν .wait) (s .node .wait) × Only (Passed m ν) (push (s .sent) [])
 
-  compare-still : (ν : Node) (w : Wait) → (Reads w ⊎ Opened w) → comparePass n f i (waiting w ν) w ≡ still (waiting w ν)
-  compare-still ν (reading o s u) (inl h) = refl
-  compare-still ν w (inr (o, r, t, e)) = subst (λ z. comparePass n f i (waiting z ν) z ≡ still (waiting z ν)) (sym e) refl
+react-kind : (k : ℕ) (m : Message) (ν : Node) → Reacts m ν (react k m ν)
+react-kind k (read q) ν = (alike (ν .wait), plain _ (readAnswer k q (ν .maxtag)) (λ x. x) (none-in _))
+react-kind k (readAnswer to q t) ν = (
+  read-cases (Alike (ν .wait)) (λ z. Alike (ν .wait) (z .wait)) k q t ν (ν .wait)
+      (alike (ν .wait)) (λ is. alike (ν .wait))
+      (λ o s u e a. record { rests = a .rests; reads = a .reads; staged = a .staged; same-op = a .same-op }),
+  none-in _,
+)
+react-kind k (write q t) ν = raise-cases (λ s. Reacts (write q t) ν (s then sending (writeAnswer k q t ∷ []))) t ν
+    (alike (ν .wait), plain _ (writeAnswer k q t) (λ x. x) (plain _ (echo t) (λ x. x) (none-in _)))
+    (alike (ν .wait), plain _ (writeAnswer k q t) (λ x. x) (none-in _))
+react-kind k (writeAnswer to q t) ν = (
+  write-cases (Alike (ν .wait)) (λ z. Alike (ν .wait) (z .wait)) k q t ν (ν .wait)
+      (alike (ν .wait)) (λ is. alike (ν .wait))
+      (λ o r u s e d a. record { rests = a .rests; reads = a .reads; staged = a .staged; same-op = a .same-op }),
+  none-in _,
+)
+react-kind k (echo t) ν = raise-cases (Reacts (echo t) ν) t ν
+    (alike (ν .wait), plain _ (echo t) (λ x. x) (none-in _)) (alike (ν .wait), none-in _)
+react-kind k (value v) ν = receive-by (Reacts (value v) ν) k v ν (λ m. (alike (ν .wait), none-in _))
+    (λ new. (alike (ν .wait), sent new))
+  where
+    sent : ¬ (v ∈ ν .all) → Only (Passed (value v) ν) (value v ∷ [])
+    sent new u (List·Memᴰ·head e) = (sym e, λ m. new (subst (λ z. z ∈ ν .all) (cc e) m))
+react-kind k (good t v) ν = (alike (ν .wait), none-in _)
 
-  borrow-still : (ν : Node) (w : Wait) → (Reads w ⊎ Opened w) → borrowPass n (waiting w ν) w ≡ still (waiting w ν)
-  borrow-still ν (reading o s u) (inl h) = refl
-  borrow-still ν w (inr (o, r, t, e)) = subst (λ z. borrowPass n (waiting z ν) z ≡ still (waiting z ν)) (sym e) refl
+-- A step of an operation past its reading, and of one that reads.
+abbrev pub GoesBy : (Value → Type 0) → Ending → Wait → List Message → Type 0
+GoesBy K none w l = Staged w × Only K l
+GoesBy K (done rule v) w l = Rests w × Only K l
+GoesBy K (shown rule v) w l = Rests w × Only K l
+GoesBy K spent w l = ⊥
 
-  -- After the read answers were looked at, no other part does anything.
-  asks-then : (r : ℕ) (op : Operation) (base : List Message) (s : Step) (part : Node → Step)
-    → ((ν : Node) (w : Wait) → (Reads w ⊎ Opened w) → part (waiting w ν) ≡ still (waiting w ν))
-    → Asks i r op base s → Asks i r op base (s then part)
-  asks-then r op base s part calm x = go (s .ending) x
+abbrev pub AsksBy : (i r : ℕ) → Operation → (Value → Type 0) → Ending → Wait → List Message → Type 0
+AsksBy i r op K none w l = (Reads w × Only K l) ⊎ (Opened w × Makes i r op K l)
+AsksBy i r op K (done rule v) w l = ⊥
+AsksBy i r op K (shown rule v) w l = ⊥
+AsksBy i r op K spent w l = Rests w × Only K l
+
+sent-in : {m : Message} (l : List Message) → m ∈ push l [] → m ∈ l
+sent-in l m = elim (push-or l [] m) [ inl h ↦ h | inr h ↦ elim h [ ] ]
+
+makes-listed : (K : Value → Type 0) (i r : ℕ) (op : Operation) (l : List Message) → Makes i r op K (push l [])
+    → Makes i r op K l
+makes-listed K i r (update p) l (m, only) = (sent-in l m, listed _ l only)
+makes-listed K i r scan l only = listed K l only
+
+module _ (n f i : ℕ) (half : f + f < n) (k : ℕ) (m : Message) (ν : Node) where
+  abbrev step : Step
+  step = messageStep n f i k m ν
+
+  abbrev K : Value → Type 0
+  K = Passed m ν
+
+  -- The tag that the operation has read after the step.
+  abbrev pub tagAfter : ℕ → ℕ
+  tagAfter r = readTag n f r (react k m ν .node) (react k m ν .node .wait)
+
+  -- An idle node only passes on what it is handed.
+  pub rest-course : Rests (ν .wait) → (step .ending ≡ none) × Rests (step .node .wait) × Only K (step .sent)
+  rest-course h = go (step .ending) refl
+      (message-leaves (rest-moves K n f i) k m ν [] (react-kind k m ν .0 .rests h, react-kind k m ν .1))
     where
-      go : (e : Ending) → AsksBy i r op base e (s .node .wait) (s .sent)
-        → Asks i r op base (then-by (record { node = s .node; sent = s .sent; ending = e }) (part (s .node)) e)
-      go none x = subst (Asks i r op base)
-        (sym (then-still (record { node = s .node; sent = s .sent; ending = none }) part (calm (s .node) (s .node .wait) (which x)))) x
-        where
-          which : (Reads (s .node .wait) × From base (s .sent)) ⊎ (Opened (s .node .wait) × Makes i r op base (s .sent))
-            → Reads (s .node .wait) ⊎ Opened (s .node .wait)
-          which (inl h) = inl (h .0)
-          which (inr h) = inr (h .0)
-      go spent x = x
+      go : (e : Ending) → step .ending ≡ e
+          → On (λ ν l. Rests (ν .wait) × Only K l) (λ e ν l. ⊥) e (step .node) (push (step .sent) [])
+          → (step .ending ≡ none) × Rests (step .node .wait) × Only K (step .sent)
+      go none e (a, b) = (e, a, listed K (step .sent) b)
 
-  abbrev reads : Node → Step
-  reads ν = readPass n f i ν (ν .wait)
-
-  abbrev writes : Node → Step
-  writes ν = writePass n f ν (ν .wait)
-
-  abbrev compares : Node → Step
-  compares ν = comparePass n f i ν (ν .wait)
-
-  abbrev borrows : Node → Step
-  borrows ν = borrowPass n ν (ν .wait)
-
-  -- An idle node does not move on.
-  pub idle-course : (s : Step) → Rests (s .node .wait) → moveOn n f i s ≡ s
-  unfolding moveOn
-  idle-course s h =
-    ap (λ z. z then writes then compares then borrows) (then-still s reads (read-rests (s .node) (s .node .wait) h))
-    ∙ ap (λ z. z then compares then borrows) (then-still s writes (write-rests (s .node) (s .node .wait) h))
-    ∙ ap (λ z. z then borrows) (then-still s compares (compare-rests (s .node) (s .node .wait) h))
-    ∙ then-still s borrows (borrow-rests (s .node) (s .node .wait) h)
+  pub staged-course : Staged (ν .wait) → GoesBy K (step .ending) (step .node .wait) (step .sent)
+  staged-course h = go (step .ending)
+      (message-leaves (staged-moves K n f i) k m ν [] (react-kind k m ν .0 .staged h, react-kind k m ν .1))
     where
-      read-rests : (ν : Node) (w : Wait) → Rests w → readPass n f i (waiting w ν) w ≡ still (waiting w ν)
-      read-rests ν idle h = refl
-      write-rests : (ν : Node) (w : Wait) → Rests w → writePass n f (waiting w ν) w ≡ still (waiting w ν)
-      write-rests ν idle h = refl
-      compare-rests : (ν : Node) (w : Wait) → Rests w → comparePass n f i (waiting w ν) w ≡ still (waiting w ν)
-      compare-rests ν idle h = refl
-      borrow-rests : (ν : Node) (w : Wait) → Rests w → borrowPass n (waiting w ν) w ≡ still (waiting w ν)
-      borrow-rests ν idle h = refl
+      go : (e : Ending) → On (λ ν l. Staged (ν .wait) × Only K l) (λ e ν l. EndsBy K e (ν .wait) l) e (step .node)
+          (push (step .sent) [])
+          → GoesBy K e (step .node .wait) (step .sent)
+      go none (a, b) = (a, listed K (step .sent) b)
+      go (done rule v) (a, b) = (a, listed K (step .sent) b)
+      go (shown rule v) (a, b) = (a, listed K (step .sent) b)
 
-  -- An operation past its reading goes on.
-  pub staged-course : (s : Step) → s .ending ≡ none → Staged (s .node .wait) → Goes (s .sent) (moveOn n f i s)
-  unfolding moveOn
-  staged-course s e h =
-    goes-then base (s then reads then writes then compares) borrows
-      (goes-then base (s then reads then writes) compares
-        (goes-then base (s then reads) writes
-          (goes-then base s reads first (λ ν w h. read-goes ν w h))
-          (λ ν w h. write-goes n f i ν w h))
-        (λ ν w h. compare-goes n f i ν w h))
-      (λ ν w h. borrow-goes n f i ν w h)
+  pub read-course : (op : Operation) (r : ℕ) → Reads (ν .wait) → Of op (ν .wait)
+      → AsksBy i (tagAfter r) op K (step .ending) (step .node .wait) (step .sent)
+  read-course op r h o = go (step .ending)
+      (message-leaves (ask-moves K n f i half op r (tagAfter r)) k m ν [] (inl (record {
+        reads = react-kind k m ν .0 .reads h;
+        same-op = react-kind k m ν .0 .same-op op o;
+        tag = refl;
+        only = react-kind k m ν .1;
+      })))
     where
-      base : List Message
-      base = s .sent
-      first : Goes base s
-      first = subst (λ z. GoesBy base z (s .node .wait) (s .sent)) (sym e) (h, λ v m. m)
-      read-goes : (ν : Node) (w : Wait) → Staged w → Goes [] (readPass n f i (waiting w ν) w)
-      read-goes ν (writing o r t s) h = (tt, empty)
-      read-goes ν (comparing o r t) h = (tt, empty)
-      read-goes ν (borrowing o t) h = (tt, empty)
+      go : (e : Ending) → On (Asks K n f i half op r (tagAfter r)) (λ e ν l. SpentBy K e (ν .wait) l) e (step .node)
+          (push (step .sent) [])
+          → AsksBy i (tagAfter r) op K e (step .node .wait) (step .sent)
+      go none (inl a) = inl (a .reads, listed K (step .sent) (a .only))
+      go none (inr (o, made)) = inr (o, makes-listed K i (tagAfter r) op (step .sent) made)
+      go spent (a, b) = (a, listed K (step .sent) b)
 
-  after-asks : (op : Operation) (r : ℕ) (ν : Node) (base : List Message)
-    → AsksBy i r op base (afterRead i r op ν .ending) (afterRead i r op ν .node .wait) (base ++ afterRead i r op ν .sent)
-  after-asks scan r ν base = inr ((scan, round1, r, refl),
-    from-append base base (write (suc (ν .request)) r ∷ []) (λ v m. m) (plain (write (suc (ν .request)) r) (λ x. x) empty))
-  after-asks (update p) r ν base = elim (ℕ-discrete r limit)
-    as (λ d. let t = ite d (ended spent [] (waiting idle ν)) (sending (value (of (suc r) i p) ∷ []) ν then opening (update p) round0 r) in
-      AsksBy i r (update p) base (t .ending) (t .node .wait) (base ++ t .sent)) [
-      yes h ↦ (tt, from-append base base [] (λ v m. m) empty)
-    | no h ↦ inr ((update p, round0, r, refl), (Memᴰ·append-right base (List·Memᴰ·head refl), λ v m. which v (List·Memᴰ·append-cases base m))) ]
+  -- Past its reading an operation keeps what it has read.
+  pub staged-tag : (r : ℕ) → Staged (ν .wait) → tagAfter r ≡ r
+  staged-tag r h = go (react k m ν .node .wait) (react-kind k m ν .0 .staged h)
     where
-      which : (v : Value) → (value v ∈ base) ⊎ (value v ∈ (value (of (suc r) i p) ∷ write (suc (ν .request)) r ∷ []))
-        → (value v ∈ base) ⊎ (v ≡ of (suc r) i p)
-      which v (inl m) = inl m
-      which v (inr (List·Memᴰ·head e)) = inr (value-one e)
-      which v (inr (List·Memᴰ·tail m)) = absurd (elim (plain (write (suc (ν .request)) r) (λ x. x) empty v m) [ ])
+      go : (w : Wait) → Staged w → readTag n f r (react k m ν .node) w ≡ r
+      go (writing o rnd t s) h = refl
+      go (comparing o rnd t) h = refl
+      go (borrowing o t) h = refl
 
-  -- An operation that reads.
-  read-asks : (op : Operation) (r : ℕ) (ν : Node) (w : Wait) (base : List Message) → Reads w → Of op w
-    → let t = readPass n f i (waiting w ν) w in
-      AsksBy i (readTag n f r ν w) op base (t .ending) (t .node .wait) (base ++ t .sent)
-  read-asks op r ν (reading o s u) base h e = elim (quorum? n f s)
-    as (λ d. let t = ite d (afterRead i (max u (ν .maxtag)) o ν′) (still ν′) in
-      AsksBy i (ite d (max u (ν .maxtag)) r) op base (t .ending) (t .node .wait) (base ++ t .sent)) [
-      yes x ↦ subst (λ z. let t = afterRead i (max u (ν .maxtag)) z ν′ in
-        AsksBy i (max u (ν .maxtag)) op base (t .ending) (t .node .wait) (base ++ t .sent)) (sym e)
-        (after-asks op (max u (ν .maxtag)) ν′ base)
-    | no x ↦ inl (tt, from-append base base [] (λ v m. m) empty) ]
-    where
-      ν′ : Node
-      ν′ = waiting (reading o s u) ν
+-- A begin only asks.
+module _ (n f i : ℕ) (half : f + f < n) (op : Operation) where
+  abbrev Begun : Claim
+  Begun ν l = (ν .wait ≡ reading op nobody 0) × Only (λ v. ⊥) l
 
-  pub read-course : (op : Operation) (r : ℕ) (s : Step) → s .ending ≡ none → Reads (s .node .wait) → Of op (s .node .wait)
-    → Asks i (readTag n f r (s .node) (s .node .wait)) op (s .sent) (moveOn n f i s)
-  unfolding moveOn
-  read-course op r s e h k =
-    asks-then r′ op base (s then reads then writes then compares) borrows (λ ν w h. borrow-still ν w h)
-      (asks-then r′ op base (s then reads then writes) compares (λ ν w h. compare-still ν w h)
-        (asks-then r′ op base (s then reads) writes (λ ν w h. write-still ν w h)
-          (subst (λ z. Asks i (readTag n f r (s .node) (s .node .wait)) op base (then-by s (reads (s .node)) z)) (sym e)
-            (read-asks op r (s .node) (s .node .wait) base h k))))
+  unanswered : {w : Wait} → w ≡ reading op nobody 0 → n - f ≤ count (answered w) n → ⊥
+  unanswered e q = omega (arith, subst (λ z. n - f ≤ count z n) (ap answered e) q, count-none n)
+
+  not-later : {w : Wait} → w ≡ reading op nobody 0 → Staged w → ⊥
+  not-later e h = subst Staged e h
+
+  begin-moves : Moves n f i Begun Begun (λ e ν l. ⊥)
+  begin-moves = record {
+    stays = λ ν l h. h;
+    spends = λ ν l p u s q h. unanswered (h .0) q;
+    updates = λ ν l p u s q h. absurd (unanswered (h .0) q);
+    scans = λ ν l u s q h. absurd (unanswered (h .0) q);
+    compares = λ ν l o r t s q h. absurd (not-later (h .0) tt);
+    passes = λ ν l o t le h. absurd (not-later (h .0) tt);
+    ends = λ ν l o r t z le h. not-later (h .0) tt;
+    fails = λ ν l o r r′ t lt h. absurd (not-later (h .0) tt);
+    borrows = λ ν l o t lt h. absurd (not-later (h .0) tt);
+    lends = λ ν l o t h. not-later (h .0) tt;
+  }
+
+  pub begin-course : (ν : Node) → let s = beginStep n f i op ν in
+      (s .ending ≡ none) × Reads (s .node .wait) × Only (λ v. ⊥) (s .sent)
+  begin-course ν = go (beginStep n f i op ν .ending) refl
+      (begin-leaves begin-moves op ν [] (refl, plain (λ v. ⊥) (read (suc (ν .request))) (λ x. x) (none-in _)))
     where
-      base : List Message
-      base = s .sent
-      r′ : ℕ
-      r′ = readTag n f r (s .node) (s .node .wait)
+      go : (e : Ending) → beginStep n f i op ν .ending ≡ e
+          → On Begun (λ e ν l. ⊥) e (beginStep n f i op ν .node) (push (beginStep n f i op ν .sent) [])
+          → (beginStep n f i op ν .ending ≡ none) × Reads (beginStep n f i op ν .node .wait)
+          × Only (λ v. ⊥) (beginStep n f i op ν .sent)
+      go none e (a, b) = (e, subst Reads (sym a) tt, listed (λ v. ⊥) (beginStep n f i op ν .sent) b)

@@ -15,7 +15,8 @@ use Rattle.eqaso.specs.Order.{OneTo}
 use Rattle.eqaso.proofs.Cert.{Log, Logs}
 use Rattle.eqaso.proofs.Local.{Due}
 use Rattle.eqaso.proofs.Meant.{Meant}
-use Rattle.eqaso.proofs.World.{Site, Sites, logs, new, handed, begun, Inv, Comes}
+use Rattle.eqaso.proofs.Sites.{Site, Sites, logs, new, handed, begun, Comes}
+use Rattle.eqaso.proofs.World.{Inv}
 use Rattle.eqaso.proofs.Front.{front}
 use Rattle.eqaso.proofs.Rest.{Rests, message-rests, begin-rests}
 use Rattle.eqaso.proofs.Live.{Live, Numbered, message-live, begin-live}
@@ -75,7 +76,7 @@ module _ {n f : ℕ} {stopped : ℕ → Bool} {σ : Sites} {gone : ℕ → Logs}
   module _ (half : f + f < n) (inv : Inv n f σ) where
     -- A message from node k, which k has let out, is handed to node i.
     pub alive-handed : (i k : ℕ) (m : Message) (p : Log) (x : Extent) → OneTo n i → stopped i ≡ false → m ∈ gone k i
-        → Comes n f half σ i k m p → let sent = messageStep n f i k m (σ i .node) .sent in
+        → Comes σ i k m p → let sent = messageStep n f i k m (σ i .node) .sent in
         Alive n f (halted x i stopped) (upd σ i (handed n f i k m p (σ i)))
         (upd gone i (λ b. push (front n x b sent) (gone i b)))
     alive-handed i k m p x node up out c = alive-act i x (handed n f i k m p (σ i)) _ node

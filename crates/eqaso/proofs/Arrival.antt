@@ -11,7 +11,8 @@ use Rattle.eqaso.proofs.Cert.{Log}
 use Rattle.eqaso.proofs.Local.{Past, Local}
 use Rattle.eqaso.proofs.Change.{handing}
 use Rattle.eqaso.proofs.Turn
-use Rattle.eqaso.proofs.World.{Site, Sites, logs, new, handed, begun, Inv, Comes}
+use Rattle.eqaso.proofs.Sites.{Site, Sites, logs, new, handed, begun, Comes}
+use Rattle.eqaso.proofs.World.{Inv}
 use Rattle.eqaso.proofs.Closure.{Dues, tag-positive, writer-sent, all-closed}
 use Rattle.eqaso.proofs.Rising.{Orders, Rising, older-from, new-low, never-falls}
 use Rattle.eqaso.proofs.RisingStep.{rising-begin, rising-message}
@@ -40,7 +41,7 @@ module _ (n f : ℕ) (half : f + f < n) {σ : Sites} (inv : Inv n f σ) (o : Ord
   orders : Orders (logs σ)
   orders k = o .rising k .order
 
-  module _ (i k : ℕ) (m : Message) (p : Log) (c : Comes n f half σ i k m p) where
+  module _ (i k : ℕ) (m : Message) (p : Log) (c : Comes σ i k m p) where
     abbrev γ : Past
     γ = handing (upd (σ i .past .got) k p) (σ i .past)
 
@@ -50,7 +51,7 @@ module _ (n f : ℕ) (half : f + f < n) {σ : Sites} (inv : Inv n f σ) (o : Ord
     next : (m ∷ γ .got k) ⊑ σ k .log
     next = rw (upd-same (σ i .past .got) k p) (c .at)
 
-  arrives : (i k : ℕ) (v : Value) (p : Log) → Comes n f half σ i k (value v) p
+  arrives : (i k : ℕ) (v : Value) (p : Log) → Comes σ i k (value v) p
       → Arrives n (σ i .node .all) (σ i .node .from) (σ i .node .maxtag) k v
   arrives i k v p c =
       let here = before i k (value v) p c in
@@ -68,7 +69,7 @@ module _ (n f : ℕ) (half : f + f < n) {σ : Sites} (inv : Inv n f σ) (o : Ord
       }
 
   -- Every message that comes is as expected.
-  pub expected : (i k : ℕ) (m : Message) (p : Log) → Comes n f half σ i k m p → Expected n k (σ i .node) m
+  pub expected : (i k : ℕ) (m : Message) (p : Log) → Comes σ i k m p → Expected n k (σ i .node) m
   expected i k (value v) p c = arrives i k v p c
   expected i k (read q) p c = tt
   expected i k (readAnswer to q t) p c = tt
@@ -86,7 +87,7 @@ module _ (n f : ℕ) (half : f + f < n) {σ : Sites} (inv : Inv n f σ) (o : Ord
     bounded = upd-all (λ k x. BoundedNode n (x .node)) σ i s (λ k ne. o .bounded k) b;
   }
 
-  pub handed-orderly : (i k : ℕ) (m : Message) (p : Log) → OneTo n i → Comes n f half σ i k m p
+  pub handed-orderly : (i k : ℕ) (m : Message) (p : Log) → OneTo n i → Comes σ i k m p
       → Orderly n (upd σ i (handed n f i k m p (σ i)))
   handed-orderly i k m p h c = changed i (handed n f i k m p (σ i)) h
       (rising-message i n f (logs σ) dues orders (before i k m p c) (o .rising i) k m (next i k m p c))

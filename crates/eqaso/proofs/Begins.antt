@@ -1,24 +1,20 @@
 -- A begin is noted: the operation at the new index is the open one of its node.
-use Prim.Native.Nat.{ℕ, zero, suc, _+_, _-_, _≤_, _<_}
+use Prim.Native.Nat.{ℕ, _+_, _<_}
 use native.Mathlib.Omega.{arith}
-use mathlib.Core.Path.{_≡_, refl, sym, _∙_, ap, subst}
-use mathlib.Core.Logic.{_⊎_, inl, inr, _≢_}
+use mathlib.Core.Path.{_≡_, refl, _∙_, ap}
 use mathlib.Core.Bool.{Bool, false}
-use mathlib.Core.List.{List, [], _∷_}
 use lib.ListN.{length}
 use Rattle.theory.specs.Update.{upd, upd-same}
-use Rattle.theory.specs.Log.{_∈_, push}
-use Rattle.eqaso.specs.Message.{Value, Message, read, value}
-use Rattle.eqaso.specs.Algorithm.{Operation, update, scan, nobody, reading, Wait, Ending, none, Step, sending, asking, beginStep}
+use Rattle.eqaso.specs.Algorithm.{Operation, update, scan, Ending, none, Step, beginStep}
 use Rattle.eqaso.specs.Cluster.{Extent, begin, accepted, entries, letOut, halted, given}
-use Rattle.eqaso.specs.Trace.{Seen, Trace, Begun, updating, scanning, begunBy}
+use Rattle.eqaso.specs.Trace.{Seen, Trace, begunBy}
 use Rattle.eqaso.specs.Order.{OneTo}
 use Rattle.eqaso.proofs.Cert.{Logs}
 use Rattle.eqaso.proofs.Front.{front-in}
-use Rattle.eqaso.proofs.World.{Site, Sites, logs, begun}
-use Rattle.eqaso.proofs.Course.{Rests, Reads, plain, empty}
-use Rattle.eqaso.proofs.Acts.{begin-course}
-use Rattle.eqaso.proofs.Book.{Book, bookOf, begins, At, IdleAt, OpenAt}
+use Rattle.eqaso.proofs.Sites.{Site, Sites, logs, begun}
+use Rattle.eqaso.proofs.Course.{Rests, Reads, Only}
+use Rattle.eqaso.proofs.Act.{begin-course}
+use Rattle.eqaso.proofs.Book.{Book, bookOf, begins, At, IdleAt}
 use Rattle.eqaso.proofs.Facts.{Facts}
 use Rattle.eqaso.proofs.Modes.{begin-opens}
 use Rattle.eqaso.proofs.Kept.{Kept, Next, Told, next-begin}
@@ -38,11 +34,12 @@ kind-at c scan = refl
 
 abbrev pub beginning : (n c : ℕ) → Operation → Extent → Step → Seen
 beginning n c op x s =
-  record { event = begin c op x; answer = accepted (given x (s .ending)); sent = letOut x (entries n (s .sent)) }
+    record { event = begin c op x; answer = accepted (given x (s .ending)); sent = letOut x (entries n (s .sent)) }
 
 module _ {n f : ℕ} (half : f + f < n) {stopped : ℕ → Bool} {σ : Sites} {gone : ℕ → Logs} {tr : Trace} (kept : Kept n tr)
-  (H : History n f stopped σ gone (bookOf tr)) (c : ℕ) (one : OneTo n c) (stands : stopped c ≡ false) (op : Operation) (x : Extent)
-  (rests : Rests (σ c .node .wait)) where
+    (H : History n f stopped σ gone (bookOf tr)) (c : ℕ) (one : OneTo n c) (stands : stopped c ≡ false) (op : Operation)
+    (x : Extent)
+    (rests : Rests (σ c .node .wait)) where
   abbrev B : Book
   B = bookOf tr
 
@@ -52,11 +49,8 @@ module _ {n f : ℕ} (half : f + f < n) {stopped : ℕ → Bool} {σ : Sites} {g
   abbrev site : Site
   site = begun n f c op (logs σ) (σ c)
 
-  same : step ≡ sending (read (suc (σ c .node .request)) ∷ []) (asking (reading op nobody 0) (σ c .node))
-  same = begin-course n f c half op (σ c .node)
-
-  no-values : (v : Value) → value v ∈ step .sent → ⊥
-  no-values v m = elim (plain (read (suc (σ c .node .request))) (λ y. y) empty v (subst (λ z. value v ∈ z .sent) same m)) [ ]
+  course : (step .ending ≡ none) × Reads (step .node .wait) × Only (λ v. ⊥) (step .sent)
+  course = begin-course n f c half op (σ c .node)
 
   free : IdleAt B c
   free = mode-rests n f B c (σ c .op) (σ c .tag) (σ c .past .base) (σ c .node .wait) rests .0 (H .modes c stands)
@@ -65,29 +59,37 @@ module _ {n f : ℕ} (half : f + f < n) {stopped : ℕ → Bool} {σ : Sites} {g
   B′ = begins (length tr) (kindOf c op) B
 
   pub begin-noted : (B′ : Book) × Next n tr (beginning n c op x step) B′
-    × History n f (halted x c stopped) (upd σ c site) (letting n c x (step .sent) gone) B′
+      × History n f (halted x c stopped) (upd σ c site) (letting n c x (step .sent) gone) B′
   unfolding B′
-  begin-noted = (B′,
-    next-begin tr (beginning n c op x step) kept (kindOf c op) (begun-kind c op x (given x (step .ending))) (kind-at c op)
-      (ap (given x) (ap (λ z. z .ending) same) ∙ given-none x) told one free,
+  begin-noted = (
+    B′,
+    next-begin tr (beginning n c op x step) kept (kindOf c op) (begun-kind c op x (given x (step .ending)))
+        (kind-at c op)
+        (ap (given x) (course .0) ∙ given-none x) told one free,
     history-next n f H F L c x (step .sent) site refl
-      (λ d ne. apart-begin n f F (kindOf c op) c d (kind-at c op) ne)
-      (left-begin n f F (logs (upd σ c site)) (kindOf c op) (λ a. left-up n f
-        (logs-grow n f H F (later-same (length tr) B) c x (step .sent) site refl) (B .begun a) (B .fate a) (B .tag a) (H .left a)))
-      (λ b v one m. absurd (no-values v (front-in n x b (step .sent) m)))
-      (λ h. mode-reads n f B′ c op (site .tag) (logs σ) (step .node .wait)
-        (subst (λ z. Reads (z .node .wait)) (sym same) tt) .1 (length tr, runs, blank-fate n f F .1))
-      (λ u y k d p q t eu ey h tu ty. absurd (t ty)))
+        (λ d ne. apart-begin n f F (kindOf c op) c d (kind-at c op) ne)
+        (left-begin n f F (logs (upd σ c site)) (kindOf c op) (λ a. left-up n f
+        (logs-grow n f H F (later-same (length tr) B) c x (step .sent) site refl) (B .begun a) (B .fate a) (B .tag a)
+        (H .left a)))
+        (λ b v one m. absurd (course .2 v (front-in n x b (step .sent) m)))
+        (λ h. mode-reads n f B′ c op (site .tag) (logs σ) (step .node .wait)
+        (course .1) .1 (length tr, runs, blank-fate n f F .1))
+        (λ u y k d p q t eu ey h tu ty. absurd (t ty)),
+  )
     where
       F : Facts n (length tr) B
       F = kept .facts
+
       L : Later (length tr) B (begins (length tr) (kindOf c op) B)
       L = later-begin n f F (kindOf c op)
+
       told : Told B (beginning n c op x step)
-      told t i = let (v, m, w, e) = own-from n c x (step .sent) i in absurd (no-values v m)
+      told t i = let (v, m, w, e) = own-from n c x (step .sent) i in absurd (course .2 v m)
+
       runs : Runs n f (begins (length tr) (kindOf c op) B) c op (logs σ) (length tr)
       runs = record {
         unended = begin-opens B (length tr) c (kindOf c op) (F .blank (length tr) (omega arith)) (kind-at c op)
-          (blank-fate n f F .0) free;
+            (blank-fate n f F .0) free;
         kind = upd-same (B .begun) (length tr) (kindOf c op);
-        prior = λ a h. left-begin n f F (logs σ) (kindOf c op) (H .left) a }
+        prior = λ a h. left-begin n f F (logs σ) (kindOf c op) (H .left) a;
+      }

@@ -1,13 +1,9 @@
 -- The book of a trace: of every index what began there, what became of it, and the tag that it got. Facts about
 -- operations are facts about the book, and each event changes it in at most one place.
 use Prim.Native.Nat.{ℕ}
-use mathlib.Core.List.{[]}
 use mathlib.Core.Path.{_≡_}
 use Rattle.theory.specs.Update.{upd}
-use Rattle.eqaso.specs.Message.{View}
-use Rattle.eqaso.specs.Algorithm.{none, done, shown, spent}
-use Rattle.eqaso.specs.Trace.{Trace, Begun, nothing, updating, scanning, begun, Fate, unfinished, ended, fate}
-use Rattle.eqaso.specs.Trace.{tagAt}
+use Rattle.eqaso.specs.Trace.{Trace, Begun, nothing, updating, scanning, begun, Fate, unfinished, fate, tagAt}
 
 pub record Book : Type 0 where
   pub begun : ℕ → Begun

@@ -11,14 +11,15 @@ use Rattle.eqaso.specs.Cluster.{Event, Cluster, start, after}
 use Rattle.eqaso.specs.Order.{OneTo}
 use Rattle.eqaso.proofs.Cert.{Log, Logs}
 use Rattle.eqaso.proofs.Local.{Past, Pending, Local}
-use Rattle.eqaso.proofs.World.{logs}
+use Rattle.eqaso.proofs.Sites.{logs}
 use Rattle.eqaso.proofs.Closure.{writer-sent}
 use Rattle.eqaso.proofs.Arrival.{expected}
 use Rattle.eqaso.proofs.Channel.{fits-hand}
 use Rattle.eqaso.proofs.Bounded.{BoundedNode}
 use Rattle.eqaso.specs.Bounded.{Expected}
 use Rattle.eqaso.specs.Trace.{trace}
-use Rattle.eqaso.proofs.Run.{Good, good, coming}
+use Rattle.eqaso.proofs.Good.{Good, coming}
+use Rattle.eqaso.proofs.Run.{good}
 
 -- A node that compares holds all that it has sent, its own values among them.
 pub sent-held : {n f : ℕ} {out : Logs} {γ : Past} {i r : ℕ} {op : Operation} {ν : Node} {l : Log}
@@ -50,7 +51,7 @@ module _ (n f : ℕ) (half : f + f < n) (es : List Event) where
   run-expected a b m rest node stands e =
       let d = fits-hand (run .fits) a b node stands e .0 in
       subst (λ ν. Expected n a ν m) (node-is b)
-        (expected n f half (run .inv) (run .orderly) b a m (d .place) (coming half (run .fits) d))
+      (expected n f half (run .inv) (run .orderly) b a m (d .place) (coming (run .fits) d))
 
   -- A node that compares holds every own value that any node holds.
   pub run-own-held : (c j : ℕ) (o : Operation) (rnd : Round) (t : ℕ) (v : Value)
@@ -58,6 +59,6 @@ module _ (n f : ℕ) (half : f + f < n) (es : List Event) where
       → v .writer ≡ c → v ∈ end .nodes j .all → v ∈ end .nodes c .all
   run-own-held c j o rnd t v e w m =
       let sent = writer-sent n f (logs (run .sites)) (λ k. run .inv k .due) j
-            (run .inv j .sent v (subst (λ ν. v ∈ ν .all) (sym (node-is j)) m)) in
+      (run .inv j .sent v (subst (λ ν. v ∈ ν .all) (sym (node-is j)) m)) in
       subst (λ ν. v ∈ ν .all) (node-is c) (sent-held (run .inv c) (ap (λ ν. ν .wait) (node-is c) ∙ e) v
-        (subst (λ z. value v ∈ run .sites z .log) w sent))
+      (subst (λ z. value v ∈ run .sites z .log) w sent))

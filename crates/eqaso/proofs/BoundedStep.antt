@@ -1,22 +1,18 @@
 -- The sets of a node stay bounded through a whole step.
-use Prim.Native.Nat.{ℕ, suc, _≤_, _<_}
+use Prim.Native.Nat.{ℕ, _≤_, _<_}
 use native.Mathlib.Omega.{arith}
 use native.Mathlib.Decide.{decLt}
 use mathlib.Core.Path.{_≡_, refl, sym, _∙_, ap, subst}
-use mathlib.Core.Logic.{ite}
-use mathlib.Core.Bool.{Bool, true, false, true≢false, cond}
 use mathlib.Core.List.{List, [], _∷_, List·Memᴰ·head, List·Memᴰ·tail}
 use Rattle.theory.specs.Update.{upd, upd-all}
 use Rattle.theory.specs.Log.{_∈_}
 use Rattle.eqaso.specs.Message.{Value, Message, read, readAnswer, write, writeAnswer, echo, value, good}
-use Rattle.eqaso.specs.Algorithm.{Operation, nobody, reading, Node, still, sending, asking, has, raise}
-use Rattle.eqaso.specs.Algorithm.{receive, react, messageStep, beginStep}
-use Rattle.eqaso.specs.Bounded.{Expected}
+use Rattle.eqaso.specs.Algorithm.{Operation, Node, sending, _then_, react, messageStep, beginStep}
+use Rattle.eqaso.specs.Bounded.{Expected, UpTo}
 use Rattle.eqaso.proofs.Cert.{Log}
-use Rattle.eqaso.proofs.Change.{topping, holding}
-use Rattle.eqaso.proofs.Sets.{has-to, has-of}
-use Rattle.eqaso.proofs.Moving.{Moves, keeps-then, read-counted, write-counted, keeps-moving}
-use Rattle.eqaso.specs.Bounded.{UpTo}
+use Rattle.eqaso.proofs.Cases.{raise-by, receive-by, read-cases, write-cases}
+use Rattle.eqaso.proofs.Passes.{left}
+use Rattle.eqaso.proofs.MoveOn.{Moves, message-leaves, begin-leaves}
 use Rattle.eqaso.proofs.Bounded.{Bounded, BoundedNode, Arrives, bounded-raised}
 
 -- A value is taken in.
@@ -108,57 +104,38 @@ module _ (n : ℕ) where
   Tidy ν l = BoundedNode n ν
 
   -- An operation that moves on changes neither the sets nor maxtag.
-  moves : (i : ℕ) → Moves Tidy n i
-  moves i = record {
-    reads = λ ν l o s s′ u u′ x. x;
-    writes = λ ν l o rnd t s s′ x. x;
-    spends = λ ν l p s u x. x;
-    makes = λ ν l p s u t h x. x;
-    looks = λ ν l s u t h x. x;
-    compares = λ ν l o rnd t s x. x;
-    tells = λ ν l o rnd t x. x;
-    opens = λ ν l o rnd rnd′ t u h a x. x;
-    ends = λ ν l o rnd t h x. x;
-    borrows = λ ν l o t x. x;
-    returns = λ ν l o t x. x;
+  moves : (f i : ℕ) → Moves n f i Tidy Tidy (λ e. Tidy)
+  moves f i = record {
+    stays = λ ν l x. x;
+    spends = λ ν l p u s q x. x;
+    updates = λ ν l p u s q x. x;
+    scans = λ ν l u s q x. x;
+    compares = λ ν l o r t s q x. x;
+    passes = λ ν l o t h x. x;
+    ends = λ ν l o r t z h x. x;
+    fails = λ ν l o r r′ t h x. x;
+    borrows = λ ν l o t h x. x;
+    lends = λ ν l o t x. x;
   }
 
-  raises : (t : ℕ) (ν : Node) → BoundedNode n ν → BoundedNode n (raise t ν .node)
-  raises t ν b = elim (decLt (ν .maxtag) t)
-      as (λ d. BoundedNode n (ite d (sending (echo t ∷ []) (topping t ν)) (still ν) .node)) [
-        | yes h ↦ bounded-raised b t (omega arith)
-        | no h ↦ b
-      ]
-
-  receives : (k : ℕ) (v : Value) (ν : Node) → BoundedNode n ν → Expected n k ν (value v)
-      → BoundedNode n (receive k v ν .node)
-  receives k v ν b a = go (has (ν .all) v) refl
-    where
-      from : ℕ → List Value
-      from = upd (ν .from) k (v ∷ ν .from k)
-
-      go : (y : Bool) → has (ν .all) v ≡ y → BoundedNode n
-          (cond y (still (holding (ν .all) from ν)) (sending (value v ∷ []) (holding (v ∷ ν .all) from ν)) .node)
-      go true e = heard-more b a (has-to (ν .all) v e)
-      go false e =
-          heard-more (more-values b a (λ m. true≢false (sym (has-of m) ∙ e))) (arrives-more a) (List·Memᴰ·head refl)
-
-  reacts : (f i k : ℕ) (m : Message) (ν : Node) → BoundedNode n ν → Expected n k ν m → BoundedNode n (react k m ν .node)
-  reacts f i k (read q) ν b a = b
-  reacts f i k (readAnswer to q t) ν b a = read-counted Tidy n f i (moves i) ν [] k q t (ν .wait) b
-  reacts f i k (write q t) ν b a =
-      keeps-then Tidy [] (raise t ν) (sending (writeAnswer k q t ∷ [])) (raises t ν b) (λ x. x)
-  reacts f i k (writeAnswer to q t) ν b a = write-counted Tidy n f i (moves i) ν [] k q t (ν .wait) b
-  reacts f i k (echo t) ν b a = raises t ν b
-  reacts f i k (value v) ν b a = receives k v ν b a
-  reacts f i k (good t v) ν b a = b
+  pub reacts : (k : ℕ) (m : Message) (ν : Node) → BoundedNode n ν → Expected n k ν m → BoundedNode n (react k m ν .node)
+  reacts k (read q) ν b a = b
+  reacts k (readAnswer to q t) ν b a =
+      read-cases (λ w. Unit {0}) (BoundedNode n) k q t ν (ν .wait) tt (λ is. b) (λ o s u e x. b)
+  reacts k (write q t) ν b a = raise-by (λ s. BoundedNode n ((s then sending (writeAnswer k q t ∷ [])) .node)) t ν
+      (λ h. bounded-raised b t (omega arith)) (λ h. b)
+  reacts k (writeAnswer to q t) ν b a =
+      write-cases (λ w. Unit {0}) (BoundedNode n) k q t ν (ν .wait) tt (λ is. b) (λ o r u s e d x. b)
+  reacts k (echo t) ν b a = raise-by (λ s. BoundedNode n (s .node)) t ν (λ h. bounded-raised b t (omega arith)) (λ h. b)
+  reacts k (value v) ν b a = receive-by (λ s. BoundedNode n (s .node)) k v ν (λ m. heard-more b a m)
+      (λ new. heard-more (more-values b a new) (arrives-more a) (List·Memᴰ·head refl))
+  reacts k (good t v) ν b a = b
 
   pub bounded-message : (f i k : ℕ) (m : Message) (ν : Node) → BoundedNode n ν → Expected n k ν m
       → BoundedNode n (messageStep n f i k m ν .node)
-  bounded-message f i k m ν b a =
-      keeps-moving Tidy n f i (moves i) [] (react k m ν) (reacts f i k m ν b a)
+  bounded-message f i k m ν b a = left Tidy (messageStep n f i k m ν .ending)
+      (message-leaves (moves f i) k m ν [] (reacts k m ν b a))
 
   pub bounded-begin : (f i : ℕ) (op : Operation) (ν : Node) → BoundedNode n ν
       → BoundedNode n (beginStep n f i op ν .node)
-  bounded-begin f i op ν b = keeps-moving Tidy n f i (moves i) []
-      (sending (read (suc (ν .request)) ∷ []) (asking (reading op nobody 0) ν)) b
+  bounded-begin f i op ν b = left Tidy (beginStep n f i op ν .ending) (begin-leaves (moves f i) op ν [] b)

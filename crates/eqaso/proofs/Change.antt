@@ -1,5 +1,5 @@
 -- The few ways in which the state and log of a node change, each of which keeps the invariant. A step is made of them.
-use Prim.Native.Nat.{ℕ, suc, _+_, _-_, _≤_, _<_}
+use Prim.Native.Nat.{ℕ, _+_, _-_, _≤_, _<_}
 use native.Mathlib.Omega.{arith}
 use mathlib.Core.Path.{_≡_, refl, sym, subst}
 use mathlib.Core.Logic.{_⊎_, inl, inr}
@@ -7,12 +7,13 @@ use mathlib.Core.Bool.{Bool, true}
 use mathlib.Core.List.{List, _∷_, List·Memᴰ·head, List·Memᴰ·tail}
 use Rattle.theory.specs.Count.{count, meet}
 use Rattle.theory.specs.Update.{upd, upd-all}
-use Rattle.theory.specs.Log.{_∈_, _⊑_, here, more, ⊑-trans, mem-up, cons-or, Each}
+use Rattle.theory.specs.Log.{_∈_, _⊑_, here, more, mem-up, cons-or}
 use Rattle.eqaso.specs.Message.{Value, View, Message, read, readAnswer, write, writeAnswer, echo, value, good}
-use Rattle.eqaso.specs.Algorithm.{Operation, Round, Wait, idle, reading, writing, comparing, borrowing, Node, waiting, keep}
+use Rattle.eqaso.specs.Algorithm.{Operation, Round, Wait, idle, reading, writing, comparing, borrowing, Node}
+use Rattle.eqaso.specs.Algorithm.{waiting, keep}
 use Rattle.eqaso.proofs.Cert.{Log, Logs, _≼_}
-use Rattle.eqaso.proofs.Local.{Past, Own, Took, Pending, Settled, Known, Due, Olds, Have, Stage, ReadBy, Wrote, WroteBy, Phase, Local}
-use Rattle.eqaso.proofs.Grow.{≼-refl, held-up}
+use Rattle.eqaso.proofs.Local.{Past, Took, Pending, Settled, Known, Due, Olds, Have, Stage, Phase, Local}
+use Rattle.eqaso.proofs.Grow.{held-up}
 
 -- The node with another request number and wait.
 abbrev pub turned : ℕ → Wait → Node → Node
@@ -20,7 +21,15 @@ turned q w ν = record { all = ν .all; from = ν .from; maxtag = ν .maxtag; go
 
 -- The node with a larger maxtag.
 abbrev pub topping : ℕ → Node → Node
-topping t ν = record { all = ν .all; from = ν .from; maxtag = t; goods = ν .goods; request = ν .request; wait = ν .wait }
+topping t ν = record {
+  all = ν .all;
+  from = ν .from;
+  maxtag = t;
+  goods = ν .goods;
+  request = ν .request;
+  wait =
+      ν .wait;
+}
 
 -- The node with other values.
 abbrev pub holding : List Value → (ℕ → List Value) → Node → Node
@@ -38,8 +47,8 @@ pub handed-more : (got : Logs) (k : ℕ) (m : Message) → got ≼ handed-by got
 handed-more got k m j = upd-all (λ j x. got j ⊑ x) got k (m ∷ got k) (λ j ne. here) (more here) j
 
 pub took-up : (k : ℕ) (ν ν′ : Node) (m : Message) → ν .maxtag ≤ ν′ .maxtag
-  → ((j : ℕ) (v : Value) → v ∈ ν .from j → v ∈ ν′ .from j) → ((v : Value) → v ∈ ν .all → v ∈ ν′ .all)
-  → Took k ν m → Took k ν′ m
+    → ((j : ℕ) (v : Value) → v ∈ ν .from j → v ∈ ν′ .from j) → ((v : Value) → v ∈ ν .all → v ∈ ν′ .all)
+    → Took k ν m → Took k ν′ m
 took-up k ν ν′ (read q) h g a t = tt
 took-up k ν ν′ (readAnswer to q u) h g a t = tt
 took-up k ν ν′ (write q u) h g a t = omega arith
@@ -51,8 +60,8 @@ took-up k ν ν′ (good u v) h g a t = tt
 module _ (n f : ℕ) where
   -- The same wait and no smaller state.
   pub have-more : (out base : Logs) (i r : ℕ) (op : Operation) (w : Wait) (ν ν′ : Node) (m : Message)
-    → ν .maxtag ≤ ν′ .maxtag → ν .request ≤ ν′ .request → ((v : Value) → v ∈ ν .all → v ∈ ν′ .all)
-    → Have n f out base i r op (waiting w ν) m → Have n f out base i r op (waiting w ν′) m
+      → ν .maxtag ≤ ν′ .maxtag → ν .request ≤ ν′ .request → ((v : Value) → v ∈ ν .all → v ∈ ν′ .all)
+      → Have n f out base i r op (waiting w ν) m → Have n f out base i r op (waiting w ν′) m
   have-more out base i r op w ν ν′ (read q) h g a x = omega arith
   have-more out base i r op w ν ν′ (write q t) h g a x = omega arith
   have-more out base i r op w ν ν′ (readAnswer to q t) h g a x = tt
@@ -68,89 +77,157 @@ module _ (n f : ℕ) where
   module _ (half : f + f < n) {out : Logs} {γ : Past} {i r : ℕ} {op : Operation} {ν : Node} {l : Log} where
     -- A value that a quorum had at the begin has come to a node that was handed what another quorum had sent by then.
     pub known-value : Local n f out γ i r op ν l → (R : ℕ → Bool) → n - f ≤ count R n
-      → ((k : ℕ) → R k ≡ true → γ .base k ⊑ γ .got k) → {x : Value} → Settled n f (γ .base) x → value x ∈ l
+        → ((k : ℕ) → R k ≡ true → γ .base k ⊑ γ .got k) → {x : Value} → Settled n f (γ .base) x → value x ∈ l
     known-value c R many handed {x} s =
-      let (k, lo, hi, y, z) = meet n f half R (s .who) many (s .many) in
-      c .sent x (c .took k (value x) (mem-up (handed k y) (s .has k z)) .1)
+        let (k, lo, hi, y, z) = meet n f half R (s .who) many (s .many) in
+        c .sent x (c .took k (value x) (mem-up (handed k y) (s .has k z)) .1)
 
     pub stage-post : Local n f out γ i r op ν l → (m : Message) {rnd : Round} {t : ℕ}
-      → Stage n f out γ i r op l rnd t → Stage n f out γ i r op (m ∷ l) rnd t
+        → Stage n f out γ i r op l rnd t → Stage n f out γ i r op (m ∷ l) rnd t
     stage-post c m s = record {
-      R = s .R; many = s .many; low = s .low; handed = s .handed; rise = s .rise; before = s .before;
+      R = s .R;
+      many = s .many;
+      low = s .low;
+      handed = s .handed;
+      rise = s .rise;
+      before = s .before;
       ahead = λ x v p h o q. elim (cons-or q) [
-        inl e ↦ subst (λ z. value x ∈ z) (sym (e .1)) (known-value c (s .R) (s .many) (s .handed) h)
-      | inr q′ ↦ s .ahead x v p h o q′ ] }
+        | inl e ↦ subst (λ z. value x ∈ z) (sym (e .1)) (known-value c (s .R) (s .many) (s .handed) h)
+        | inr q′ ↦ s .ahead x v p h o q′
+      ];
+    }
 
     phase-post : Local n f out γ i r op ν l → (m : Message) (w : Wait)
-      → Phase n f out γ i r op (ν .request) l w → Phase n f out γ i r op (ν .request) (m ∷ l) w
+        → Phase n f out γ i r op (ν .request) l w → Phase n f out γ i r op (ν .request) (m ∷ l) w
     phase-post c m idle p = tt
     phase-post c m (reading o s u) p = p
-    phase-post c m (writing o rnd t s) (e, p) = (e, record {
-      stage = stage-post c m (p .stage); at = p .at; asked = more (p .asked); held = p .held; counted = p .counted })
-    phase-post c m (comparing o rnd t) (e, p) = (e, record {
-      stage = stage-post c m (p .stage); held = held-up i r op (more here) (p .held); W = p .W; many = p .many;
-      counted = p .counted })
+    phase-post c m (writing o rnd t s) (e, p) = (
+      e,
+      record {
+        stage = stage-post c m (p .stage);
+        at = p .at;
+        asked = more (p .asked);
+        held = p .held;
+        counted = p .counted;
+      },
+    )
+    phase-post c m (comparing o rnd t) (e, p) = (
+      e,
+      record {
+        stage = stage-post c m (p .stage);
+        held = held-up i r op (more here) (p .held);
+        W = p .W;
+        many = p .many;
+        counted = p .counted;
+      },
+    )
     phase-post c m (borrowing o t) (e, p) = (e, stage-post c m p)
 
     -- The node sends a message.
     pub post : Local n f out γ i r op ν l → (m : Message) → Due n f i out m l → Have n f out (γ .base) i r op ν m
-      → Local n f out γ i r op ν (m ∷ l)
+        → Local n f out γ i r op ν (m ∷ l)
     post c m d h = record {
-      grown = more (c .grown); got-in = c .got-in; base-in = c .base-in; due = (d, c .due); took = c .took;
-      have = λ x e. have x e; topped = λ e. List·Memᴰ·tail (c .topped e); sent = λ v e. List·Memᴰ·tail (c .sent v e);
-      heard = c .heard; lead = c .lead; no-reads = c .no-reads; no-writes = c .no-writes; known = c .known;
-      phase = phase-post c m (ν .wait) (c .phase) }
+      grown = more (c .grown);
+      got-in = c .got-in;
+      base-in = c .base-in;
+      due = (d, c .due);
+      took = c .took;
+      have = λ x e. have x e;
+      topped = λ e. List·Memᴰ·tail (c .topped e);
+      sent = λ v e. List·Memᴰ·tail (c .sent v e);
+      heard = c .heard;
+      lead = c .lead;
+      no-reads = c .no-reads;
+      no-writes = c .no-writes;
+      known = c .known;
+      phase = phase-post c m (ν .wait) (c .phase);
+    }
       where
         have : (x : Message) → x ∈ (m ∷ l) → Have n f out (γ .base) i r op ν x
         have x (List·Memᴰ·head e) = subst (Have n f out (γ .base) i r op ν) (sym e) h
         have x (List·Memᴰ·tail e) = c .have x e
 
     -- Its maxtag grows, and it sends the echo.
-    pub raised : Local n f out γ i r op ν l → (t : ℕ) → ν .maxtag < t → Local n f out γ i r op (topping t ν) (echo t ∷ l)
+    pub raised : Local n f out γ i r op ν l → (t : ℕ) → ν .maxtag < t
+        → Local n f out γ i r op (topping t ν) (echo t ∷ l)
     raised c t h = record {
-      grown = more (c .grown); got-in = c .got-in; base-in = c .base-in; due = (tt, c .due);
+      grown = more (c .grown);
+      got-in = c .got-in;
+      base-in = c .base-in;
+      due = (tt, c .due);
       took = λ k m e. took-up k ν (topping t ν) m (omega arith) (λ j v x. x) (λ v x. x) (c .took k m e);
-      have = have; topped = λ e. List·Memᴰ·head refl; sent = λ v e. List·Memᴰ·tail (c .sent v e);
-      heard = c .heard; lead = c .lead; no-reads = c .no-reads; no-writes = c .no-writes; known = c .known;
-      phase = phase-post c (echo t) (ν .wait) (c .phase) }
+      have = have;
+      topped = λ e. List·Memᴰ·head refl;
+      sent = λ v e. List·Memᴰ·tail (c .sent v e);
+      heard = c .heard;
+      lead = c .lead;
+      no-reads = c .no-reads;
+      no-writes = c .no-writes;
+      known = c .known;
+      phase = phase-post c (echo t) (ν .wait) (c .phase);
+    }
       where
         have : (x : Message) → x ∈ (echo t ∷ l) → Have n f out (γ .base) i r op (topping t ν) x
         have x (List·Memᴰ·head e) = subst (Have n f out (γ .base) i r op (topping t ν)) (sym e) (omega arith)
         have x (List·Memᴰ·tail e) =
-          have-more out (γ .base) i r op (ν .wait) ν (topping t ν) x (omega arith) (omega arith) (λ v x. x) (c .have x e)
+            have-more out (γ .base) i r op (ν .wait) ν (topping t ν) x (omega arith) (omega arith) (λ v x. x)
+            (c .have x e)
 
     -- It takes in a value that is new to it, and passes it on.
     pub learnt : Local n f out γ i r op ν l → (v : Value) → Due n f i out (value v) l
-      → (v .writer ≡ i → Olds n f out (γ .base) i r op (ν .wait) v)
-      → Local n f out γ i r op (holding (v ∷ ν .all) (ν .from) ν) (value v ∷ l)
+        → (v .writer ≡ i → Olds n f out (γ .base) i r op (ν .wait) v)
+        → Local n f out γ i r op (holding (v ∷ ν .all) (ν .from) ν) (value v ∷ l)
     learnt c v d o = record {
-      grown = more (c .grown); got-in = c .got-in; base-in = c .base-in; due = (d, c .due);
+      grown = more (c .grown);
+      got-in = c .got-in;
+      base-in = c .base-in;
+      due = (d, c .due);
       took = λ k m e. took-up k ν ν′ m (omega arith) (λ j v x. x) (λ v x. List·Memᴰ·tail x) (c .took k m e);
-      have = have; topped = λ e. List·Memᴰ·tail (c .topped e); sent = sent;
-      heard = c .heard; lead = c .lead; no-reads = c .no-reads; no-writes = c .no-writes; known = c .known;
-      phase = phase-post c (value v) (ν .wait) (c .phase) }
+      have = have;
+      topped = λ e. List·Memᴰ·tail (c .topped e);
+      sent = sent;
+      heard = c .heard;
+      lead = c .lead;
+      no-reads = c .no-reads;
+      no-writes = c .no-writes;
+      known = c .known;
+      phase = phase-post c (value v) (ν .wait) (c .phase);
+    }
       where
         ν′ : Node
         ν′ = holding (v ∷ ν .all) (ν .from) ν
+
         have : (x : Message) → x ∈ (value v ∷ l) → Have n f out (γ .base) i r op ν′ x
         have x (List·Memᴰ·head e) =
-          subst (Have n f out (γ .base) i r op ν′) (sym e) (inl (List·Memᴰ·head refl), o)
+            subst (Have n f out (γ .base) i r op ν′) (sym e) (inl (List·Memᴰ·head refl), o)
         have x (List·Memᴰ·tail e) =
-          have-more out (γ .base) i r op (ν .wait) ν ν′ x (omega arith) (omega arith) (λ v x. List·Memᴰ·tail x) (c .have x e)
+            have-more out (γ .base) i r op (ν .wait) ν ν′ x (omega arith) (omega arith) (λ v x. List·Memᴰ·tail x)
+            (c .have x e)
+
         sent : (u : Value) → u ∈ (v ∷ ν .all) → value u ∈ (value v ∷ l)
         sent u (List·Memᴰ·head e) = List·Memᴰ·head (λ j. value (e j))
         sent u (List·Memᴰ·tail e) = List·Memᴰ·tail (c .sent u e)
 
     -- It keeps a good message.
     pub kept-on : Local n f out γ i r op ν l → (t : ℕ) (view : View) → Known n f out t view
-      → Local n f out γ i r op (keep t view ν) l
+        → Local n f out γ i r op (keep t view ν) l
     kept-on c t view k = record {
-      grown = c .grown; got-in = c .got-in; base-in = c .base-in; due = c .due;
+      grown = c .grown;
+      got-in = c .got-in;
+      base-in = c .base-in;
+      due = c .due;
       took = λ j m e. took-up j ν (keep t view ν) m (omega arith) (λ j v x. x) (λ v x. x) (c .took j m e);
       have = λ x e. have-more out (γ .base) i r op (ν .wait) ν (keep t view ν) x (omega arith) (omega arith) (λ v x. x)
-        (c .have x e);
-      topped = c .topped; sent = c .sent; heard = c .heard; lead = c .lead; no-reads = c .no-reads;
-      no-writes = c .no-writes; known = known; phase = c .phase }
+          (c .have x e);
+      topped = c .topped;
+      sent = c .sent;
+      heard = c .heard;
+      lead = c .lead;
+      no-reads = c .no-reads;
+      no-writes = c .no-writes;
+      known = known;
+      phase = c .phase;
+    }
       where
         known : (g : _) → g ∈ keep t view ν .goods → Known n f out (g .tag) (g .view)
         known g (List·Memᴰ·head e) = subst (λ g. Known n f out (g .tag) (g .view)) (sym e) k

@@ -1,17 +1,20 @@
 -- What a step does to the wait of its node, and which values it sends: an idle node stays idle; one that reads goes on
 -- reading, or opens a round, an update with its value, or is spent; one past its reading stays so, or ends.
-use Prim.Native.Nat.{ℕ, zero, suc, _+_, _-_, _≤_, _<_, max}
+use Prim.Native.Nat.{ℕ, suc, _+_, _-_, _≤_, _<_, max}
 use native.Mathlib.Omega.{arith}
-use native.Mathlib.Decide.{ℕ-discrete, decLe}
-use mathlib.Core.Path.{_≡_, refl, sym, _∙_, ap, subst}
+use mathlib.Core.Path.{_≡_, refl, ap, subst}
 use mathlib.Core.Logic.{_⊎_, inl, inr, ite}
-use mathlib.Core.Bool.{true, false}
-use mathlib.Core.List.{List, [], _∷_, _++_, append-nil, List·Memᴰ·head, List·Memᴰ·tail, List·Memᴰ·append-cases}
-use Rattle.theory.specs.Count.{count}
-use Rattle.theory.specs.Log.{_∈_}
-use Rattle.eqaso.specs.Message.{Value, of, View, Message, read, readAnswer, write, writeAnswer, echo, value, good}
-use Rattle.eqaso.specs.Algorithm.{limit, Operation, update, scan, Round, round0, round1, round2, round3, Nodes, nobody, Wait, idle, reading, writing, comparing, borrowing, Node, Rule, direct, borrowed, Ending, none, done, shown, spent, Step, still, sending, ended, then-by, _then_, waiting, agrees, quorum?, kept, viewUpto, finish, opening, afterRead, afterGood, afterFailed, readPass, writePass, comparePass, borrowPass, moveOn}
-use Rattle.eqaso.proofs.Read.{IsValue, readTag}
+use mathlib.Core.List.{List, [], _∷_, List·Memᴰ·head, List·Memᴰ·tail}
+use Rattle.theory.specs.Count.{count, count-none}
+use Rattle.theory.specs.Log.{_∈_, push, push-new}
+use Rattle.eqaso.specs.Message.{Value, of, View, Message, write, value, good}
+use Rattle.eqaso.specs.Algorithm.{Operation, update, scan, Rule, direct, borrowed, Round, round0, round1, round3}
+use Rattle.eqaso.specs.Algorithm.{Nodes, nobody, Wait, idle, reading, writing, comparing, borrowing, Node, Ending}
+use Rattle.eqaso.specs.Algorithm.{none, done, shown, spent, waiting, quorum?, finish}
+use Rattle.eqaso.proofs.Cert.{Log, IsValue, value≢write}
+use Rattle.eqaso.proofs.Read.{readTag}
+use Rattle.eqaso.proofs.Passes.{Claim}
+use Rattle.eqaso.proofs.MoveOn.{Moves}
 
 abbrev pub Rests : Wait → Type 0
 Rests idle = Unit {0}
@@ -27,6 +30,7 @@ Reads (writing o r t s) = ⊥
 Reads (comparing o r t) = ⊥
 Reads (borrowing o t) = ⊥
 
+-- The operation is past its reading.
 abbrev pub Staged : Wait → Type 0
 Staged idle = ⊥
 Staged (reading o s u) = ⊥
@@ -46,113 +50,170 @@ Of op (borrowing o t) = o ≡ op
 abbrev pub Opened : Wait → Type 0
 Opened w = (o : Operation) × (r : Round) × (t : ℕ) × (w ≡ writing o r t nobody)
 
--- The values of a list are among those of the base.
-abbrev pub From : List Message → List Message → Type 0
-From base l = (v : Value) → value v ∈ l → value v ∈ base
+-- What comes after the answers to a write.
+abbrev pub Later : Wait → Type 0
+Later idle = ⊥
+Later (reading o s u) = ⊥
+Later (writing o r t s) = ⊥
+Later (comparing o r t) = Unit {0}
+Later (borrowing o t) = Unit {0}
 
--- The list has the operation's own value, and otherwise values of the base.
-abbrev pub Makes : (i r : ℕ) → Operation → List Message → List Message → Type 0
-Makes i r (update p) base l =
-  (value (of (suc r) i p) ∈ l) × ((v : Value) → value v ∈ l → (value v ∈ base) ⊎ (v ≡ of (suc r) i p))
-Makes i r scan base l = From base l
+later-not-reading : (w : Wait) → Later w → Reads w → ⊥
+later-not-reading (comparing o r t) h x = x
+later-not-reading (borrowing o t) h x = x
 
--- A step of an operation past its reading.
-abbrev pub GoesBy : List Message → Ending → Wait → List Message → Type 0
-GoesBy base none w l = Staged w × From base l
-GoesBy base (done rule v) w l = Rests w × From base l
-GoesBy base (shown rule v) w l = Rests w × From base l
-GoesBy base spent w l = ⊥
+abbrev pub answered : Wait → Nodes
+answered idle = nobody
+answered (reading o s u) = s
+answered (writing o r t s) = s
+answered (comparing o r t) = nobody
+answered (borrowing o t) = nobody
 
-abbrev pub Goes : List Message → Step → Type 0
-Goes base s = GoesBy base (s .ending) (s .node .wait) (s .sent)
+-- The values in a list are such as K says.
+abbrev pub Only : (Value → Type 0) → List Message → Type 0
+Only K l = (v : Value) → value v ∈ l → K v
 
--- A step of an operation that reads, after which it has read r if it has read.
-abbrev pub AsksBy : (i r : ℕ) → Operation → List Message → Ending → Wait → List Message → Type 0
-AsksBy i r op base none w l = (Reads w × From base l) ⊎ (Opened w × Makes i r op base l)
-AsksBy i r op base (done rule v) w l = ⊥
-AsksBy i r op base (shown rule v) w l = ⊥
-AsksBy i r op base spent w l = Rests w × From base l
+-- The list has the operation's own value, and otherwise only such values.
+abbrev pub Makes : (i r : ℕ) → Operation → (Value → Type 0) → List Message → Type 0
+Makes i r (update p) K l = (value (of (suc r) i p) ∈ l) × Only (λ v. K v ⊎ (v ≡ of (suc r) i p)) l
+Makes i r scan K l = Only K l
 
-abbrev pub Asks : (i r : ℕ) → Operation → List Message → Step → Type 0
-Asks i r op base s = AsksBy i r op base (s .ending) (s .node .wait) (s .sent)
+-- The ending of an operation past its reading, and of one that reads.
+abbrev pub EndsBy : (Value → Type 0) → Ending → Wait → List Message → Type 0
+EndsBy K none w l = ⊥
+EndsBy K (done rule v) w l = Rests w × Only K l
+EndsBy K (shown rule v) w l = Rests w × Only K l
+EndsBy K spent w l = ⊥
 
--- A part that does nothing.
-pub then-still : (s : Step) (part : Node → Step) → part (s .node) ≡ still (s .node) → (s then part) ≡ s
-then-still s part e = subst (λ z. then-by s z (s .ending) ≡ s) (sym e) (go (s .ending) refl)
-  where
-    go : (x : Ending) → s .ending ≡ x → then-by s (still (s .node)) x ≡ s
-    go none h = λ j. record { node = s .node; sent = append-nil (s .sent) j; ending = sym h j }
-    go (done rule v) h = refl
-    go (shown rule v) h = refl
-    go spent h = refl
+abbrev pub SpentBy : (Value → Type 0) → Ending → Wait → List Message → Type 0
+SpentBy K none w l = ⊥
+SpentBy K (done rule v) w l = ⊥
+SpentBy K (shown rule v) w l = ⊥
+SpentBy K spent w l = Rests w × Only K l
 
-pub from-append : (base a b : List Message) → From base a → From [] b → From base (a ++ b)
-from-append base a b x y v m = elim (List·Memᴰ·append-cases a m) [ inl h ↦ x v h | inr h ↦ absurd (elim (y v h) [ ]) ]
+module _ (K : Value → Type 0) where
+  -- A message that is no value brings none.
+  pub plain : (m : Message) {l : List Message} → (IsValue m → ⊥) → Only K l → Only K (m ∷ l)
+  plain m other h v (List·Memᴰ·head e) = absurd (other (subst IsValue e tt))
+  plain m other h v (List·Memᴰ·tail x) = h v x
 
-pub goes-then : (base : List Message) (s : Step) (part : Node → Step) → Goes base s
-  → ((ν : Node) (w : Wait) → Staged w → Goes [] (part (waiting w ν))) → Goes base (s then part)
-goes-then base s part h next = go (s .ending) h
-  where
-    t : Step
-    t = part (s .node)
-    later : (e : Ending) (w : Wait) (l : List Message) → From base (s .sent) → GoesBy [] e w l → GoesBy base e w (s .sent ++ l)
-    later none w l x (y, z) = (y, from-append base (s .sent) l x z)
-    later (done rule v) w l x (y, z) = (y, from-append base (s .sent) l x z)
-    later (shown rule v) w l x (y, z) = (y, from-append base (s .sent) l x z)
-    go : (e : Ending) → GoesBy base e (s .node .wait) (s .sent) → Goes base (then-by (record { node = s .node; sent = s .sent; ending = e }) t e)
-    go none (a, b) = later (t .ending) (t .node .wait) (t .sent) b (next (s .node) (s .node .wait) a)
-    go (done rule v) x = x
-    go (shown rule v) x = x
+  -- Of the log after a list, and of the list.
+  pub listed : (l : List Message) → Only K (push l []) → Only K l
+  listed l h v m = h v (push-new [] m)
 
--- A message that is no value brings none.
-pub plain : (m : Message) {l : List Message} → (IsValue m → ⊥) → From [] l → From [] (m ∷ l)
-plain m other h v (List·Memᴰ·head e) = absurd (other (subst IsValue e tt))
-plain m other h v (List·Memᴰ·tail x) = h v x
+  -- An idle node does not move on.
+  pub rest-moves : (n f i : ℕ) → Moves n f i (λ ν l. Rests (ν .wait) × Only K l) (λ ν l. Rests (ν .wait) × Only K l)
+      (λ e ν l. ⊥)
+  rest-moves n f i = record {
+    stays = λ ν l h. h;
+    spends = λ ν l p u s q h. h .0;
+    updates = λ ν l p u s q h. absurd (h .0);
+    scans = λ ν l u s q h. absurd (h .0);
+    compares = λ ν l o r t s q h. absurd (h .0);
+    passes = λ ν l o t le h. absurd (h .0);
+    ends = λ ν l o r t z le h. h .0;
+    fails = λ ν l o r r′ t lt h. absurd (h .0);
+    borrows = λ ν l o t lt h. absurd (h .0);
+    lends = λ ν l o t h. h .0;
+  }
 
-pub empty : From [] []
-empty v m = m
+  finishes : (op : Operation) (rule : Rule) (v : View) (l : List Message) → Only K l
+      → EndsBy K (finish op rule v) idle l
+  finishes (update p) rule v l h = (tt, h)
+  finishes scan rule v l h = (tt, h)
 
-module _ (n f i : ℕ) where
-  pub write-goes : (ν : Node) (w : Wait) → Staged w → Goes [] (writePass n f (waiting w ν) w)
-  write-goes ν (comparing o r t) h = (tt, empty)
-  write-goes ν (borrowing o t) h = (tt, empty)
-  write-goes ν (writing o r t s) h = elim (quorum? n f s)
-    as (λ d. Goes [] (ite d (still (waiting (comparing o r t) ν)) (still (waiting (writing o r t s) ν)))) [
-      yes x ↦ (tt, empty) | no x ↦ (tt, empty) ]
+  -- An operation past its reading stays so, or ends.
+  pub staged-moves : (n f i : ℕ) → Moves n f i (λ ν l. Staged (ν .wait) × Only K l) (λ ν l. Staged (ν .wait) × Only K l)
+      (λ e ν l. EndsBy K e (ν .wait) l)
+  staged-moves n f i = record {
+    stays = λ ν l h. h;
+    spends = λ ν l p u s q h. h .0;
+    updates = λ ν l p u s q h. absurd (h .0);
+    scans = λ ν l u s q h. absurd (h .0);
+    compares = λ ν l o r t s q h. (tt, h .1);
+    passes = λ ν l o t le h. (tt, plain (write _ _) (λ x. x) (plain (good _ _) (λ x. x) (h .1)));
+    ends = λ ν l o r t z le h. finishes o (direct r) _ _ (plain (good _ _) (λ x. x) (h .1));
+    fails = λ ν l o r r′ t lt h. (tt, plain (write _ _) (λ x. x) (h .1));
+    borrows = λ ν l o t lt h. (tt, h .1);
+    lends = λ ν l o t h. finishes o borrowed _ l (h .1);
+  }
 
-  finish-goes : (op : Operation) (rule : Rule) (v : View) (l : List Message) (ν : Node) → From [] l
-    → Goes [] (ended (finish op rule v) l (waiting idle ν))
-  finish-goes (update p) rule v l ν h = (tt, h)
-  finish-goes scan rule v l ν h = (tt, h)
+  -- An operation that reads: it will have read r′ if there is a quorum of answers.
+  module _ (n f i : ℕ) (half : f + f < n) (op : Operation) (r r′ : ℕ) where
+    pub record Asking (ν : Node) (l : List Message) : Type 0 where
+      pub reads : Reads (ν .wait)
+      pub same-op : Of op (ν .wait)
+      pub tag : readTag n f r ν (ν .wait) ≡ r′
+      pub only : Only K l
 
-  good-goes : (op : Operation) (r : Round) (t : ℕ) (v : View) (ν : Node) → Goes [] (afterGood op r t v ν)
-  good-goes op round0 t v ν = (tt, plain (good t v) (λ x. x) (plain (write (suc (ν .request)) (max (suc t) (ν .maxtag))) (λ x. x) empty))
-  good-goes op round1 t v ν = finish-goes op (direct round1) v (good t v ∷ []) ν (plain (good t v) (λ x. x) empty)
-  good-goes op round2 t v ν = finish-goes op (direct round2) v (good t v ∷ []) ν (plain (good t v) (λ x. x) empty)
-  good-goes op round3 t v ν = finish-goes op (direct round3) v (good t v ∷ []) ν (plain (good t v) (λ x. x) empty)
+    abbrev pub Asks : Claim
+    Asks ν l = Asking ν l ⊎ (Opened (ν .wait) × Makes i r′ op K l)
 
-  failed-goes : (op : Operation) (r : Round) (t : ℕ) (ν : Node) → Goes [] (afterFailed op r t ν)
-  failed-goes op round0 t ν = (tt, plain (write (suc (ν .request)) (max (suc t) (ν .maxtag))) (λ x. x) empty)
-  failed-goes op round1 t ν = (tt, plain (write (suc (ν .request)) (ν .maxtag)) (λ x. x) empty)
-  failed-goes op round2 t ν = (tt, plain (write (suc (ν .request)) (ν .maxtag)) (λ x. x) empty)
-  failed-goes op round3 t ν = (tt, empty)
+    not-reading : {w : Wait} → Opened w → Reads w → ⊥
+    not-reading (o, rnd, t, e) h = subst Reads e h
 
-  pub compare-goes : (ν : Node) (w : Wait) → Staged w → Goes [] (comparePass n f i (waiting w ν) w)
-  compare-goes ν (writing o r t s) h = (tt, empty)
-  compare-goes ν (borrowing o t) h = (tt, empty)
-  compare-goes ν (comparing o r t) h = go (quorum? n f (agrees i ν′ t)) (decLe (ν .maxtag) t)
-    where
-      ν′ : Node
-      ν′ = waiting (comparing o r t) ν
-      go : (d : Dec (n - f ≤ count (agrees i ν′ t) n)) (d′ : Dec (ν .maxtag ≤ t)) → Goes []
-        (ite d (ite d′ (afterGood o r t (viewUpto n t (ν .all)) ν′) (afterFailed o r t ν′)) (still ν′))
-      go (yes x) (yes y) = good-goes o r t (viewUpto n t (ν .all)) ν′
-      go (yes x) (no y) = failed-goes o r t ν′
-      go (no x) d′ = (tt, empty)
+    read-is : {P : Type 0} (d : Dec P) (a : ℕ) → P → ite d a r ≡ r′ → a ≡ r′
+    read-is (yes h) a p e = e
+    read-is (no h) a p e = absurd (h p)
 
-  pub borrow-goes : (ν : Node) (w : Wait) → Staged w → Goes [] (borrowPass n (waiting w ν) w)
-  borrow-goes ν (writing o r t s) h = (tt, empty)
-  borrow-goes ν (comparing o r t) h = (tt, empty)
-  borrow-goes ν (borrowing o t) h = elim (decLe t (kept n (ν .goods) .tag))
-    as (λ d. Goes [] (ite d (ended (finish o borrowed (kept n (ν .goods) .view)) [] (waiting idle ν)) (still (waiting (borrowing o t) ν)))) [
-      yes x ↦ finish-goes o borrowed (kept n (ν .goods) .view) [] ν empty | no x ↦ (tt, empty) ]
+    compared : (ν : Node) (l : Log) → Later (ν .wait) → Asks ν l → ⊥
+    compared ν l h (inl a) = later-not-reading (ν .wait) h (a .reads)
+    compared ν l h (inr ((o, rnd, t, e), x)) = subst Later e h
+
+    spends : (ν : Node) (l : Log) (o : Operation) (s : Nodes) (u : ℕ) → Asks (waiting (reading o s u) ν) l
+        → Unit {0} × Only K l
+    spends ν l o s u (inl a) = (tt, a .only)
+    spends ν l o s u (inr (o′, x)) = absurd (not-reading o′ tt)
+
+    makes : (l : Log) (p q t : ℕ) → Only K l → Makes i t (update p) K (write q t ∷ value (of (suc t) i p) ∷ l)
+    makes l p q t only = (List·Memᴰ·tail (List·Memᴰ·head refl), own)
+      where
+        own : (v : Value) → value v ∈ (write q t ∷ value (of (suc t) i p) ∷ l) → K v ⊎ (v ≡ of (suc t) i p)
+        own v (List·Memᴰ·head e) = absurd (value≢write e)
+        own v (List·Memᴰ·tail (List·Memᴰ·head e)) = inr (cc e)
+        own v (List·Memᴰ·tail (List·Memᴰ·tail m)) = inl (only v m)
+
+    updates : (ν : Node) (l : Log) (p u : ℕ) (s : Nodes) → n - f ≤ count s n
+        → Asks (waiting (reading (update p) s u) ν) l
+        → let t = max u (ν .maxtag) in Opened (writing (update p) round0 t nobody)
+        × Makes i r′ op K (write (suc (ν .request)) t ∷ value (of (suc t) i p) ∷ l)
+    updates ν l p u s q (inr (o, x)) = absurd (not-reading o tt)
+    updates ν l p u s q (inl a) =
+        let t = max u (ν .maxtag) in
+        let l′ : Log = write (suc (ν .request)) t ∷ value (of (suc t) i p) ∷ l in (
+          (update p, round0, t, refl),
+          subst (λ z. Makes i z op K l′) (read-is (quorum? n f s) t q (a .tag))
+              (subst (λ z. Makes i t z K l′) (a .same-op) (makes l p (suc (ν .request)) t (a .only))),
+        )
+
+    scans : (ν : Node) (l : Log) (u : ℕ) (s : Nodes) → n - f ≤ count s n → Asks (waiting (reading scan s u) ν) l
+        → let t = max u (ν .maxtag) in Opened (writing scan round1 t nobody)
+        × Makes i r′ op K (write (suc (ν .request)) t ∷ l)
+    scans ν l u s q (inr (o, x)) = absurd (not-reading o tt)
+    scans ν l u s q (inl a) =
+        let t = max u (ν .maxtag) in (
+          (scan, round1, t, refl),
+          subst (λ z. Makes i r′ z K (write (suc (ν .request)) t ∷ l)) (a .same-op)
+              (plain (write (suc (ν .request)) t) (λ x. x) (a .only)),
+        )
+
+    -- A round that has just opened has no quorum.
+    opened : (ν : Node) (l : Log) (o : Operation) (rnd : Round) (t : ℕ) (s : Nodes) → n - f ≤ count s n
+        → Asks (waiting (writing o rnd t s) ν) l → ⊥
+    opened ν l o rnd t s q (inl a) = a .reads
+    opened ν l o rnd t s q (inr ((o′, rnd′, t′, e), x)) =
+        omega (arith, subst (λ z. n - f ≤ count z n) (ap answered e) q, count-none n)
+
+    pub ask-moves : Moves n f i Asks Asks (λ e ν l. SpentBy K e (ν .wait) l)
+    ask-moves = record {
+      stays = λ ν l h. h;
+      spends = λ ν l p u s q h. spends ν l (update p) s u h;
+      updates = λ ν l p u s q h. inr (updates ν l p u s q h);
+      scans = λ ν l u s q h. inr (scans ν l u s q h);
+      compares = λ ν l o rnd t s q h. absurd (opened ν l o rnd t s q h);
+      passes = λ ν l o t le h. absurd (compared (waiting (comparing o round0 t) ν) l tt h);
+      ends = λ ν l o rnd t z le h. absurd (compared (waiting (comparing o rnd t) ν) l tt h);
+      fails = λ ν l o rnd rnd′ t lt h. absurd (compared (waiting (comparing o rnd t) ν) l tt h);
+      borrows = λ ν l o t lt h. absurd (compared (waiting (comparing o round3 t) ν) l tt h);
+      lends = λ ν l o t h. absurd (compared (waiting (borrowing o t) ν) l tt h);
+    }

@@ -1,37 +1,23 @@
 -- Where nothing waits on a channel to a standing node, every standing node is idle.
-use Prim.Native.Nat.{ℕ, zero, suc, _+_, _≤_, _<_}
+use Prim.Native.Nat.{ℕ, _+_, _≤_, _<_}
 use native.Mathlib.Omega.{arith}
-use mathlib.Core.Path.{_≡_, refl, ap, sym, subst, _∙_}
-use mathlib.Core.Bool.{Bool, true, false, not, false≢true}
+use mathlib.Core.Path.{_≡_, ap, sym, subst, _∙_}
+use mathlib.Core.Bool.{Bool, false, not}
 use mathlib.Core.List.{[]}
-use Rattle.theory.specs.Count.{bit, count}
+use Rattle.theory.specs.Count.{count, count-not}
 use Rattle.theory.specs.Log.{_∈_}
 use Rattle.eqaso.specs.Message.{Message, good}
 use Rattle.eqaso.specs.Algorithm.{Wait, idle, reading, writing, comparing, borrowing}
 use Rattle.eqaso.specs.Cluster.{Cluster}
 use Rattle.eqaso.specs.Order.{OneTo}
 use Rattle.eqaso.proofs.Meant.{Meant}
+use Rattle.eqaso.proofs.Sets.{not-true}
 use Rattle.eqaso.proofs.Between.{Between, all-handed}
-use Rattle.eqaso.proofs.World.{logs}
+use Rattle.eqaso.proofs.Sites.{logs}
 use Rattle.eqaso.proofs.Mark.{Low}
 use Rattle.eqaso.proofs.Standstill.{Lent, Drained, no-wait}
 use Rattle.eqaso.specs.Trace.{Trace}
-use Rattle.eqaso.proofs.Run.{Good, gots}
-
--- Who has not stopped.
-count-not : (p : ℕ → Bool) (n : ℕ) → count p n + count (λ k. not (p k)) n ≡ n
-unfolding count
-count-not p zero = refl
-count-not p (suc n) = step (p (suc n)) (count-not p n)
-  where
-    step : (b : Bool) → count p n + count (λ k. not (p k)) n ≡ n
-        → bit b + count p n + (bit (not b) + count (λ k. not (p k)) n) ≡ suc n
-    step true h = omega arith
-    step false h = omega arith
-
-not-true : (b : Bool) → not b ≡ true → b ≡ false
-not-true true e = absurd (false≢true e)
-not-true false e = refl
+use Rattle.eqaso.proofs.Good.{Good, gots}
 
 module _ {n f : ℕ} {σ : Cluster} {tr : Trace} (half : f + f < n) (R : Good n f σ tr) (few : count (σ .stopped) n ≤ f)
     (empty : (a b : ℕ) → OneTo n a → OneTo n b → σ .stopped b ≡ false → σ .channel a b ≡ []) where

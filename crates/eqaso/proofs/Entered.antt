@@ -19,8 +19,7 @@ use Rattle.eqaso.proofs.Extend.{ownAt, begun-old, begun-last, begun-pas
 use Rattle.eqaso.proofs.Extend.{tag-last}
 use Rattle.eqaso.proofs.Rows.{Listed, Row, rowIn, rowOf, row-by, book-by, own-take, listed-out, Known, fate-calm}
 use Rattle.eqaso.proofs.Rows.{tag-calm, row-calm, row-ended}
-use Rattle.eqaso.proofs.Handler.{own-only, ending-only, ending-here, own-here}
-use Rattle.eqaso.proofs.Handler.{begunIn, endingIn, ownIn, Told}
+use Rattle.eqaso.proofs.Handler.{own-only, ending-only, ending-here, own-here, begunIn, endingIn, ownIn, Told}
 
 -- The ending is one that is given.
 abbrev pub Given : Ending → Type 0

@@ -6,8 +6,8 @@ use native.Mathlib.Omega.{arith}
 use native.Mathlib.Decide.{decLe}
 use mathlib.Core.Path.{_≡_, refl, ap, sym, subst, _∙_}
 use mathlib.Core.Logic.{_⊎_, inl, inr, ite, if-pos, if-neg}
-use mathlib.Core.List.{List, [], _∷_, _++_, append-nil, append-assoc}
-use mathlib.Core.List.{List·Memᴰ·head, Memᴰ·append-left, Memᴰ·append-right}
+use mathlib.Core.List.{List, [], _∷_, _++_, append-nil, append-assoc, List·Memᴰ·head, Memᴰ·append-left}
+use mathlib.Core.List.{Memᴰ·append-right}
 use lib.ListN.{length, take, length-append}
 use lib.Seq.{take-nil, take-length}
 use Rattle.theory.specs.Log.{_∈_, _⊑_, here, push, push-append, push-up}
@@ -15,8 +15,8 @@ use Rattle.eqaso.specs.Message.{Message}
 use Rattle.eqaso.specs.Cluster.{Extent, whole, cut, addressed, entries, letOut, sentTo}
 use Rattle.eqaso.specs.Order.{OneTo}
 use Rattle.eqaso.proofs.Meant.{address, pick, pick-append}
-use Rattle.eqaso.proofs.Entries.{size, enough, enough-some, one-front, length-addressed}
-use Rattle.eqaso.proofs.Entries.{take-append, sentTo-append}
+use Rattle.eqaso.proofs.Entries.{size, enough, enough-some, one-front, length-addressed, take-append}
+use Rattle.eqaso.proofs.Entries.{sentTo-append}
 
 -- The front part of a list that its first k entries let out towards node b.
 unfoldable pub first : (n k b : ℕ) → List Message → List Message

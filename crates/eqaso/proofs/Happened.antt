@@ -7,8 +7,8 @@ use mathlib.Core.List.{List, [], _∷_, _++_, append-nil, append-assoc}
 use Rattle.theory.specs.Count.{count}
 use Rattle.theory.specs.Update.{upd2}
 use Rattle.eqaso.specs.Message.{Message}
-use Rattle.eqaso.specs.Algorithm.{limit, Operation, Wait, idle, reading, writing, comparing, borrowing}
-use Rattle.eqaso.specs.Algorithm.{Step, still, beginStep, messageStep}
+use Rattle.eqaso.specs.Algorithm.{limit, Operation, Wait, idle, reading, writing, comparing, borrowing, Step}
+use Rattle.eqaso.specs.Algorithm.{still, beginStep, messageStep}
 use Rattle.eqaso.specs.Cluster.{Extent, whole, cut, Event, begin, deliver, stop, Cluster, start, Result, refuse}
 use Rattle.eqaso.specs.Cluster.{entries, letOut, commit, demand, holds, roomy, isNode, stands, isIdle, mayCut}
 use Rattle.eqaso.specs.Cluster.{mayStop, deliverFirst, event, after}

@@ -1,22 +1,23 @@
--- What the sites know of the operations in the book: every ended operation has left its certificate, every value that was
+-- What the sites know of the operations in the book: every ended operation has left its certificate, every value that
+-- was
 -- let out is that of an update in the book, and the open operation of a node is the one that its wait speaks of.
-use Prim.Native.Nat.{ℕ, suc, _≤_, _<_}
-use native.Mathlib.Omega.{arith}
-use mathlib.Core.Path.{_≡_, refl, sym, _∙_, ap, subst}
-use mathlib.Core.Logic.{_⊎_, inl, inr, _≢_, _↔_}
-use mathlib.Core.Bool.{Bool, true, false}
-use mathlib.Core.List.{List, [], _∷_, List·Memᴰ·head}
-use Rattle.theory.specs.Log.{_∈_, _⊑_, here, more, ⊑-trans, mem-up, placed, place, comparable, cons-or}
+use Prim.Native.Nat.{ℕ, suc, _<_}
+use mathlib.Core.Path.{_≡_, refl, sym, subst}
+use mathlib.Core.Logic.{_⊎_, inl, inr, _↔_}
+use mathlib.Core.Bool.{Bool, false}
+use mathlib.Core.List.{_∷_}
+use Rattle.theory.specs.Log.{_∈_, _⊑_, here, more, ⊑-trans, mem-up, place, comparable}
 use Rattle.eqaso.specs.Message.{Value, of, View, value}
-use Rattle.eqaso.specs.Algorithm.{Operation, update, scan, Wait, idle, reading, writing, comparing, borrowing, none, done, shown, spent}
+use Rattle.eqaso.specs.Algorithm.{Operation, update, scan, Wait, idle, reading, writing, comparing, borrowing}
+use Rattle.eqaso.specs.Algorithm.{none, done, shown, spent}
 use Rattle.eqaso.specs.Trace.{Begun, nothing, updating, scanning, Fate, unfinished, ended}
 use Rattle.eqaso.specs.Order.{OneTo, EndedBefore}
 use Rattle.eqaso.proofs.Cert.{Log, Logs, _≼_, carry}
 use Rattle.eqaso.proofs.Local.{Settled, Known}
 use Rattle.eqaso.proofs.Grow.{settled-up}
-use Rattle.eqaso.proofs.World.{Site, Sites, logs}
+use Rattle.eqaso.proofs.Sites.{Site, Sites, logs}
 use Rattle.eqaso.proofs.Course.{Rests, Reads, Staged}
-use Rattle.eqaso.proofs.Book.{Book, At, IdleAt, OpenAt}
+use Rattle.eqaso.proofs.Book.{Book, IdleAt, OpenAt}
 
 -- What begins at node c with an operation.
 abbrev pub kindOf : ℕ → Operation → Begun
@@ -41,9 +42,12 @@ behind-up {u} {x} {l} {l′} up (m, h) = (mem-up up m, λ a at. go a (comparable
   where
     old : (a : Log) → (value x ∷ a) ⊑ l → value u ∈ a
     old = h
+
     step : (a b : Log) → l ≡ b → b ⊑ (value x ∷ a) → value u ∈ a
     step a b e here = h a (subst (λ z. (value x ∷ a) ⊑ z) (sym e) here)
-    step a b e (more p) = let (c, at) = place m in mem-up (⊑-trans (more here) (⊑-trans at (subst (λ z. z ⊑ a) (sym e) p))) (h c at)
+    step a b e (more p) = let (c, at) =
+        place m in mem-up (⊑-trans (more here) (⊑-trans at (subst (λ z. z ⊑ a) (sym e) p))) (h c at)
+
     go : (a : Log) → ((value x ∷ a) ⊑ l) ⊎ (l ⊑ (value x ∷ a)) → value u ∈ a
     go a (inl p) = h a p
     go a (inr p) = step a l refl p
@@ -88,15 +92,15 @@ module _ (n f : ℕ) where
 
   -- The same by the kind of the wait.
   pub mode-rests : (B : Book) (c : ℕ) (op : Operation) (r : ℕ) (base : Logs) (w : Wait) → Rests w
-    → Mode B c op r base w ↔ IdleAt B c
+      → Mode B c op r base w ↔ IdleAt B c
   mode-rests B c op r base idle h = (λ x. x, λ x. x)
 
   pub mode-reads : (B : Book) (c : ℕ) (op : Operation) (r : ℕ) (base : Logs) (w : Wait) → Reads w
-    → Mode B c op r base w ↔ ((t : ℕ) × Runs B c op base t × (B .tag t ≡ 0))
+      → Mode B c op r base w ↔ ((t : ℕ) × Runs B c op base t × (B .tag t ≡ 0))
   mode-reads B c op r base (reading o s u) h = (λ x. x, λ x. x)
 
   pub mode-staged : (B : Book) (c : ℕ) (op : Operation) (r : ℕ) (base : Logs) (w : Wait) → Staged w
-    → Mode B c op r base w ↔ ((t : ℕ) × Runs B c op base t × Tagged op r (B .tag t))
+      → Mode B c op r base w ↔ ((t : ℕ) × Runs B c op base t × Tagged op r (B .tag t))
   mode-staged B c op r base (writing o rnd u s) h = (λ x. x, λ x. x)
   mode-staged B c op r base (comparing o rnd u) h = (λ x. x, λ x. x)
   mode-staged B c op r base (borrowing o u) h = (λ x. x, λ x. x)
@@ -106,7 +110,7 @@ module _ (n f : ℕ) where
     pub left : (a : ℕ) → LeftIn (logs σ) B a
     pub booked : (a b : ℕ) (v : Value) → OneTo n b → value v ∈ gone a b → Booked B v
     pub behind : (u x c d p q : ℕ) → B .begun u ≡ updating c p → B .begun x ≡ updating d q → EndedBefore (B .fate u) x
-      → 0 < B .tag u → 0 < B .tag x → Behind (of (B .tag u) c p) (of (B .tag x) d q) (σ d .log)
+        → 0 < B .tag u → 0 < B .tag x → Behind (of (B .tag u) c p) (of (B .tag x) d q) (σ d .log)
 
   pub certified-up : {lg lg′ : Logs} {v : View} → lg ≼ lg′ → Certified lg v → Certified lg′ v
   certified-up up (T, (A, is, G)) = (T, (A, is, carry up G))

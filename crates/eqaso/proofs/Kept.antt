@@ -9,8 +9,7 @@ use Rattle.theory.specs.Log.{_∈_}
 use Rattle.theory.specs.Update.{upd-same, upd-other}
 use Rattle.eqaso.specs.Message.{View}
 use Rattle.eqaso.specs.Algorithm.{Ending, none, done, shown, spent, Rule}
-use Rattle.eqaso.specs.Trace.{Seen, Trace, handler, Begun, nothing, updating, scanning, begun}
-use Rattle.eqaso.specs.Trace.{ended, ownTags}
+use Rattle.eqaso.specs.Trace.{Seen, Trace, handler, Begun, nothing, updating, scanning, begun, ended, ownTags}
 use Rattle.eqaso.specs.Order.{OneTo}
 use Rattle.eqaso.specs.Claims.{HasView, viewIn}
 use Rattle.eqaso.proofs.Book.{Book, bookOf, begins, tags, ends, At, IdleAt, OpenAt}

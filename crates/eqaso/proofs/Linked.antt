@@ -1,5 +1,5 @@
 -- The state of a cluster and the trace that led to it agree: who has stopped, and what waits on the channels.
-use Prim.Native.Nat.{ℕ, zero, suc, _≤_}
+use Prim.Native.Nat.{ℕ, _≤_}
 use native.Mathlib.Omega.{arith}
 use mathlib.Core.Path.{_≡_, refl, ap, sym, subst, _∙_}
 use mathlib.Core.Logic.{inl, inr}
@@ -7,7 +7,7 @@ use mathlib.Core.Bool.{false, _||_}
 use mathlib.Core.List.{List, [], _∷_, _++_, append-assoc, List·Memᴰ·append-cases}
 use lib.ListN.{length, length-append}
 use lib.Seq.{drop-at}
-use Rattle.theory.specs.Count.{count}
+use Rattle.theory.specs.Count.{count, count-none}
 use Rattle.theory.specs.Log.{_∈_}
 use Rattle.eqaso.specs.Message.{Message}
 use Rattle.eqaso.specs.Algorithm.{fresh}
@@ -60,11 +60,6 @@ linked-kept n f σ tr e h L = record {
       letOutTo-snoc tr o a b ∙ ap (λ z. z ++ passed o a b) is ∙ append-assoc l (σ .channel a b) (passed o a b)
           ∙ ap (λ z. l ++ z) (M .moves) ∙ sym (append-assoc l (M .handed) (outcome h .cluster .channel a b)),
     )
-
-count-none : (n : ℕ) → count (λ c. false) n ≤ 0
-unfolding count
-count-none zero = omega arith
-count-none (suc n) = let h = count-none n in omega arith
 
 linked-start : (n f : ℕ) → Linked n f start []
 unfolding stopped handedOver letOutTo

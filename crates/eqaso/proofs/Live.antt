@@ -10,7 +10,9 @@ use mathlib.Core.List.{List, [], _∷_, List·Memᴰ·head, List·Memᴰ·tail}
 use Rattle.theory.specs.Update.{upd, upd-same, upd-all}
 use Rattle.theory.specs.Log.{_∈_, _⊑_, here, more, mem-up, push}
 use Rattle.eqaso.specs.Message.{Value, Message, read, readAnswer, write, writeAnswer, echo, value, good}
-use Rattle.eqaso.specs.Algorithm.{Operation, update, scan, round0, round1, nobody, Wait, idle, reading, writing, comparing, borrowing, Good, Node, sending, _then_, waiting, asking, kept, keep, react, messageStep, beginStep}
+use Rattle.eqaso.specs.Algorithm.{Operation, update, scan, round0, round1, nobody, Wait, idle, reading, writing}
+use Rattle.eqaso.specs.Algorithm.{comparing, borrowing, Good, Node, sending, _then_, waiting, asking, kept, keep}
+use Rattle.eqaso.specs.Algorithm.{react, messageStep, beginStep}
 use Rattle.eqaso.proofs.Cert.{Log, Logs}
 use Rattle.eqaso.proofs.Meant.{Meant, Others}
 use Rattle.eqaso.proofs.Change.{topping, holding}
@@ -145,7 +147,7 @@ module _ (n : ℕ) where
   react-live {i} {got} k (readAnswer to q t) ν l c h =
       read-cases (λ w. Live i got (waiting w ν) l) (λ ν. Reacts i got k (readAnswer to q t) ν l) k q t ν (ν .wait) c
       (λ is. (c, λ x. (h x, is)))
-      (λ op s u c. (
+      (λ op s u e c. (
         changed c (waiting (reading op (upd s k true) (max u t)) ν) l (omega arith) here
             (inr (refl, counted-more s k, λ j u x. tt)) (c .asks),
         λ x. (h x, λ y. upd-same s k true),
@@ -158,7 +160,7 @@ module _ (n : ℕ) where
   react-live {i} {got} k (writeAnswer to q t) ν l c h =
       write-cases (λ w. Live i got (waiting w ν) l) (λ ν. Reacts i got k (writeAnswer to q t) ν l) k q t ν (ν .wait) c
       (λ is. (c, λ x. (h x, is)))
-      (λ op r u s c. (
+      (λ op r u s e d c. (
         changed c (waiting (writing op r u (upd s k true)) ν) l (omega arith) here
             (inr (refl, λ j x. tt, λ j v x z. counted-more s k j (x z))) (c .asks),
         λ x. (h x, λ y z. upd-same s k true),
@@ -178,7 +180,8 @@ module _ (n : ℕ) where
     live-moves = record {
       stays = λ ν l c. c;
       spends = λ ν l p u s x c. silent c idle l here (λ k. tt) (λ k t. tt) tt;
-      updates = λ ν l p u s x c. asked c (writing (update p) round0 _ nobody) _ (more (more here)) (List·Memᴰ·head refl);
+      updates = λ ν l p u s x c. asked c (writing (update p) round0 _ nobody) _ (more (more here))
+          (List·Memᴰ·head refl);
       scans = λ ν l u s x c. asked c (writing scan round1 _ nobody) _ (more here) (List·Memᴰ·head refl);
       compares = λ ν l op r t s x c. silent c (comparing op r t) l here (λ k. tt) (λ k t. tt) tt;
       passes = λ ν l op t h c. asked c (writing op round1 (suc t) nobody) _ (more (more here)) (List·Memᴰ·head refl);

@@ -10,7 +10,8 @@ use Rattle.theory.specs.Count.{count}
 use Rattle.theory.specs.Update.{upd}
 use Rattle.theory.specs.Log.{_∈_, _⊑_, Each}
 use Rattle.eqaso.specs.Message.{Value, of, View, Message, read, readAnswer, write, writeAnswer, echo, value, good}
-use Rattle.eqaso.specs.Algorithm.{Operation, update, scan, Round, round0, round1, round2, round3, Nodes, Wait, idle, reading, writing, comparing, borrowing, Good, Node, viewUpto}
+use Rattle.eqaso.specs.Algorithm.{Operation, update, scan, Round, round0, round1, round2, round3, Nodes, Wait}
+use Rattle.eqaso.specs.Algorithm.{idle, reading, writing, comparing, borrowing, Good, Node, viewUpto}
 use Rattle.eqaso.proofs.Cert.{Log, Logs, _≼_, Echoed, Cert}
 
 -- What the proof remembers of the open operation of a node, beside its state.
@@ -60,7 +61,8 @@ pub record WriteDue (out : Logs) (to q t : ℕ) (l : Log) : Type 0 where
 pub record ValueDue (k : ℕ) (out : Logs) (v : Value) (l : Log) : Type 0 where
   pub tagged : 0 < v .tag
   pub rise : (u : Value) → v .writer ≡ k → value u ∈ l → u .writer ≡ k → (u ≡ v) ⊎ (u .tag < v .tag)
-  pub source : (v .writer ≡ k) ⊎ ((p : Log) × ((value v ∷ p) ⊑ out (v .writer)) × ((u : Value) → value u ∈ p → value u ∈ l))
+  pub source : (v .writer ≡ k) ⊎
+      ((p : Log) × ((value v ∷ p) ⊑ out (v .writer)) × ((u : Value) → value u ∈ p → value u ∈ l))
 
 -- What a message from node k says of the node that it was handed to.
 abbrev pub Took : ℕ → Node → Message → Type 0
@@ -131,7 +133,8 @@ module _ (n f : ℕ) where
   Have out base i r op ν (readAnswer to q t) = Unit {0}
   Have out base i r op ν (writeAnswer to q t) = Unit {0}
   Have out base i r op ν (echo t) = t ≤ ν .maxtag
-  Have out base i r op ν (value v) = ((v ∈ ν .all) ⊎ Pending i r op (ν .wait) v) × (v .writer ≡ i → Olds out base i r op (ν .wait) v)
+  Have out base i r op ν (value v) = ((v ∈ ν .all) ⊎ Pending i r op (ν .wait) v)
+      × (v .writer ≡ i → Olds out base i r op (ν .wait) v)
   Have out base i r op ν (good t v) = Unit {0}
 
   -- A quorum had sent the value, and an echo of its tag, before any echo above t.
@@ -181,7 +184,8 @@ abbrev pub WroteBy : (γ : Past) (i r : ℕ) (op : Operation) (t k : ℕ) → Ty
 WroteBy γ i r op t k = (a : Log) × Wrote γ i r op t k a
 
 module _ (n f : ℕ) where
-  pub record Writes (out : Logs) (γ : Past) (i r : ℕ) (op : Operation) (q : ℕ) (l : Log) (rnd : Round) (t : ℕ) (s : Nodes) : Type 0 where
+  pub record Writes (out : Logs) (γ : Past) (i r : ℕ) (op : Operation) (q : ℕ) (l : Log) (rnd : Round) (t : ℕ)
+      (s : Nodes) : Type 0 where
     pub stage : Stage n f out γ i r op l rnd t
     pub at : Log
     pub asked : (write q t ∷ at) ⊑ l

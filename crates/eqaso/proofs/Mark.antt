@@ -10,7 +10,9 @@ use mathlib.Core.List.{[], _∷_, List·Memᴰ·head, List·Memᴰ·tail}
 use Rattle.theory.specs.Update.{upd}
 use Rattle.theory.specs.Log.{_∈_, push}
 use Rattle.eqaso.specs.Message.{of, View, Message, read, readAnswer, write, writeAnswer, echo, value, good}
-use Rattle.eqaso.specs.Algorithm.{Operation, update, scan, round0, round1, nobody, Wait, idle, reading, writing, comparing, borrowing, Node, sending, _then_, waiting, viewUpto, react, messageStep, beginStep}
+use Rattle.eqaso.specs.Algorithm.{Operation, update, scan, round0, round1, nobody, Wait, idle, reading, writing}
+use Rattle.eqaso.specs.Algorithm.{comparing, borrowing, Node, sending, _then_, waiting, viewUpto, react}
+use Rattle.eqaso.specs.Algorithm.{messageStep, beginStep}
 use Rattle.eqaso.proofs.Cert.{Log}
 use Rattle.eqaso.proofs.Change.{turned, topping}
 use Rattle.eqaso.proofs.Cases.{raise-cases, receive-cases, read-cases, write-cases}
@@ -98,13 +100,13 @@ module _ (M : ℕ) where
   react-marked k (read q) ν l h c = post (readAnswer k q (ν .maxtag)) (c .top) c
   react-marked k (readAnswer to q t) ν l h c =
       read-cases (λ w. Marked M (waiting w ν) l) (λ ν. Marked M ν l) k q t ν (ν .wait) c (λ is. c)
-      (λ op s u c. turn (reading op (upd s k true) (max u t)) (ν .request) (omega (arith, c .low)) c)
+      (λ op s u e c. turn (reading op (upd s k true) (max u t)) (ν .request) (omega (arith, c .low)) c)
   react-marked k (write q t) ν l h c = raise-cases
       (λ s. let z = s then sending (writeAnswer k q t ∷ []) in Marked M (z .node) (push (z .sent) l)) t ν
       (post (writeAnswer k q t) tt (topped t h c)) (post (writeAnswer k q t) tt c)
   react-marked k (writeAnswer to q t) ν l h c =
       write-cases (λ w. Marked M (waiting w ν) l) (λ ν. Marked M ν l) k q t ν (ν .wait) c (λ is. c)
-      (λ op r u s c. turn (writing op r u (upd s k true)) (ν .request) (c .low) c)
+      (λ op r u s e d c. turn (writing op r u (upd s k true)) (ν .request) (c .low) c)
   react-marked k (echo t) ν l h c = raise-cases (λ s. Marked M (s .node) (push (s .sent) l)) t ν (topped t h c) c
   react-marked k (value v) ν l h c = receive-cases (λ s. Marked M (s .node) (push (s .sent) l)) k v ν
       (record { top = c .top; low = c .low; said = c .said })

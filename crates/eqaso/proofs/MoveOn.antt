@@ -8,7 +8,11 @@ use mathlib.Core.List.{[], _∷_}
 use Rattle.theory.specs.Count.{count}
 use Rattle.theory.specs.Log.{push}
 use Rattle.eqaso.specs.Message.{of, Message, read, write, value, good}
-use Rattle.eqaso.specs.Algorithm.{limit, Operation, update, scan, direct, borrowed, Round, round0, round1, round2, round3, Nodes, nobody, Wait, idle, reading, writing, comparing, borrowing, Node, Step, spent, ended, still, sending, _then_, waiting, asking, agrees, quorum?, kept, viewUpto, opening, finish, afterRead, afterGood, afterFailed, readPass, writePass, comparePass, borrowPass, moveOn, react, messageStep, beginStep}
+use Rattle.eqaso.specs.Algorithm.{limit, Operation, update, scan, direct, borrowed, Round, round0, round1, round2}
+use Rattle.eqaso.specs.Algorithm.{round3, Nodes, nobody, Wait, idle, reading, writing, comparing, borrowing, Node}
+use Rattle.eqaso.specs.Algorithm.{Step, spent, ended, still, sending, _then_, waiting, asking, agrees, quorum?}
+use Rattle.eqaso.specs.Algorithm.{kept, viewUpto, opening, finish, afterRead, afterGood, afterFailed, readPass}
+use Rattle.eqaso.specs.Algorithm.{writePass, comparePass, borrowPass, moveOn, react, messageStep, beginStep}
 use Rattle.eqaso.proofs.Cert.{Log}
 use Rattle.eqaso.proofs.Passes.{Claim, Final, Leaves, move-leaves, finished, reacted}
 
@@ -34,7 +38,8 @@ pub record Moves (n f i : ℕ) (P Q : Claim) (E : Final) : Type 0 where
       → P (waiting (reading (update p) s u) ν) l → let t = max u (ν .maxtag) in
       P (writes (update p) round0 t ν) (write (suc (ν .request)) t ∷ value (of (suc t) i p) ∷ l)
   pub scans : (ν : Node) (l : Log) (u : ℕ) (s : Nodes) → n - f ≤ count s n
-      → P (waiting (reading scan s u) ν) l → let t = max u (ν .maxtag) in P (writes scan round1 t ν) (write (suc (ν .request)) t ∷ l)
+      → P (waiting (reading scan s u) ν) l
+      → let t = max u (ν .maxtag) in P (writes scan round1 t ν) (write (suc (ν .request)) t ∷ l)
   -- A quorum of write answers.
   pub compares : (ν : Node) (l : Log) (op : Operation) (r : Round) (t : ℕ) (s : Nodes) → n - f ≤ count s n
       → P (waiting (writing op r t s) ν) l → P (waiting (comparing op r t) ν) l

@@ -1,11 +1,12 @@
 -- What a step leaves: the invariant, and with an ending the certificate of its view.
-use Prim.Native.Nat.{ℕ, suc, _+_, _-_, _≤_, _<_}
-use mathlib.Core.Path.{_≡_, refl, sym, subst}
-use mathlib.Core.List.{List, [], _∷_, _++_}
+use Prim.Native.Nat.{ℕ, suc, _≤_}
+use mathlib.Core.Path.{_≡_}
+use mathlib.Core.List.{List}
 use Rattle.theory.specs.Update.{upd}
 use Rattle.theory.specs.Log.{_∈_, push, push-append}
 use Rattle.eqaso.specs.Message.{Value, of, View}
-use Rattle.eqaso.specs.Algorithm.{Operation, update, scan, Node, Ending, none, done, shown, spent, Step, still, then-by, _then_, viewUpto}
+use Rattle.eqaso.specs.Algorithm.{Operation, update, scan, Node, Ending, none, done, shown, spent, Step, still}
+use Rattle.eqaso.specs.Algorithm.{then-by, _then_, viewUpto}
 use Rattle.eqaso.proofs.Cert.{Log, Logs, Inside, Cert}
 use Rattle.eqaso.proofs.Local.{Past, Settled, Local}
 
@@ -45,18 +46,21 @@ module _ (n f : ℕ) where
 
     -- One part of a step after another.
     pub chain : (s : Step) (part : Node → Step) → Fine out γ i r op l s
-      → (Local n f out γ i r op (s .node) (push (s .sent) l) → Fine out γ i r op (push (s .sent) l) (part (s .node)))
-      → Fine out γ i r op l (s then part)
+        → (Local n f out γ i r op (s .node) (push (s .sent) l) → Fine out γ i r op (push (s .sent) l) (part (s .node)))
+        → Fine out γ i r op l (s then part)
     chain s part x next = go (s .ending)
       where
         t : Step
         t = part (s .node)
+
         y : Fine out γ i r op (push (s .sent) l) t
         y = next (x .kept)
+
         go : (e : Ending) → Fine out γ i r op l (then-by s t e)
         go none = record {
           kept = rw (push-append (s .sent) (t .sent) l) (y .kept);
-          ended = rw (push-append (s .sent) (t .sent) l) (y .ended) }
+          ended = rw (push-append (s .sent) (t .sent) l) (y .ended);
+        }
         go (done rule v) = x
         go (shown rule v) = x
         go spent = x

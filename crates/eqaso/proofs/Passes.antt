@@ -4,7 +4,9 @@ use mathlib.Core.Path.{_≡_, refl, sym, subst}
 use mathlib.Core.List.{[], _∷_}
 use Rattle.theory.specs.Log.{push, push-append}
 use Rattle.eqaso.specs.Message.{View, Message, read, readAnswer, write, writeAnswer, echo, value, good}
-use Rattle.eqaso.specs.Algorithm.{Operation, update, scan, Rule, Wait, Node, Ending, none, done, shown, spent, Step, sending, then-by, _then_, waiting, finish, react, readPass, writePass, comparePass, borrowPass, moveOn}
+use Rattle.eqaso.specs.Algorithm.{Operation, update, scan, Rule, Wait, Node, Ending, none, done, shown, spent}
+use Rattle.eqaso.specs.Algorithm.{Step, sending, then-by, _then_, waiting, finish, react, readPass, writePass}
+use Rattle.eqaso.specs.Algorithm.{comparePass, borrowPass, moveOn}
 use Rattle.eqaso.proofs.Cert.{Log}
 use Rattle.eqaso.proofs.Cases.{raise-cases, receive-cases}
 

@@ -5,28 +5,32 @@ use mathlib.Core.Bool.{false}
 use mathlib.Core.List.{List, []}
 use Rattle.eqaso.specs.Algorithm.{idle}
 use Rattle.eqaso.specs.Cluster.{Event, Cluster}
-use Rattle.eqaso.specs.Trace.{Trace, trace, Begun, nothing, updating, scanning, begun, Fate, unfinished, ended, fate, stopped, waits}
+use Rattle.eqaso.specs.Trace.{Trace, trace, Begun, nothing, updating, scanning, begun, Fate, unfinished, ended}
+use Rattle.eqaso.specs.Trace.{fate, stopped, waits}
 use Rattle.eqaso.specs.Order.{OneTo, Finished, ClosedBy, Quiet}
 use Rattle.eqaso.proofs.Linked.{Linked, linked, waits-is}
 use Rattle.eqaso.proofs.Book.{bookOf, At}
 use Rattle.eqaso.proofs.Facts.{Fit}
 use Rattle.eqaso.proofs.Course.{Rests}
 use Rattle.eqaso.proofs.History.{mode-rests}
-use Rattle.eqaso.proofs.Run.{Good, good}
+use Rattle.eqaso.proofs.Good.{Good}
+use Rattle.eqaso.proofs.Run.{good}
 use Rattle.eqaso.proofs.Empty.{all-idle}
 
 -- No operation of a node is unfinished, if the node is idle.
 closed : {n f : ℕ} {σ : Cluster} {tr : Trace} → f + f < n → Linked n f σ tr → Good n f σ tr
-  → ((a b : ℕ) → OneTo n a → OneTo n b → stopped tr b ≡ false → waits tr a b ≡ [])
-  → (t c : ℕ) → OneTo n c → At (bookOf tr .begun t) c → stopped tr c ≡ false → ¬ (bookOf tr .fate t ≡ unfinished)
+    → ((a b : ℕ) → OneTo n a → OneTo n b → stopped tr b ≡ false → waits tr a b ≡ [])
+    → (t c : ℕ) → OneTo n c → At (bookOf tr .begun t) c → stopped tr c ≡ false → ¬ (bookOf tr .fate t ≡ unfinished)
 closed {n} {f} {σ} {tr} half L g empty t c one at up =
-  mode-rests n f (bookOf tr) c _ _ _ (g .sites c .node .wait) (subst Rests (sym still) tt) .0 (g .history .modes c stands) t at
+    mode-rests n f (bookOf tr) c _ _ _ (g .sites c .node .wait) (subst Rests (sym still) tt) .0
+    (g .history .modes c stands) t at
   where
     stands : σ .stopped c ≡ false
     stands = sym (L .same-stopped c) ∙ up
+
     still : g .sites c .node .wait ≡ idle
     still = ap (λ ν. ν c .wait) (sym (g .same)) ∙ all-idle half g (L .few)
-      (λ a b ha hb s. sym (waits-is L a b s) ∙ empty a b ha hb (L .same-stopped b ∙ s)) c one stands
+        (λ a b ha hb s. sym (waits-is L a b s) ∙ empty a b ha hb (L .same-stopped b ∙ s)) c one stands
 
 finished : (x : Fate) → ¬ (x ≡ unfinished) → Finished x
 finished unfinished h = h refl
@@ -46,9 +50,11 @@ quiet n f half es empty t = by (begun tr t) refl
   where
     tr : Trace
     tr = trace n f es
+
     ends : (c : ℕ) → At (begun tr t) c → stopped tr c ≡ false → Finished (fate tr t)
     ends c at up = finished (fate tr t) λ e. closed half (linked n f es) (good n f half es) empty t c
-      (node-of n c (begun tr t) (fate tr t) (bookOf tr .tag t) at e (good n f half es .kept .facts .fit t)) at up e
+        (node-of n c (begun tr t) (fate tr t) (bookOf tr .tag t) at e (good n f half es .kept .facts .fit t)) at up e
+
     by : (b : Begun) → begun tr t ≡ b → ClosedBy tr t b
     by nothing e = tt
     by (updating c p) e = λ up. ends c (subst (λ b. At b c) (sym e) refl) up

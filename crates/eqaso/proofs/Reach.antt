@@ -5,8 +5,8 @@ use native.Mathlib.Decide.{ℕ-discrete}
 use mathlib.Core.Path.{_≡_, sym, subst, ap}
 use mathlib.Core.Logic.{inl, inr}
 use mathlib.Core.Bool.{cond, decide}
-use mathlib.Core.List.{List, [], _∷_, List·Memᴰ·head, List·Memᴰ·tail, Memᴰ·append-left}
-use mathlib.Core.List.{List·Memᴰ·append-cases, List·Memᴰ·eq-of-singleton}
+use mathlib.Core.List.{List, [], _∷_, List·Memᴰ·head, List·Memᴰ·tail, Memᴰ·append-left, List·Memᴰ·append-cases}
+use mathlib.Core.List.{List·Memᴰ·eq-of-singleton}
 use lib.ListN.{drop, take-append-drop}
 use Rattle.theory.specs.Log.{_∈_}
 use Rattle.eqaso.specs.Message.{Message}

@@ -1,14 +1,17 @@
 -- After every step the node must wait: what it waits for has not come yet.
-use Prim.Native.Nat.{ℕ, zero, suc, _-_, _≤_, _<_, max}
+use Prim.Native.Nat.{ℕ, suc, _-_, _≤_, _<_, max}
 use native.Mathlib.Omega.{arith}
 use native.Mathlib.Decide.{ℕ-discrete, decLe}
-use mathlib.Core.Path.{_≡_, refl}
 use mathlib.Core.Logic.{ite}
 use mathlib.Core.Bool.{Bool, true, false}
 use mathlib.Core.List.{[], _∷_}
-use Rattle.theory.specs.Count.{count}
+use Rattle.theory.specs.Count.{count, count-none}
 use Rattle.eqaso.specs.Message.{of, View, Message, read, value}
-use Rattle.eqaso.specs.Algorithm.{limit, Operation, update, scan, direct, borrowed, Round, round0, round1, round2, round3, nobody, Wait, idle, reading, writing, comparing, borrowing, Node, spent, Step, still, sending, ended, _then_, opening, waiting, asking, agrees, quorum?, kept, viewUpto, finish, afterRead, afterGood, afterFailed, readPass, writePass, comparePass, borrowPass, moveOn, react, messageStep, beginStep}
+use Rattle.eqaso.specs.Algorithm.{limit, Operation, update, scan, direct, borrowed, Round, round0, round1, round2}
+use Rattle.eqaso.specs.Algorithm.{round3, nobody, Wait, idle, reading, writing, comparing, borrowing, Node, spent}
+use Rattle.eqaso.specs.Algorithm.{Step, still, sending, ended, _then_, opening, waiting, asking, agrees, quorum?}
+use Rattle.eqaso.specs.Algorithm.{kept, viewUpto, finish, afterRead, afterGood, afterFailed, readPass, writePass}
+use Rattle.eqaso.specs.Algorithm.{comparePass, borrowPass, moveOn, react, messageStep, beginStep}
 use Rattle.eqaso.proofs.Cert.{Log}
 use Rattle.eqaso.proofs.Passes.{Leaves, move-leaves, finished, left, reacted}
 
@@ -16,11 +19,6 @@ use Rattle.eqaso.proofs.Passes.{Leaves, move-leaves, finished, left, re
 abbrev once : Bool → Type 0 → Type 0
 once true P = P
 once false P = Unit {0}
-
-pub count-nobody : (n : ℕ) → count nobody n ≡ 0
-unfolding count
-count-nobody zero = refl
-count-nobody (suc n) = omega (arith, count-nobody n)
 
 module _ (n f i : ℕ) where
   -- What the node waits for has not come. The passes that have been tried are the first, and w, c, b of the others.
@@ -42,7 +40,7 @@ module _ (n f i : ℕ) where
 
   module _ (some : 0 < n - f) where
     none-yet : count nobody n < n - f
-    none-yet = omega (arith, count-nobody n)
+    none-yet = omega (arith, count-none n)
 
     after-read : (u : ℕ) (op : Operation) (ν : Node) (l : Log) → After false false false l (afterRead i u op ν)
     after-read u scan ν l = tt
@@ -86,9 +84,12 @@ module _ (n f i : ℕ) where
     after-good : (op : Operation) (r : Round) (t : ℕ) (v : View) (ν : Node) (l : Log)
         → After true true false l (afterGood op r t v ν)
     after-good op round0 t v ν l = none-yet
-    after-good op round1 t v ν l = finished (λ ν l. Tried true true false ν (ν .wait)) (λ e ν l. Rests ν) op (direct round1) v _ _ tt
-    after-good op round2 t v ν l = finished (λ ν l. Tried true true false ν (ν .wait)) (λ e ν l. Rests ν) op (direct round2) v _ _ tt
-    after-good op round3 t v ν l = finished (λ ν l. Tried true true false ν (ν .wait)) (λ e ν l. Rests ν) op (direct round3) v _ _ tt
+    after-good op round1 t v ν l = finished (λ ν l. Tried true true false ν (ν .wait)) (λ e ν l. Rests ν) op
+        (direct round1) v _ _ tt
+    after-good op round2 t v ν l = finished (λ ν l. Tried true true false ν (ν .wait)) (λ e ν l. Rests ν) op
+        (direct round2) v _ _ tt
+    after-good op round3 t v ν l = finished (λ ν l. Tried true true false ν (ν .wait)) (λ e ν l. Rests ν) op
+        (direct round3) v _ _ tt
 
     after-failed : (op : Operation) (r : Round) (t : ℕ) (ν : Node) (l : Log)
         → After true true false l (afterFailed op r t ν)

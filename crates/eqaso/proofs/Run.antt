@@ -1,182 +1,149 @@
--- The invariant of a whole run: for the cluster and the trace that led to it there are sites, with all that was sent,
--- handed over and let out, that keep every law of the algorithm and know every operation of the trace.
-use Prim.Native.Nat.{ℕ, zero, suc, _+_, _-_, _≤_, _<_}
+-- Every event keeps the invariant, so it holds of every run.
+use Prim.Native.Nat.{ℕ, _+_, _<_}
 use native.Mathlib.Omega.{arith}
-use mathlib.Core.Path.{_≡_, refl, sym, _∙_, ap, subst}
-use mathlib.Core.Logic.{_⊎_, inl, inr}
-use mathlib.Core.Bool.{Bool, true, false, not}
+use mathlib.Core.Path.{_≡_, refl, sym, subst}
+use mathlib.Core.Bool.{Bool, true, false}
 use mathlib.Core.List.{List, [], _∷_, _++_}
-use lib.ListN.{length}
-use Rattle.theory.specs.Count.{bit, count}
-use Rattle.theory.specs.Update.{upd, upd2, upd-self, upd-map}
-use Rattle.theory.specs.Log.{_∈_, _⊑_, ⊑-trans, placed, push, mem-up}
-use Rattle.eqaso.specs.Message.{Message, value}
-use Rattle.eqaso.specs.Algorithm.{Operation, Wait, idle, Node, none, Step, still, beginStep, messageStep}
-use Rattle.eqaso.specs.Cluster.{Extent, whole, cut, Event, begin, deliver, stop, Cluster, Result, refuse, commit, start, after, halted, channels, entries, letOut}
+use Rattle.theory.specs.Count.{count-not}
+use Rattle.theory.specs.Update.{upd, upd2, upd-self}
+use Rattle.theory.specs.Log.{_∈_, placed}
+use Rattle.eqaso.specs.Message.{Message}
+use Rattle.eqaso.specs.Algorithm.{Operation, idle, still, beginStep, messageStep}
+use Rattle.eqaso.specs.Cluster.{Extent, cut, Event, stop, Cluster, Result, refuse, commit, start, after, halted}
+use Rattle.eqaso.specs.Cluster.{channels, entries, letOut}
 use Rattle.eqaso.specs.Trace.{Seen, Trace, seen, handler, trace, tagsSent}
-use Rattle.eqaso.specs.Order.{OneTo}
-use Rattle.eqaso.proofs.Cert.{Log, Logs}
-use Rattle.eqaso.proofs.Meant.{Meant}
-use Rattle.eqaso.proofs.Between.{Handed, handed-at}
-use Rattle.eqaso.proofs.Front.{front}
+use Rattle.eqaso.proofs.Cert.{Logs}
+use Rattle.eqaso.proofs.Between.{handed-at}
 use Rattle.eqaso.proofs.Happened.{Handles, Happened, refusal, began, delivered, ceased, outcome}
-use Rattle.eqaso.proofs.Channel.{Fits, fits-start, fits-hand, fits-act, fits-stop, stood}
+use Rattle.eqaso.proofs.Channel.{Fits, fits-start, fits-hand, fits-stop, stood}
 use Rattle.eqaso.proofs.Linked.{Linked, always-linked}
-use Rattle.eqaso.proofs.World.{Site, Sites, logs, new, Inv, start-inv, handed, begun, Comes, handed-inv, begun-inv}
+use Rattle.eqaso.proofs.Sites.{Site, Sites, logs, new, handed, begun, Comes}
+use Rattle.eqaso.proofs.World.{Inv, start-inv, handed-inv, begun-inv}
 use Rattle.eqaso.proofs.Course.{Rests}
-use Rattle.eqaso.proofs.Book.{Book, bookOf}
+use Rattle.eqaso.proofs.Book.{bookOf}
 use Rattle.eqaso.proofs.Told.{Told, told-start, told-none, told-act}
 use Rattle.eqaso.proofs.Kept.{Kept, Next, kept-start, next-silent}
 use Rattle.eqaso.proofs.History.{History}
 use Rattle.eqaso.proofs.Alive.{Alive, alive-start, alive-handed, alive-begun}
 use Rattle.eqaso.proofs.Arrival.{Orderly, orderly-start, handed-orderly, begun-orderly}
-use Rattle.eqaso.proofs.Deliver.{letting, Delivery, delivery, step, site}
+use Rattle.eqaso.proofs.Deliver.{Delivery, delivery}
 use Rattle.eqaso.proofs.Delivered.{delivery-noted}
 use Rattle.eqaso.proofs.Begins.{beginning, begin-noted}
-
--- The cluster of the sites.
-abbrev clusterOf : Sites → (ℕ → Bool) → (ℕ → ℕ → List Message) → Cluster
-clusterOf w stopped channel = record { nodes = λ i. w i .node; stopped = stopped; channel = channel }
-
-abbrev pub gots : Sites → ℕ → Logs
-gots w i = w i .past .got
-
-pub record Good (n f : ℕ) (σ : Cluster) (tr : Trace) : Type 0 where
-  pub sites : Sites
-  pub gone : ℕ → Logs
-  pub same : σ .nodes ≡ (λ i. sites i .node)
-  pub inv : Inv n f sites
-  pub fits : Fits n (σ .stopped) (σ .channel) (logs sites) gone (gots sites)
-  pub kept : Kept n tr
-  pub history : History n f (σ .stopped) sites gone (bookOf tr)
-  pub alive : Alive n f (σ .stopped) sites gone
-  pub orderly : Orderly n sites
-  pub told : Told n tr gone
-
-count-not : (p : ℕ → Bool) (n : ℕ) → count (λ j. not (p j)) n + count p n ≡ n
-unfolding count
-count-not p zero = refl
-count-not p (suc n) = go (p (suc n)) (count-not p n)
-  where
-    go : (b : Bool) → count (λ j. not (p j)) n + count p n ≡ n
-      → bit (not b) + count (λ j. not (p j)) n + (bit b + count p n) ≡ suc n
-    go true h = omega arith
-    go false h = omega arith
-
--- The message that has waited longest on a channel comes to its receiver next.
-pub coming : {n f : ℕ} (half : f + f < n) {stopped : ℕ → Bool} {channel : ℕ → ℕ → List Message} {w : Sites} {gone : ℕ → Logs}
-  → Fits n stopped channel (logs w) gone (gots w) → {a b : ℕ} {m : Message} {rest : List Message}
-  → (d : Handed b (w b .past .got a) m rest (gone a b)) → Comes n f half w b a m (d .place)
-coming half fits {a} {b} d = record {
-  meant = d .meant; late = d .late; skipped = d .skipped; at = ⊑-trans (handed-at d) (fits .gone-in a b) }
+use Rattle.eqaso.proofs.Good.{clusterOf, gots, Good, coming, next-fits, next-good}
 
 no-tags : (c : ℕ) {t : ℕ} → t ∈ tagsSent c [] → ⊥
 unfolding tagsSent
 no-tags c i = elim i [ ]
 
-module _ (n f : ℕ) (half : f + f < n) (w : Sites) (gone : ℕ → Logs) (stopped : ℕ → Bool) (channel : ℕ → ℕ → List Message)
-  (tr : Trace) where
-  -- A step of node c, with its site s after it and the list that it sends.
-  module _ (c : ℕ) (x : Extent) (s : Site) (list : List Message) (log : s .log ≡ push list (w c .log)) where
-    abbrev channel′ : ℕ → ℕ → List Message
-    channel′ = channels (halted x c stopped) c (letOut x (entries n list)) channel
-
-    next-fits : Fits n stopped channel (logs w) gone (upd (gots w) c (s .past .got)) → stopped c ≡ false
-      → Fits n (halted x c stopped) channel′ (logs (upd w c s)) (letting n c x list gone) (gots (upd w c s))
-    next-fits fits stands = subst
-      (λ z. Fits n (halted x c stopped) channel′ (logs (upd w c s)) (letting n c x list gone) z)
-      (sym (upd-map (λ z. z .past .got) w c s))
-      (subst (λ z. Fits n (halted x c stopped) channel′ z (letting n c x list gone) (upd (gots w) c (s .past .got)))
-        (ap (upd (logs w) c) (sym log) ∙ sym (upd-map (λ z. z .log) w c s))
-        (fits-act fits c x list stands))
-
-    next-good : (o : Seen) → Inv n f (upd w c s)
-      → Fits n stopped channel (logs w) gone (upd (gots w) c (s .past .got)) → stopped c ≡ false
-      → (B : Book) × Next n tr o B × History n f (halted x c stopped) (upd w c s) (letting n c x list gone) B
-      → Alive n f (halted x c stopped) (upd w c s) (letting n c x list gone) → Orderly n (upd w c s)
-      → Told n (tr ++ (o ∷ [])) (letting n c x list gone)
-      → Good n f (record { nodes = upd (λ i. w i .node) c (s .node); stopped = halted x c stopped; channel = channel′ })
-        (tr ++ (o ∷ []))
-    next-good o inv fits stands (B, next, h) alive orderly told = record {
-      sites = upd w c s; gone = letting n c x list gone;
-      same = sym (upd-map (λ z. z .node) w c s);
-      inv = inv;
-      fits = next-fits fits stands;
-      kept = next .kept;
-      history = subst (History n f (halted x c stopped) (upd w c s) (letting n c x list gone)) (sym (next .book)) h;
-      alive = alive; orderly = orderly; told = told }
-
-module _ (n f : ℕ) (half : f + f < n) (w : Sites) (gone : ℕ → Logs) (stopped : ℕ → Bool) (channel : ℕ → ℕ → List Message)
-  (tr : Trace) (inv : Inv n f w) (fits : Fits n stopped channel (logs w) gone (gots w)) (kept : Kept n tr)
-  (history : History n f stopped w gone (bookOf tr)) (alive : Alive n f stopped w gone)
-  (orderly : Orderly n w) (told : Told n tr gone) where
+module _ (n f : ℕ) (half : f + f < n) (w : Sites) (gone : ℕ → Logs) (stopped : ℕ → Bool)
+    (channel : ℕ → ℕ → List Message)
+    (tr : Trace) (inv : Inv n f w) (fits : Fits n stopped channel (logs w) gone (gots w)) (kept : Kept n tr)
+    (history : History n f stopped w gone (bookOf tr)) (alive : Alive n f stopped w gone)
+    (orderly : Orderly n w) (told : Told n tr gone) where
   abbrev σ : Cluster
   σ = clusterOf w stopped channel
 
   -- Nothing is sent and nothing noted.
   silent-good : (stopped′ : ℕ → Bool) (channel′ : ℕ → ℕ → List Message) (o : Seen)
-    → Fits n stopped′ channel′ (logs w) gone (gots w) → ((d : ℕ) → stopped′ d ≡ false → stopped d ≡ false)
-    → Next n tr o (bookOf tr) → o .sent ≡ [] → Good n f (clusterOf w stopped′ channel′) (tr ++ (o ∷ []))
+      → Fits n stopped′ channel′ (logs w) gone (gots w) → ((d : ℕ) → stopped′ d ≡ false → stopped d ≡ false)
+      → Next n tr o (bookOf tr) → o .sent ≡ [] → Good n f (clusterOf w stopped′ channel′) (tr ++ (o ∷ []))
   silent-good stopped′ channel′ o fits′ stood next none-sent = record {
-    sites = w; gone = gone; same = refl; inv = inv; fits = fits′; kept = next .kept;
+    sites = w;
+    gone = gone;
+    same = refl;
+    inv = inv;
+    fits = fits′;
+    kept = next .kept;
     history = subst (History n f stopped′ w gone) (sym (next .book)) (record {
-      modes = λ c h. history .modes c (stood c h); left = history .left; booked = history .booked; behind = history .behind });
+      modes = λ c h. history .modes c (stood c h);
+      left = history .left;
+      booked = history .booked;
+      behind =
+          history .behind;
+    });
     alive = record {
-      rests = alive .rests; live = alive .live; M = alive .M;
+      rests = alive .rests;
+      live = alive .live;
+      M = alive .M;
       marks = record {
-        top = λ i h. alive .marks .top i (stood i h); low = λ i h. alive .marks .low i (stood i h);
-        said = alive .marks .said; intro = alive .marks .intro } };
-    orderly = orderly; told = told-none o none-sent told }
+        top = λ i h. alive .marks .top i (stood i h);
+        low = λ i h. alive .marks .low i (stood i h);
+        said = alive .marks .said;
+        intro = alive .marks .intro;
+      };
+    };
+    orderly = orderly;
+    told = told-none o none-sent told;
+  }
 
   begin-good : (c : ℕ) (op : Operation) (x : Extent) → Handles n f c x σ → w c .node .wait ≡ idle
-    → Good n f (record {
-        nodes = upd (λ i. w i .node) c (beginStep n f c op (w c .node) .node); stopped = halted x c stopped;
-        channel = channels (halted x c stopped) c (letOut x (entries n (beginStep n f c op (w c .node) .sent))) channel })
+      → Good n f (record {
+        nodes = upd (λ i. w i .node) c (beginStep n f c op (w c .node) .node);
+        stopped = halted x c stopped;
+        channel = channels (halted x c stopped) c
+            (letOut x (entries n (beginStep n f c op (w c .node) .sent))) channel;
+      })
       (tr ++ (beginning n c op x (beginStep n f c op (w c .node)) ∷ []))
   begin-good c op x h i = next-good n f half w gone stopped channel tr c x (begun n f c op (logs w) (w c))
-    (beginStep n f c op (w c .node) .sent) refl (beginning n c op x (beginStep n f c op (w c .node)))
-    (begun-inv n f half inv c op i .inv)
-    (subst (λ z. Fits n stopped channel (logs w) gone z) (sym (upd-self (gots w) c)) fits) (h .stands)
-    (begin-noted half kept history c (h .node) (h .stands) op x (subst Rests (sym i) tt))
-    (alive-begun alive half inv c op (logs w) x (h .node) (h .stands)) (begun-orderly n f half inv orderly c op (h .node) i)
-    (told-act (beginning n c op x (beginStep n f c op (w c .node))) x (beginStep n f c op (w c .node) .sent) refl told)
+      (beginStep n f c op (w c .node) .sent) refl (beginning n c op x (beginStep n f c op (w c .node)))
+      (begun-inv n f half inv c op i .inv)
+      (subst (λ z. Fits n stopped channel (logs w) gone z) (sym (upd-self (gots w) c)) fits) (h .stands)
+      (begin-noted half kept history c (h .node) (h .stands) op x (subst Rests (sym i) tt))
+      (alive-begun alive half inv c op (logs w) x (h .node) (h .stands))
+      (begun-orderly n f half inv orderly c op (h .node) i)
+      (told-act (beginning n c op x (beginStep n f c op (w c .node))) x
+      (beginStep n f c op (w c .node) .sent) refl told)
 
   deliver-good : Linked n f σ tr → (a b : ℕ) (x : Extent) → Handles n f b x σ → (m : Message) (rest : List Message)
-    → channel a b ≡ m ∷ rest
-    → Good n f (record {
-        nodes = upd (λ i. w i .node) b (messageStep n f b a m (w b .node) .node); stopped = halted x b stopped;
+      → channel a b ≡ m ∷ rest
+      → Good n f (record {
+        nodes = upd (λ i. w i .node) b (messageStep n f b a m (w b .node) .node);
+        stopped = halted x b stopped;
         channel = channels (halted x b stopped) b (letOut x (entries n (messageStep n f b a m (w b .node) .sent)))
-          (upd2 channel a b rest) })
+            (upd2 channel a b rest);
+      })
       (tr ++ (delivery n a b x (messageStep n f b a m (w b .node)) ∷ []))
   unfolding upd2
   deliver-good L a b x h m rest e =
-    let (d, F) = fits-hand fits a b (h .node) (h .stands) e in
-    let s : Site = handed n f b a m (d .place) (w b) in
-    let comes : Comes n f half w b a m (d .place) = coming half fits d in
-    let list : List Message = messageStep n f b a m (w b .node) .sent in
-    let F′ = next-fits n f half w gone stopped (upd2 channel a b rest) tr b x s list refl F (h .stands) in
-    let D : Delivery n f half stopped w gone tr b a x m (d .place) = record {
-      inv = inv; kept = kept; history = history; one = h .node; stands = h .stands; comes = comes;
-      came = placed (handed-at d);
-      many = omega (arith, count-not stopped n, L .few);
-      all = F′ .gone-all } in
-    next-good n f half w gone stopped (upd2 channel a b rest) tr b x s list refl (delivery n a b x (messageStep n f b a m (w b .node)))
+      let (d, F) = fits-hand fits a b (h .node) (h .stands) e in
+      let s : Site = handed n f b a m (d .place) (w b) in
+      let comes : Comes w b a m (d .place) = coming fits d in
+      let list : List Message = messageStep n f b a m (w b .node) .sent in
+      let F′ = next-fits n f half w gone stopped (upd2 channel a b rest) tr b x s list refl F (h .stands) in
+      let D : Delivery n f half stopped w gone tr b a x m (d .place) = record {
+        inv = inv;
+        kept = kept;
+        history = history;
+        one = h .node;
+        stands = h .stands;
+        comes = comes;
+        came = placed (handed-at d);
+        many = omega (arith, count-not stopped n, L .few);
+        all = F′ .gone-all;
+      } in
+      next-good n f half w gone stopped (upd2 channel a b rest) tr b x s list refl
+      (delivery n a b x (messageStep n f b a m (w b .node)))
       (handed-inv n f half inv b a m (d .place) comes .inv) F (h .stands) (delivery-noted D)
       (alive-handed alive half inv b a m (d .place) x (h .node) (h .stands) (placed (handed-at d)) comes)
       (handed-orderly n f half inv orderly b a m (d .place) (h .node) comes)
       (told-act (delivery n a b x (messageStep n f b a m (w b .node))) x list refl told)
 
   event-good : Linked n f σ tr → (e : Event) (h : Happened n f σ e)
-    → Good n f (outcome h .cluster) (tr ++ (seen e (outcome h) ∷ []))
+      → Good n f (outcome h .cluster) (tr ++ (seen e (outcome h) ∷ []))
   event-good L e (refusal k) = silent-good stopped channel (seen e (refuse k σ)) fits (λ d h. h)
-    (next-silent tr (seen e (refuse k σ)) kept refl refl (λ t i. absurd (no-tags (handler e) i))) refl
+      (next-silent tr (seen e (refuse k σ)) kept refl refl (λ t i. absurd (no-tags (handler e) i))) refl
   event-good L e (began {c} {op} {x} h i r z) = begin-good c op x h i
   event-good L e (delivered {a} {b} {x} h o m rest q z) = deliver-good L a b x h m rest q
   event-good L e (ceased {c} h) = subst
-    (λ z. Good n f (record { nodes = z; stopped = upd stopped c true; channel = channels (upd stopped c true) c [] channel })
+      (λ z. Good n f (record {
+        nodes = z;
+        stopped = upd stopped c true;
+        channel =
+            channels (upd stopped c true) c [] channel;
+      })
       (tr ++ (seen (stop c) stops ∷ [])))
-    (sym (upd-self (λ i. w i .node) c))
-    (silent-good (upd stopped c true) (channels (upd stopped c true) c [] channel) (seen (stop c) stops)
+      (sym (upd-self (λ i. w i .node) c))
+      (silent-good (upd stopped c true) (channels (upd stopped c true) c [] channel) (seen (stop c) stops)
       (fits-stop fits c (h .stands)) (stood (cut 0) c stopped)
       (next-silent tr (seen (stop c) stops) kept refl refl (λ t i. absurd (no-tags c i))) refl)
     where
@@ -185,22 +152,34 @@ module _ (n f : ℕ) (half : f + f < n) (w : Sites) (gone : ℕ → Logs) (stopp
 
 -- Every event keeps the invariant.
 good-kept : (n f : ℕ) (half : f + f < n) (σ : Cluster) (tr : Trace) (e : Event) (h : Happened n f σ e) → Linked n f σ tr
-  → Good n f σ tr → Good n f (outcome h .cluster) (tr ++ (seen e (outcome h) ∷ []))
+    → Good n f σ tr → Good n f (outcome h .cluster) (tr ++ (seen e (outcome h) ∷ []))
 good-kept n f half σ tr e h L g = subst
-  (λ z. Linked n f z tr → (h : Happened n f z e) → Good n f (outcome h .cluster) (tr ++ (seen e (outcome h) ∷ [])))
-  (λ i. record { nodes = sym (g .same) i; stopped = σ .stopped; channel = σ .channel })
-  (λ L h. event-good n f half (g .sites) (g .gone) (σ .stopped) (σ .channel) tr (g .inv) (g .fits) (g .kept) (g .history)
+    (λ z. Linked n f z tr → (h : Happened n f z e) → Good n f (outcome h .cluster) (tr ++ (seen e (outcome h) ∷ [])))
+    (λ i. record { nodes = sym (g .same) i; stopped = σ .stopped; channel = σ .channel })
+    (λ L h. event-good n f half (g .sites) (g .gone) (σ .stopped) (σ .channel) tr (g .inv) (g .fits) (g .kept)
+    (g .history)
     (g .alive) (g .orderly) (g .told) L e h)
-  L h
+    L h
 
 good-start : (n f : ℕ) → Good n f start []
 unfolding bookOf
 good-start n f = record {
-  sites = λ i. new; gone = λ a b. []; same = refl; inv = start-inv n f; fits = fits-start n; kept = kept-start n;
+  sites = λ i. new;
+  gone = λ a b. [];
+  same = refl;
+  inv = start-inv n f;
+  fits = fits-start n;
+  kept = kept-start n;
   history = record {
-    modes = λ c h u x e. x; left = λ a. tt; booked = λ a b v one m. elim m [ ];
-    behind = λ u y c d p q eu ey h tu ty. absurd h };
-  alive = alive-start n f; orderly = orderly-start n; told = told-start n }
+    modes = λ c h u x e. x;
+    left = λ a. tt;
+    booked = λ a b v one m. elim m [ ];
+    behind = λ u y c d p q eu ey h tu ty. absurd h;
+  };
+  alive = alive-start n f;
+  orderly = orderly-start n;
+  told = told-start n;
+}
 
 -- The invariant holds of every run.
 pub good : (n f : ℕ) → f + f < n → (es : List Event) → Good n f (after n f start es) (trace n f es)

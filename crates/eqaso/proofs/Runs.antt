@@ -1,6 +1,6 @@
 -- Runs of the model, computed: document 01's session, a scan that borrows its view, an update that stops in the middle of
 -- sending its value to five, and one whose value a scan shows although it never finished. The answers of another program.
-use Prim.Native.Nat.{ℕ, zero, suc}
+use Prim.Native.Nat.{ℕ, suc}
 use native.Mathlib.Decide.{ℕ-discrete, decLe, decLt}
 use mathlib.Core.Path.{_≡_, refl}
 use mathlib.Core.Bool.{decide}
@@ -9,9 +9,11 @@ use lib.ListN.{replicate, length}
 use Rattle.theory.specs.Count.{count}
 use Rattle.theory.specs.Update.{upd, upd2}
 use Rattle.eqaso.specs.Message.{Entry, absent, same}
-use Rattle.eqaso.specs.Algorithm.{limit, has, within, newest, table, kept, moveOn, update, scan, round1, Ending, none, done, shown, spent, direct, borrowed}
-use Rattle.eqaso.specs.Cluster.{Event, begin, deliver, stop, whole, cut, Answer, refused, accepted, Sent, entries, sentTo, roomy, event}
-use Rattle.eqaso.specs.Trace.{Seen, Trace, traceFrom, trace}
+use Rattle.eqaso.specs.Algorithm.{limit, has, within, newest, table, kept, moveOn, update, scan, round1, none}
+use Rattle.eqaso.specs.Algorithm.{done, shown, spent, direct, borrowed}
+use Rattle.eqaso.specs.Cluster.{Event, begin, deliver, whole, cut, Answer, refused, accepted, Sent, entries}
+use Rattle.eqaso.specs.Cluster.{sentTo, roomy, event}
+use Rattle.eqaso.specs.Trace.{Trace, traceFrom, trace}
 
 -- What a run tells its clients: the events, counted from 1, that were refused or gave an ending.
 pub record Told : Type 0 where

@@ -1,10 +1,10 @@
 -- The tests of the algorithm on sets of values say what their names say.
-use Prim.Native.Nat.{ℕ, zero, suc, _≤_, _<_}
+use Prim.Native.Nat.{ℕ, _≤_, _<_}
 use native.Mathlib.Omega.{arith}
 use native.Mathlib.Decide.{ℕ-discrete, decLe, decLt}
-use mathlib.Core.Path.{_≡_, refl, sym, _∙_, subst}
+use mathlib.Core.Path.{_≡_, refl, sym, subst}
 use mathlib.Core.Logic.{_⊎_, inl, inr, _≢_, ite}
-use mathlib.Core.Bool.{Bool, true, false, false≢true, true≢false, cond, decide, decide-iff, _&&_, _||_}
+use mathlib.Core.Bool.{Bool, true, false, false≢true, not, cond, decide, decide-iff, _&&_, _||_}
 use mathlib.Core.List.{List, [], _∷_, List·Memᴰ·head, List·Memᴰ·tail}
 use Rattle.theory.specs.Log.{_∈_}
 use Rattle.eqaso.specs.Message.{Value, same}
@@ -30,6 +30,10 @@ pub and-of : (a b : Bool) → a ≡ true → b ≡ true → (a && b) ≡ true
 and-of true b e d = d
 and-of false b e d = absurd (false≢true e)
 
+pub not-true : (b : Bool) → not b ≡ true → b ≡ false
+not-true true e = sym e
+not-true false e = refl
+
 pub has-to : (l : List Value) (v : Value) → has l v ≡ true → v ∈ l
 unfolding has
 has-to [] v e = absurd (false≢true e)
@@ -47,19 +51,19 @@ has-of {l} {v} (List·Memᴰ·tail {x} {xs} m) = or-right (decide (same v x)) (h
 pub within-to : (t : ℕ) (a b : List Value) → within t a b ≡ true → (v : Value) → v ∈ a → v .tag ≤ t → v ∈ b
 unfolding within
 within-to t (x ∷ a) b e v (List·Memᴰ·head d) h =
-  let (p, q) = and-both (cond (decide (decLe (x .tag) t)) (has b x) true) (within t a b) e in
-  let low : x .tag ≤ t = subst (λ z. z .tag ≤ t) d h in
-  let t? : decide (decLe (x .tag) t) ≡ true = decide-iff (decLe (x .tag) t) .1 low in
-  let p′ : has b x ≡ true = subst (λ z. cond z (has b x) true ≡ true) t? p in
-  subst (λ z. z ∈ b) (sym d) (has-to b x p′)
+    let (p, q) = and-both (cond (decide (decLe (x .tag) t)) (has b x) true) (within t a b) e in
+    let low : x .tag ≤ t = subst (λ z. z .tag ≤ t) d h in
+    let t? : decide (decLe (x .tag) t) ≡ true = decide-iff (decLe (x .tag) t) .1 low in
+    let p′ : has b x ≡ true = subst (λ z. cond z (has b x) true ≡ true) t? p in
+    subst (λ z. z ∈ b) (sym d) (has-to b x p′)
 within-to t (x ∷ a) b e v (List·Memᴰ·tail m) h =
-  within-to t a b (and-both (cond (decide (decLe (x .tag) t)) (has b x) true) (within t a b) e .1) v m h
+    within-to t a b (and-both (cond (decide (decLe (x .tag) t)) (has b x) true) (within t a b) e .1) v m h
 
 pub within-of : (t : ℕ) (a b : List Value) → ((v : Value) → v ∈ a → v .tag ≤ t → v ∈ b) → within t a b ≡ true
 unfolding within
 within-of t [] b h = refl
 within-of t (x ∷ a) b h = and-of (cond (decide (decLe (x .tag) t)) (has b x) true) (within t a b)
-  (go (decLe (x .tag) t)) (within-of t a b (λ v m low. h v (List·Memᴰ·tail m) low))
+    (go (decLe (x .tag) t)) (within-of t a b (λ v m low. h v (List·Memᴰ·tail m) low))
   where
     go : (d : Dec (x .tag ≤ t)) → cond (decide d) (has b x) true ≡ true
     go d = case (decide d) refl
@@ -70,11 +74,12 @@ within-of t (x ∷ a) b h = and-of (cond (decide (decLe (x .tag) t)) (has b x) t
 
 -- A node that agrees, other than the own one, has sent the same values up to t.
 pub agrees-to : (i : ℕ) (ν : Node) (t k : ℕ) → agrees i ν t k ≡ true → k ≢ i
-  → (within t (ν .from k) (ν .all) ≡ true) × (within t (ν .all) (ν .from k) ≡ true)
-agrees-to i ν t k e ne = go (or-cases (decide (ℕ-discrete k i)) (within t (ν .from k) (ν .all) && within t (ν .all) (ν .from k)) e)
+    → (within t (ν .from k) (ν .all) ≡ true) × (within t (ν .all) (ν .from k) ≡ true)
+agrees-to i ν t k e ne = go (or-cases (decide (ℕ-discrete k i))
+    (within t (ν .from k) (ν .all) && within t (ν .all) (ν .from k)) e)
   where
     go : (decide (ℕ-discrete k i) ≡ true) ⊎ ((within t (ν .from k) (ν .all) && within t (ν .all) (ν .from k)) ≡ true)
-      → (within t (ν .from k) (ν .all) ≡ true) × (within t (ν .all) (ν .from k) ≡ true)
+        → (within t (ν .from k) (ν .all) ≡ true) × (within t (ν .all) (ν .from k) ≡ true)
     go (inl d) = absurd (ne (decide-iff (ℕ-discrete k i) .0 d))
     go (inr d) = and-both (within t (ν .from k) (ν .all)) (within t (ν .all) (ν .from k)) d
 
@@ -85,6 +90,6 @@ kept-in n [] h = absurd (omega arith)
 kept-in n (g ∷ l) h = go (decLt (kept n l .tag) (g .tag)) h (kept-in n l)
   where
     go : (d : Dec (kept n l .tag < g .tag)) → 0 < ite d g (kept n l) .tag → (0 < kept n l .tag → kept n l ∈ l)
-      → ite d g (kept n l) ∈ (g ∷ l)
+        → ite d g (kept n l) ∈ (g ∷ l)
     go (yes x) p ih = List·Memᴰ·head refl
     go (no x) p ih = List·Memᴰ·tail (ih p)

@@ -8,8 +8,8 @@ use mathlib.Core.Bool.{Bool, true, false, cond, decide, _||_, or-false, or-assoc
 use mathlib.Core.List.{List, [], _∷_, _++_, append-nil, append-assoc}
 use Rattle.eqaso.specs.Message.{Message}
 use Rattle.eqaso.specs.Cluster.{Event, sentTo, Cluster, event, after}
-use Rattle.eqaso.specs.Trace.{Seen, Trace, seen, traceFrom, handler, stopsBy, stopped}
-use Rattle.eqaso.specs.Trace.{letOutTo, handedIn, handedOver}
+use Rattle.eqaso.specs.Trace.{Seen, Trace, seen, traceFrom, handler, stopsBy, stopped, letOutTo, handedIn}
+use Rattle.eqaso.specs.Trace.{handedOver}
 
 pub stopped-snoc : (tr : Trace) (o : Seen) (c : ℕ)
     → stopped (tr ++ (o ∷ [])) c ≡ (stopped tr c || stopsBy (o .event) (o .answer) c)

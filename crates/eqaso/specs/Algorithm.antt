@@ -102,15 +102,26 @@ abbrev pub _then_ : Step → (Node → Step) → Step
 s then part = then-by s (part (s .node)) (s .ending)
 
 infixl 50 _then_
-
 -- The node with another wait, and with the next request number used besides.
 abbrev pub waiting : Wait → Node → Node
 waiting w ν = record {
-    all = ν .all; from = ν .from; maxtag = ν .maxtag; goods = ν .goods; request = ν .request; wait = w }
+  all = ν .all;
+  from = ν .from;
+  maxtag = ν .maxtag;
+  goods = ν .goods;
+  request = ν .request;
+  wait = w;
+}
 
 abbrev pub asking : Wait → Node → Node
 asking w ν = record {
-    all = ν .all; from = ν .from; maxtag = ν .maxtag; goods = ν .goods; request = suc (ν .request); wait = w }
+  all = ν .all;
+  from = ν .from;
+  maxtag = ν .maxtag;
+  goods = ν .goods;
+  request = suc (ν .request);
+  wait = w;
+}
 
 -- Sets of values up to a tag.
 
@@ -162,14 +173,25 @@ receive k v ν = cond (has (ν .all) v) (still (with-values (ν .all))) (sending
   where
     with-values : List Value → Node
     with-values l = record {
-        all = l; from = upd (ν .from) k (v ∷ ν .from k); maxtag = ν .maxtag; goods = ν .goods;
-        request = ν .request; wait = ν .wait }
+      all = l;
+      from = upd (ν .from) k (v ∷ ν .from k);
+      maxtag = ν .maxtag;
+      goods = ν .goods;
+      request = ν .request;
+      wait = ν .wait;
+    }
 
 -- Lines 43 to 45 and 47: a tag above maxtag. Amendment 1: it is echoed to all, in a write and in an echo alike.
 abbrev pub raise : ℕ → Node → Step
 raise t ν = ite (decLt (ν .maxtag) t)
     (sending (echo t ∷ []) (record {
-        all = ν .all; from = ν .from; maxtag = t; goods = ν .goods; request = ν .request; wait = ν .wait }))
+      all = ν .all;
+      from = ν .from;
+      maxtag = t;
+      goods = ν .goods;
+      request = ν .request;
+      wait = ν .wait;
+    }))
     (still ν)
 
 -- Amendment 2: an answer counts if it is of the awaited kind, has the current number and is its sender's first; a write
@@ -193,8 +215,13 @@ writeAnswered k q t ν (borrowing op u) = ν
 -- Line 49, amendment 4.
 abbrev pub keep : ℕ → View → Node → Node
 keep t v ν = record {
-    all = ν .all; from = ν .from; maxtag = ν .maxtag; goods = record { tag = t; view = v } ∷ ν .goods;
-    request = ν .request; wait = ν .wait }
+  all = ν .all;
+  from = ν .from;
+  maxtag = ν .maxtag;
+  goods = record { tag = t; view = v } ∷ ν .goods;
+  request = ν .request;
+  wait = ν .wait;
+}
 
 abbrev pub react : ℕ → Message → Node → Step
 react k (read q) ν = sending (readAnswer k q (ν .maxtag) ∷ []) ν

@@ -1,6 +1,7 @@
--- Why a few tags and reports per writer can stand for the sets of a node: what holds of the sets of every node in a run,
+-- Why a few tags and reports per writer can stand for the sets of a node: what holds of the sets of every node in a
+-- run,
 -- and of every value that a node is handed.
-use Prim.Native.Nat.{ℕ, _+_, _≤_, _<_}
+use Prim.Native.Nat.{ℕ, _≤_, _<_}
 use mathlib.Core.Path.{_≡_}
 use mathlib.Core.Bool.{false}
 use mathlib.Core.List.{List, _∷_}
@@ -8,6 +9,7 @@ use Rattle.theory.specs.Log.{_∈_}
 use Rattle.eqaso.specs.Message.{Value, Message, read, readAnswer, write, writeAnswer, echo, value, good}
 use Rattle.eqaso.specs.Algorithm.{Operation, Round, comparing, Node, messageStep}
 use Rattle.eqaso.specs.Cluster.{Event, start, after}
+use Rattle.eqaso.specs.Trace.{trace, letOutTo}
 use Rattle.eqaso.specs.Order.{OneTo}
 
 -- u is an earlier value of the writer of v, or v itself.
@@ -58,16 +60,24 @@ RunBounded n f = (es : List Event) (c : ℕ) → BoundedNode n (after n f start 
 -- The message that has waited longest for a node that stands is as the node expects it.
 abbrev pub RunExpected : (n f : ℕ) → Type 0
 RunExpected n f = (es : List Event) (a b : ℕ) (m : Message) (rest : List Message) → OneTo n b
-  → after n f start es .stopped b ≡ false → after n f start es .channel a b ≡ m ∷ rest
-  → Expected n a (after n f start es .nodes b) m
+    → after n f start es .stopped b ≡ false → after n f start es .channel a b ≡ m ∷ rest
+    → Expected n a (after n f start es .nodes b) m
 
 -- A node that compares holds every own value that any node holds.
 abbrev pub OwnHeld : (n f : ℕ) → Type 0
 OwnHeld n f = (es : List Event) (c j : ℕ) (o : Operation) (rnd : Round) (t : ℕ) (v : Value)
-  → after n f start es .nodes c .wait ≡ comparing o rnd t → v .writer ≡ c → v ∈ after n f start es .nodes j .all
-  → v ∈ after n f start es .nodes c .all
+    → after n f start es .nodes c .wait ≡ comparing o rnd t → v .writer ≡ c → v ∈ after n f start es .nodes j .all
+    → v ∈ after n f start es .nodes c .all
 
 -- A round opens with a tag that is not below maxtag.
 abbrev pub OpensHigh : (n f : ℕ) → Type 0
 OpensHigh n f = (i k : ℕ) (m : Message) (ν : Node) (q t : ℕ) → write q t ∈ messageStep n f i k m ν .sent
-  → messageStep n f i k m ν .node .maxtag ≤ t
+    → messageStep n f i k m ν .node .maxtag ≤ t
+
+-- Closure: what a node has received, from anybody or from one node, is an initial segment, writer by writer, of what
+-- the
+-- writer has let out.
+abbrev pub RunClosed : (n f : ℕ) → Type 0
+RunClosed n f = (es : List Event) (c b : ℕ) (u v : Value) → value u ∈ letOutTo (trace n f es) (u .writer) b → UpTo u v
+    → let ν = after n f start es .nodes c in
+    (v ∈ ν .all → u ∈ ν .all) × ((k : ℕ) → v ∈ ν .from k → u ∈ ν .from k)

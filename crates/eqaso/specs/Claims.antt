@@ -7,7 +7,8 @@ use mathlib.Core.List.{[]}
 use Rattle.theory.specs.Log.{_∈_}
 use Rattle.eqaso.specs.Message.{absent, View, good}
 use Rattle.eqaso.specs.Algorithm.{none, done, shown, spent}
-use Rattle.eqaso.specs.Trace.{Trace, updating, begun, Fate, unfinished, ended, fate, tagAt, viewOf, entryAt, letOutTo}
+use Rattle.eqaso.specs.Trace.{Trace, updating, begun, Fate, unfinished, ended, fate, tagAt, viewOf, entryAt}
+use Rattle.eqaso.specs.Trace.{letOutTo}
 use Rattle.eqaso.specs.Order.{OneTo, Finished, IsScan, EndedBefore, Demand3}
 
 -- f is the largest number with 2f < n.
@@ -29,12 +30,12 @@ Comparable n v x = Below n v x ⊎ Below n x v
 -- The views of any two good rounds are comparable.
 abbrev pub RoundsComparable : ℕ → Trace → Type 0
 RoundsComparable n tr = (a b c d t u : ℕ) (v x : View) → good t v ∈ letOutTo tr a b → good u x ∈ letOutTo tr c d
-  → Comparable n v x
+    → Comparable n v x
 
 -- Where no update was begun, every scan shows no report of any node.
 abbrev pub ShowsAbsence : ℕ → Trace → Type 0
 ShowsAbsence n tr = ((u c p : ℕ) → ¬ (begun tr u ≡ updating c p)) → (s : ℕ) → IsScan (begun tr s) → Finished (fate tr s)
-  → (w : ℕ) → OneTo n w → entryAt (viewOf (fate tr s)) w ≡ absent
+    → (w : ℕ) → OneTo n w → entryAt (viewOf (fate tr s)) w ≡ absent
 
 -- The operation ended with a view, an update or a scan, and the view; the empty one for all else.
 abbrev pub HasView : Fate → Type 0
@@ -54,4 +55,4 @@ viewIn (ended k spent) = []
 -- The view of an operation has every update that ended before it began.
 abbrev pub HasEarlier : Trace → Type 0
 HasEarlier tr = (u c p t : ℕ) → begun tr u ≡ updating c p → 0 < tagAt tr u c → EndedBefore (fate tr u) t
-  → HasView (fate tr t) → tagAt tr u c ≤ entryAt (viewIn (fate tr t)) c .tag
+    → HasView (fate tr t) → tagAt tr u c ≤ entryAt (viewIn (fate tr t)) c .tag

@@ -96,12 +96,14 @@ channels stopped c l channel a b =
 -- Node c takes step s and lets l out. The channels are given as the event found them, for a delivery without the message.
 abbrev pub commit : ℕ → Extent → Step → List Sent → (ℕ → ℕ → List Message) → Cluster → Result
 commit c x s l channel σ = record {
-    cluster = record {
-        nodes = upd (σ .nodes) c (s .node);
-        stopped = halted x c (σ .stopped);
-        channel = channels (halted x c (σ .stopped)) c l channel };
-    answer = accepted (given x (s .ending));
-    sent = l }
+  cluster = record {
+    nodes = upd (σ .nodes) c (s .node);
+    stopped = halted x c (σ .stopped);
+    channel = channels (halted x c (σ .stopped)) c l channel;
+  };
+  answer = accepted (given x (s .ending));
+  sent = l;
+}
 
 -- The most messages that a channel holds.
 abbrev pub capacity : ℕ

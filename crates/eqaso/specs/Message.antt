@@ -15,9 +15,9 @@ abbrev pub of : ℕ → ℕ → ℕ → Value
 of t w r = record { tag = t; writer = w; report = r }
 
 abbrev same-by : (a b : Value) → Dec (a .tag ≡ b .tag) → Dec (a .writer ≡ b .writer) → Dec (a .report ≡ b .report)
-  → Dec (a ≡ b)
+    → Dec (a ≡ b)
 same-by a b (yes p) (yes q) (yes r) = yes
-  (ap (λ x. of x (a .writer) (a .report)) p ∙ ap (λ x. of (b .tag) x (a .report)) q ∙ ap (of (b .tag) (b .writer)) r)
+    (ap (λ x. of x (a .writer) (a .report)) p ∙ ap (λ x. of (b .tag) x (a .report)) q ∙ ap (of (b .tag) (b .writer)) r)
 same-by a b (no p) q r = no λ e. p (ap (λ v. v .tag) e)
 same-by a b (yes p) (no q) r = no λ e. q (ap (λ v. v .writer) e)
 same-by a b (yes p) (yes q) (no r) = no λ e. r (ap (λ v. v .report) e)

@@ -77,7 +77,7 @@ pub record SingleOrder (n : ℕ) (tr : Trace) : Type 0 where
   pub members : (t : ℕ) → (t ∈ line) ↔ Placed tr t
   -- each scan shows of every node the last update before it, and no report where there is none,
   pub legal : (s : ℕ) → s ∈ line → IsScan (begun tr s) → (w : ℕ) → OneTo n w
-    → entryAt (viewOf (fate tr s)) w ≡ written tr w (before s line) absent
+      → entryAt (viewOf (fate tr s)) w ≡ written tr w (before s line) absent
   -- and what ended before another began stands before it.
   pub timely : (a b : ℕ) → a ∈ line → b ∈ line → EndedBefore (fate tr a) b → a ∈ before b line
 

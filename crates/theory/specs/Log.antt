@@ -63,6 +63,7 @@ module _ {ℓ} {A : Type ℓ} where
       step : {d : List A} → ¬ (x ∈ d) → d ⊑ (x ∷ a) → d ⊑ a
       step k here = absurd (k (List·Memᴰ·head refl))
       step k (more r) = r
+
       go : ((x ∷ a) ⊑ b) ⊎ (b ⊑ (x ∷ a)) → b ⊑ a
       go (inl r) = absurd (h (placed r))
       go (inr r) = step h r
