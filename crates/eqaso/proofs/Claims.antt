@@ -7,7 +7,7 @@ use Rattle.eqaso.specs.Message.{View, value, good}
 use Rattle.eqaso.specs.Cluster.{Event}
 use Rattle.eqaso.specs.Trace.{trace, letOutTo}
 use Rattle.eqaso.specs.Bounded.{RunBounded, RunExpected, OwnHeld, OpensHigh, RunClosed}
-use Rattle.eqaso.specs.Claims.{Claim3, RoundsComparable, ShowsAbsence, HasEarlier}
+use Rattle.eqaso.specs.Claims.{Claim3, TagsAsWorded, RoundsComparable, ShowsAbsence, HasEarlier}
 use Rattle.eqaso.proofs.Cert.{carry}
 use Rattle.eqaso.proofs.Local.{Due}
 use Rattle.eqaso.proofs.Grow.{upd-shorter}
@@ -19,6 +19,7 @@ use Rattle.eqaso.proofs.History.{Certified}
 use Rattle.eqaso.proofs.Views.{comparable-views}
 use Rattle.eqaso.proofs.Run.{good as run-good}
 use Rattle.eqaso.proofs.OneOrder.{one-order}
+use Rattle.eqaso.proofs.Words.{as-worded}
 use Rattle.eqaso.proofs.Corollary.{scan-without-updates, view-has-earlier}
 use Rattle.eqaso.proofs.Demand3.{demand3}
 use Rattle.eqaso.proofs.BoundedRun.{run-bounded, run-expected, run-own-held}
@@ -38,6 +39,9 @@ module _ (n f : ℕ) (half : f + f < n) where
       let (p, at) = place m in
       let (A, is, G) = each-at (Due n f a (logs (g .sites))) (g .inv a .due) at in
       (t, (A, is, carry (upd-shorter (logs (g .sites)) a (⊑-cons at)) G))
+
+  pub tags-as-worded : (es : List Event) → TagsAsWorded (trace n f es)
+  tags-as-worded es = as-worded (run-good n f half es .kept)
 
   pub rounds-comparable : (es : List Event) → RoundsComparable n (trace n f es)
   rounds-comparable es a b c d t u v x i j = comparable-views n f half (certified es a b t v i) (certified es c d u x j)

@@ -1,5 +1,6 @@
--- Two traces that the claim rules out, since they have no single order: a scan that misses an update which ended before
--- it began, and a scan that shows an unfinished update and misses one which ended before that began.
+-- Three traces that the claim rules out, since they have no single order: an update that ended unsent, a scan that misses
+-- an update which ended before it began, and a scan that shows an unfinished update and misses one which ended before
+-- that began.
 use Prim.Native.Nat.{ℕ, zero, suc, _<_}
 use native.Mathlib.Decide.{ℕ-discrete, decLt}
 use native.Mathlib.Omega.{arith}
@@ -16,6 +17,17 @@ use Rattle.eqaso.specs.Trace.{tagsSent, ownTags, largest, firstAbove}
 use Rattle.eqaso.specs.Order.{Shows, before, written, SingleOrder}
 use Rattle.eqaso.proofs.Written.{written-none}
 use Rattle.eqaso.proofs.Single.{before-trans}
+
+-- An update with a report of zeros that is done and has sent nothing: whoever looks sees an absence, and no harm.
+abbrev unsent : Trace
+unsent =
+    record { event = begin 1 (update 0) whole; answer = accepted none; sent = [] }
+    ∷ record { event = deliver 1 1 whole; answer = accepted (done (direct round1) (absent ∷ [])); sent = [] }
+    ∷ []
+
+unsent-out : ¬ SingleOrder 1 unsent
+unfolding firstEnding tagsSent ownTags largest firstAbove ℕ-discrete decLt decide
+unsent-out o = let pos : 0 < tagAt unsent 0 1 = o .tagged 0 1 0 (o .members 0 .1 tt) refl in absurd (omega (arith, pos))
 
 abbrev missed : Trace
 missed =

@@ -105,6 +105,9 @@ module _ (n : ℕ) (tr : Trace) (F : Facts n (length tr) (plain tr)) where
     line = order .line;
     once = once-is (order .line) (order .once);
     members = λ t. (λ i. placed-of n tr F t (order .whole t .0 i), λ h. order .whole t .1 (all-of n tr F t h));
+    tagged = λ t c p i is.
+        let x = update-at n tr F t (placed-of n tr F t (order .whole t .0 i)) (update-kind c t (p, is)) in
+        subst (λ s. 0 < s) (ap (tagOf tr t) is) (x .tagged);
     legal = λ s i is w one.
         let k = scan-kind (begun tr s) is in
         let j = order .whole s .0 i in

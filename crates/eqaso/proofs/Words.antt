@@ -11,15 +11,11 @@ use Rattle.theory.specs.Log.{_∈_}
 use Rattle.eqaso.specs.Trace.{Trace, updating, begun, Fate, ended, fateAt, fateOf, fate, upToEnd, ownTags}
 use Rattle.eqaso.specs.Trace.{largest, tagAt}
 use Rattle.eqaso.specs.Order.{EndedBefore}
+use Rattle.eqaso.specs.Claims.{IsTag, TagsAsWorded}
 use Rattle.eqaso.proofs.Book.{tagOf, bookOf, At}
 use Rattle.eqaso.proofs.Tags.{largest-above, first-fits, first-none}
 use Rattle.eqaso.proofs.Rows.{own-take, own-drop, own-span}
 use Rattle.eqaso.proofs.Kept.{Kept}
-
--- The words, of the update of node c that began at index t.
-pub record IsTag (tr : Trace) (t c s : ℕ) : Type 0 where
-  pub sent : s ∈ ownTags c (upToEnd t (fateAt tr t c) tr)
-  pub above : (x : ℕ) → x ∈ ownTags c (take t tr) → x < s
 
 -- The largest number is one of them, unless it is 0.
 largest-in : (l : List ℕ) → 0 < largest l → largest l ∈ l
@@ -107,3 +103,17 @@ only-tag {n} {tr} k t c p s is h =
     go u q was pos tag (no h1) (no h2) =
         let e : u ≡ t = omega arith in
         sym tag ∙ ap (tagOf tr u) was ∙ ap (λ j. tagAt tr j c) e
+
+-- The tags of a node rise from one of its updates to the next.
+tags-rise : {n : ℕ} {tr : Trace} → Kept n tr → (t u c p q : ℕ) → begun tr t ≡ updating c p → begun tr u ≡ updating c q
+    → t < u → 0 < tagAt tr u c → tagAt tr t c < tagAt tr u c
+unfolding bookOf
+tags-rise {n} {tr} k t u c p q is was lt pos =
+    let at : (j r : ℕ) → begun tr j ≡ updating c r → At (begun tr j) c = λ j r e. subst (λ b. At b c) (sym e) refl in
+    let before = k .facts .apart t u c (at t p is) (at u q was) lt in
+    let old : tagOf tr t (begun tr t) ≡ tagAt tr t c = ap (tagOf tr t) is in
+    let new : tagOf tr u (begun tr u) ≡ tagAt tr u c = ap (tagOf tr u) was in
+    omega (arith, k .facts .rises t u c c p q is was before (omega arith))
+
+pub as-worded : {n : ℕ} {tr : Trace} → Kept n tr → TagsAsWorded tr
+as-worded {n} {tr} k = record { only = only-tag k; fits = tag-fits tr; none = tag-absent tr; rise = tags-rise k }

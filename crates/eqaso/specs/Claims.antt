@@ -4,11 +4,13 @@ use Prim.Native.Nat.{ℕ, suc, _+_, _≤_, _<_}
 use mathlib.Core.Path.{_≡_}
 use mathlib.Core.Logic.{_⊎_}
 use mathlib.Core.List.{[]}
+use lib.ListN.{take}
 use Rattle.theory.specs.Log.{_∈_}
 use Rattle.eqaso.specs.Message.{absent, View, good}
 use Rattle.eqaso.specs.Algorithm.{none, done, shown, spent}
 use Rattle.eqaso.specs.Trace.{Trace, updating, begun, Fate, unfinished, ended, fate, tagAt, viewOf, entryAt}
 use Rattle.eqaso.specs.Trace.{letOutTo}
+use Rattle.eqaso.specs.Trace.{fateAt, upToEnd, ownTags}
 use Rattle.eqaso.specs.Order.{OneTo, Finished, IsScan, EndedBefore, Demand3}
 
 -- f is the largest number with 2f < n.
@@ -18,6 +20,21 @@ Faults n f = (f + f < n) × (n ≤ suc f + suc f)
 -- Demand 3 of document 01: one to sixteen nodes, of which f may stop.
 abbrev pub Claim3 : Type 0
 Claim3 = (n f : ℕ) → OneTo 16 n → Faults n f → Demand3 n f
+
+-- Document 01's words for the tag s of the update of node c that began at index t: it is among its own tags let out from
+-- its begin to its ending, and above all of them let out before.
+pub record IsTag (tr : Trace) (t c s : ℕ) : Type 0 where
+  pub sent : s ∈ ownTags c (upToEnd t (fateAt tr t c) tr)
+  pub above : (x : ℕ) → x ∈ ownTags c (take t tr) → x < s
+
+-- The words fit one number at most, which is the tag; where they fit none, the tag is 0; and the tags of a node rise from
+-- one of its updates to the next.
+pub record TagsAsWorded (tr : Trace) : Type 0 where
+  pub only : (t c p s : ℕ) → begun tr t ≡ updating c p → IsTag tr t c s → s ≡ tagAt tr t c
+  pub fits : (t c : ℕ) → 0 < tagAt tr t c → IsTag tr t c (tagAt tr t c)
+  pub none : (t c : ℕ) → ((s : ℕ) → ¬ IsTag tr t c s) → tagAt tr t c ≡ 0
+  pub rise : (t u c p q : ℕ) → begun tr t ≡ updating c p → begun tr u ≡ updating c q → t < u → 0 < tagAt tr u c
+    → tagAt tr t c < tagAt tr u c
 
 -- The first view has of no node a larger tag than the second.
 abbrev pub Below : ℕ → View → View → Type 0

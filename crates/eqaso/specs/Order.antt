@@ -75,6 +75,8 @@ pub record SingleOrder (n : ℕ) (tr : Trace) : Type 0 where
   pub once : Once line
   -- just those that have a place stand in it,
   pub members : (t : ℕ) → (t ∈ line) ↔ Placed tr t
+  -- each update in it has a tag,
+  pub tagged : (t c p : ℕ) → t ∈ line → begun tr t ≡ updating c p → 0 < tagAt tr t c
   -- each scan shows of every node the last update before it, and no report where there is none,
   pub legal : (s : ℕ) → s ∈ line → IsScan (begun tr s) → (w : ℕ) → OneTo n w
       → entryAt (viewOf (fate tr s)) w ≡ written tr w (before s line) absent
