@@ -34,7 +34,7 @@ pub record TagsAsWorded (tr : Trace) : Type 0 where
   pub fits : (t c : ℕ) → 0 < tagAt tr t c → IsTag tr t c (tagAt tr t c)
   pub none : (t c : ℕ) → ((s : ℕ) → ¬ IsTag tr t c s) → tagAt tr t c ≡ 0
   pub rise : (t u c p q : ℕ) → begun tr t ≡ updating c p → begun tr u ≡ updating c q → t < u → 0 < tagAt tr u c
-    → tagAt tr t c < tagAt tr u c
+      → tagAt tr t c < tagAt tr u c
 
 -- The first view has of no node a larger tag than the second.
 abbrev pub Below : ℕ → View → View → Type 0
