@@ -1,0 +1,39 @@
+-- `endpoint::emit::emit_all` meets its contract. Assumes nothing.
+use borrow.Author.Needs.{needs}
+use mathlib.Core.Path.{refl, ap, _∙_}
+use mathlib.Core.List.{List}
+use Prim.Native.Nat.{ℕ}
+use native.Mathlib.Nat.{le-of-eq}
+use Rattle.octets.specs.Bytes.{put}
+use Rattle.node.specs.Step.{messages}
+use Rattle.endpoint.specs.Bytes.{run}
+use Rattle.endpoint.proofs.Runs.{front-length, front-most, again-length, front-is, room-of}
+use Rattle.endpoint.proofs.emit.emit_all.Statement.{statement}
+use Rattle.endpoint.proofs.emit.emit_all.Tie as tie
+
+slice-aggregate-write-view : tie.Need-slice-aggregate-write-view
+slice-aggregate-write-view c = front-length (c .before .before .args .n) _ refl (c .before .before .pre .1)
+
+write-view-requires : tie.Need-write-view-requires
+write-view-requires c κs = (c .before .before .pre .1, le-of-eq (front-length (c .before .before .args .n) _ refl (c .before .before .pre .1)))
+
+array-share-prefix-view : tie.Need-array-share-prefix-view
+array-share-prefix-view c = front-most (c .before .before .before .before .args .n) _ refl (c .before .before .before .before .pre .1) (c .before .write-view .last .1 .1 .0) (c .before .write-view .kept .1 .1 .0)
+
+slice-aggregate-emit-parts : tie.Need-slice-aggregate-emit-parts
+slice-aggregate-emit-parts c = again-length (c .before .before .before .before .before .args .n) _ refl (c .before .before .before .before .before .pre .1) (c .before .before .write-view .last .1 .1 .0) (c .before .before .write-view .kept .1 .1 .0)
+
+emit-parts-requires : tie.Need-emit-parts-requires
+emit-parts-requires c κs = let a = c .before .before .before .before .before .before .args in let p = c .before .before .before .before .before .before .pre in
+    room-of (a .n) (a .o .view) _ (messages (a .o)) _ (front-is (a .n) _ refl (p .1) (c .before .before .before .write-view .last .1 .1 .0) (c .before .before .before .write-view .kept .1 .1 .0) (a .o .view) (c .before .before .before .write-view .ensures))
+    (p .0) (p .1) (p .2) (p .3)
+
+returns : tie.Need-returns
+returns c = let a = c .before .before .before .before .before .before .before .before .before .args in let p = c .before .before .before .before .before .before .before .before .before .pre in
+    c .before .before .emit-parts .ensures
+    ∙ ap (λ (w : List ℕ). put (a .out .now) 0 (run w (messages (a .o)))) (front-is (a .n) _ refl (p .1) (c .before .before .before .before .before .before .write-view .last .1 .1 .0) (c .before .before .before .before .before .before .write-view .kept .1 .1 .0) (a .o .view) (c .before .before .before .before .before .before .write-view .ensures))
+
+pub emit-all-spec : {M : Type 1} → statement M
+emit-all-spec =
+    tie.close
+    (tie.spec (λ c. search needs) (λ c. search needs) slice-aggregate-write-view write-view-requires array-share-prefix-view slice-aggregate-emit-parts emit-parts-requires (λ c. search needs) returns)

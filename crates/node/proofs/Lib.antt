@@ -1,0 +1,11 @@
+pub mod Exclusive
+pub mod Handled
+pub mod Lawful
+pub mod Numbers
+pub mod Points
+pub mod Safe
+pub mod Same
+pub mod Session
+pub mod Theorems
+pub mod Turns
+pub mod Waits

@@ -1,0 +1,14 @@
+-- `node::begun_step` meets its contract. Assumes nothing.
+use borrow.Author.Needs.{needs}
+use Rattle.node.specs.Move.{begun}
+use Rattle.node.proofs.begun_step.Statement.{statement}
+use Rattle.node.proofs.begun_step.Tie as tie
+
+returns : tie.Need-returns
+unfolding begun
+returns c = simp (c .started-step .ensures, c .before .turned-node .ensures)
+
+pub begun-step-spec : {M : Type 1} → statement M
+begun-step-spec =
+    tie.close
+    (tie.spec (λ c. search needs) (λ c. search needs) (λ c κs. search needs) (λ c κs. search needs) returns)

@@ -1,0 +1,28 @@
+-- `node::passes::move_on` meets its contract: each pass keeps the record usable for the next. Assumes nothing.
+use borrow.Author.Needs.{needs}
+use mathlib.Core.Path.{ap, _∙_}
+use Rattle.record.proofs.Parts.{parts, usable-of}
+use Rattle.node.specs.Move.{reads, writes, compares, borrows, moveOn}
+use Rattle.node.proofs.Safe.{reads-parts, writes-parts}
+use Rattle.node.proofs.passes.move_on.Statement.{statement}
+use Rattle.node.proofs.passes.move_on.Tie as tie
+
+write-pass-requires : tie.Need-write-pass-requires
+write-pass-requires c κs = let a = c .before .args in
+    rw (c .read-pass .ensures) (usable-of _ (reads-parts (a .f) (a .s) (parts _ (c .before .pre))))
+
+compare-pass-requires : tie.Need-compare-pass-requires
+compare-pass-requires c κs = let a = c .before .before .args in
+    rw (c .write-pass .ensures, c .before .read-pass .ensures)
+    (usable-of _ (writes-parts (a .f) (reads (a .f) (a .s)) (reads-parts (a .f) (a .s) (parts _ (c .before .before .pre)))))
+
+returns : tie.Need-returns
+unfolding moveOn
+returns c = let f = c .before .before .before .before .args .f in
+    c .borrow-pass .ensures
+    ∙ ap borrows (c .before .compare-pass .ensures ∙ ap (compares f) (c .before .before .write-pass .ensures ∙ ap (writes f) (c .before .before .before .read-pass .ensures)))
+
+pub move-on-spec : {M : Type 1} → statement M
+move-on-spec =
+    tie.close
+    (tie.spec (λ c κs. search needs) write-pass-requires compare-pass-requires (λ c κs. search needs) returns)

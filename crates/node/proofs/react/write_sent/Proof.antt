@@ -1,0 +1,14 @@
+-- `node::react::write_sent` meets its contract. Assumes nothing.
+use Rattle.node.proofs.react.write_sent.Statement.{statement}
+use Rattle.node.proofs.react.write_sent.Tie as tie
+
+returns : tie.Need-returns
+returns c = simp (c .if1 .taken)
+
+returns-2 : tie.Need-returns-2
+returns-2 c = simp (c .if1 .left)
+
+pub write-sent-spec : {M : Type 1} → statement M
+write-sent-spec =
+    tie.close
+    (tie.spec returns returns-2)

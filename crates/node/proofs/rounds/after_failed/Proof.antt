@@ -1,0 +1,19 @@
+-- `node::rounds::after_failed` meets its contract. Assumes nothing.
+use borrow.Author.Needs.{needs}
+use borrow.Author.Tests.{lt-ltb, le-ltb}
+use Rattle.node.specs.Move.{afterFailed}
+use Rattle.node.proofs.rounds.after_failed.Statement.{statement}
+use Rattle.node.proofs.rounds.after_failed.Tie as tie
+
+returns : tie.Need-returns
+unfolding afterFailed
+returns c = simp (lt-ltb _ _ (c .before .before .before .before .before .if1 .taken), c .after-comparing .ensures, c .before .before .opened-node .ensures, c .before .before .before .before .next-tag .ensures, c .before .absent .ensures)
+
+returns-2 : tie.Need-returns-2
+unfolding afterFailed
+returns-2 c = simp (le-ltb _ _ (c .before .before .before .if1 .left), c .after-comparing2 .ensures, c .before .before .closed-node .ensures, c .before .absent2 .ensures)
+
+pub after-failed-spec : {M : Type 1} → statement M
+after-failed-spec =
+    tie.close
+    (tie.spec (λ c κs. search needs) (λ c. search needs) (λ c. search needs) (λ c κs. search needs) (λ c κs. search needs) (λ c κs. search needs) returns (λ c κs. search needs) (λ c κs. search needs) (λ c κs. search needs) returns-2)

@@ -1,0 +1,118 @@
+// One step of a node, as a pure function: it takes the record and a message, or the begin of an operation, and answers
+// with the record after it, what is sent and how the operation ended, if it did. A step reacts, then moves the open
+// operation on until it must wait. f, how many nodes may stop, is a parameter everywhere.
+pub mod passes;
+pub mod react;
+pub mod rounds;
+
+use passes::move_on;
+use react::react_to;
+use record::Node;
+use record::Operation;
+use record::Wait;
+use record::changes::turned_node;
+use view::View;
+use view::absent;
+use wire::Message;
+ghost use mathlib.Core.Path.{_≡_};
+ghost use mathlib.Core.Bool.{true, false};
+ghost use Prim.Native.Nat.{_≤_};
+ghost use Rattle.view.specs.Size.{limit};
+ghost use Rattle.record.specs.Usable.{isOpen, full, usable};
+ghost use Rattle.node.specs.Allowed.{lawful};
+ghost use Rattle.node.specs.Step.{started};
+ghost use Rattle.node.specs.Move.{messageStep, begun, beginStep};
+
+// What one part of a step sends.
+pub enum Sent {
+    Nothing,
+    One(Message),
+    Two(Message, Message),
+}
+
+// What a step sends, in this order: the handler's messages, those that follow a quorum of read answers, those that
+// follow agreement. Answers go to node `to`, whose message was handled, the other kinds to all. `view` is the view that
+// a good message carries.
+pub struct Outbox {
+    pub to: usize,
+    pub handler: Sent,
+    pub reading: Sent,
+    pub comparing: Sent,
+    pub view: View,
+}
+
+// How an operation came by its view: by a good round of its own, with its number, or by a good message kept.
+pub enum Rule {
+    Direct(u64),
+    Borrowed,
+}
+
+// What a step tells the client: nothing, or that its update is done, its scan has its view, or no tag was left (13).
+pub enum Ending {
+    None,
+    Done(Rule),
+    Scan(Rule),
+    Spent,
+}
+
+// A step. `view` is that of the operation that ended, an update's too.
+pub struct Step {
+    pub node: Node,
+    pub outbox: Outbox,
+    pub ending: Ending,
+    pub view: View,
+}
+
+// A step that has handled what came.
+pub fn started_step(c: Node, to: usize, sent: Sent) -> Step
+    ensures { λ r. ⌜ r ≡ started c to sent ⌝ }
+{
+    Step {
+        node: c,
+        outbox: Outbox {
+            to: to,
+            handler: sent,
+            reading: Sent::Nothing,
+            comparing: Sent::Nothing,
+            view: absent(),
+        },
+        ending: Ending::None,
+        view: absent(),
+    }
+}
+
+// A message m from node s, with the view of a good message.
+pub fn message_step(f: usize, c: Node, s: usize, m: Message, v: View) -> Step
+    requires { ⌜ (usable c ≡ true) × (1 ≤ s) × (s ≤ c .n) × (lawful (c .n) m v ≡ true) ⌝ }
+    ensures { λ r. ⌜ r ≡ messageStep f c s m v ⌝ }
+{
+    move_on(f, react_to(c, s, m, v))
+}
+
+// An operation is begun: its read goes out, with the next request number.
+fn begun_step(c: Node, o: Operation) -> Step
+    requires { ⌜ c .request ≤ limit ⌝ }
+    ensures { λ r. ⌜ r ≡ begun c o ⌝ }
+{
+    let read = Message::Read {
+        request: c.request + 1,
+    };
+    let wait = Wait::Reading {
+        operation: o,
+        answered: 0,
+        largest: 0,
+    };
+    started_step(
+        turned_node(c, c.request + 1, wait, c.atround),
+        c.own,
+        Sent::One(read),
+    )
+}
+
+// The begin of an operation at a node that has none open and request numbers enough.
+pub fn begin_step(f: usize, c: Node, o: Operation) -> Step
+    requires { ⌜ (usable c ≡ true) × (isOpen (c .wait) ≡ false) × (full c ≡ false) ⌝ }
+    ensures { λ r. ⌜ r ≡ beginStep f c o ⌝ }
+{
+    move_on(f, begun_step(c, o))
+}

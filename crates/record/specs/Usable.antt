@@ -1,0 +1,79 @@
+-- Which records are usable, in the order of document 01's refusal 2, and the conditions of refusals 5, 6 and 9.
+-- All sixteen places of a table are judged, whatever n is.
+-- Assumes nothing.
+use mathlib.Core.Bool.{Bool, true, false}
+use Prim.Native.Nat.{ℕ, _-_}
+use lib.Dec.{leb, ltb}
+use Rattle.octets.specs.Test.{both}
+use Rattle.view.specs.Size.{limit}
+use Rattle.table.specs.Loop.{either}
+use Rattle.table.specs.Table.{tagOf, within, heardOf, heardWithin}
+use Rattle.table.specs.Quorum.{only}
+use Rattle.record.specs.declared.Node.{Node}
+use Rattle.record.specs.declared.Operation.the-variants.{Update, Scan}
+use Rattle.record.specs.declared.Wait.{Wait}
+use Rattle.record.specs.declared.Wait.the-variants.{Idle, Reading, Writing, Comparing, Borrowing}
+
+-- how many request numbers the open operation may still use: one for each round to come
+abbrev pub stillUses : Wait → ℕ
+stillUses Idle = 0
+stillUses (Reading (Update p) a m) = 4
+stillUses (Reading Scan a m) = 3
+stillUses (Writing k i r a) = 3 - i
+stillUses (Comparing k i r) = 3 - i
+stillUses (Borrowing k r) = 0
+
+-- the tag of the open round; where none is open, the limit, which every tag keeps
+abbrev pub roundTag : Wait → ℕ
+roundTag Idle = limit
+roundTag (Reading o a m) = limit
+roundTag (Writing k i r a) = r
+roundTag (Comparing k i r) = r
+roundTag (Borrowing k r) = limit
+
+-- a round from 0 to 3, and its tag: the one after a round 0 has a larger tag, so that of round 0 is below the limit
+abbrev pub roundOk : ℕ → ℕ → Bool
+roundOk i r = both (leb i 3) (either (both (leb r limit) (leb 1 i)) (ltb r limit))
+
+-- the numbers of the wait: counted senders are among 1 to n, tags keep the limit
+abbrev pub waitOk : ℕ → Wait → Bool
+waitOk n Idle = true
+waitOk n (Reading o a m) = both (only n a) (leb m limit)
+waitOk n (Writing k i r a) = both (only n a) (roundOk i r)
+waitOk n (Comparing k i r) = roundOk i r
+waitOk n (Borrowing k r) = leb r limit
+
+-- n and the own number
+abbrev pub sizesOk : Node → Bool
+sizesOk c = both (both (leb 1 (c .n)) (leb (c .n) 16)) (both (leb 1 (c .own)) (leb (c .own) (c .n)))
+
+-- the numbers and the wait keep their limits, and enough request numbers are left
+unfoldable pub numbersOk : Node → Bool
+numbersOk c =
+    both (both (leb (c .maxtag) limit) (both (leb (c .request) limit) (leb (c .kept) limit)))
+    (both (waitOk (c .n) (c .wait)) (leb (stillUses (c .wait)) (limit - c .request)))
+
+-- no tag above the limit, no report held for a tag that it is above, none beside tag 0
+unfoldable pub tablesOk : Node → Bool
+tablesOk c =
+    both (both (heardWithin (c .heard)) (within limit (c .last)))
+    (both (both (within (c .maxtag) (c .atmax)) (within (roundTag (c .wait)) (c .atround))) (within (c .kept) (c .keptview)))
+
+unfoldable pub usable : Node → Bool
+usable c = both (sizesOk c) (both (numbersOk c) (tablesOk c))
+
+-- 5: an operation is open
+abbrev pub isOpen : Wait → Bool
+isOpen Idle = false
+isOpen (Reading o a m) = true
+isOpen (Writing k i r a) = true
+isOpen (Comparing k i r) = true
+isOpen (Borrowing k r) = true
+
+-- 6: fewer than five request numbers are left
+abbrev pub full : Node → Bool
+full c = ltb (limit - c .request) 5
+
+-- 9: a value of writer w with tag t from sender s
+abbrev pub stale : Node → ℕ → ℕ → ℕ → Bool
+stale c s w t = either (ltb t (heardOf (c .heard) s w)) (both (ltb (tagOf (c .last) w) t) (ltb (c .maxtag) (tagOf (c .last) w)))

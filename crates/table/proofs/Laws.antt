@@ -1,0 +1,93 @@
+-- Laws of the loops over 1 to n: one number more, and from the whole to each number and back.
+-- Assumes nothing.
+use mathlib.Core.Path.{_≡_, refl, sym, ap, _∙_, subst}
+use mathlib.Core.Bool.{Bool, true, false}
+use mathlib.Core.List.{List, [], _∷_, _++_, map, append-nil}
+use Prim.Native.Nat.{ℕ, zero, suc, _+_, _-_, _≤_, _<_}
+use mathlib.Core.Logic.{⊎-elim}
+use native.Mathlib.Nat.{le-of-suc-le-suc, eq-or-lt-of-le, not-suc-le-zero}
+use native.Mathlib.Numerals.{add-one}
+use native.Mathlib.Omega.{arith}
+use lib.ListN.{length, length-map, getD, set, drop, length-append, List·getD-append}
+use lib.Seq.{getD-at, set-at, drop-cons, drop-length, append-snoc}
+use Rattle.octets.specs.Test.{pick, both}
+use Rattle.octets.proofs.Test.{both-left, both-right, both-true}
+use Rattle.table.specs.Loop.{all, count, tab}
+
+pub all-none : (p : ℕ → Bool) → all 0 p ≡ true
+unfolding all
+all-none p = refl
+
+pub all-more : (k : ℕ) (p : ℕ → Bool) → all (k + 1) p ≡ both (p (k + 1)) (all k p)
+unfolding all
+all-more k p = rw (add-one k)
+
+-- 1 to n + 1 is 1 to n, or n + 1
+upTo-suc : {X : Type 0} {w n : ℕ} → w ≤ suc n → (w ≡ suc n → X) → (w ≤ n → X) → X
+upTo-suc h f g = ⊎-elim f (λ l. g (le-of-suc-le-suc l)) (eq-or-lt-of-le h)
+
+pub all-at : (n : ℕ) (p : ℕ → Bool) (w : ℕ) → all n p ≡ true → 1 ≤ w → w ≤ n → p w ≡ true
+unfolding all
+all-at zero p w h l k = absurd (let e : 1 ≤ 0 = omega arith in not-suc-le-zero e)
+all-at (suc n) p w h l k =
+    upTo-suc k (λ e. ap p e ∙ both-left (p (suc n)) (all n p) h) (λ m. all-at n p w (both-right (p (suc n)) (all n p) h) l m)
+
+pub all-all : (n : ℕ) (p : ℕ → Bool) → ((w : ℕ) → 1 ≤ w → w ≤ n → p w ≡ true) → all n p ≡ true
+unfolding all
+all-all zero p h = refl
+all-all (suc n) p h = both-true (h (suc n) (omega arith) (omega arith)) (all-all n p (λ w l k. h w l (omega arith)))
+
+pub count-none : (p : ℕ → Bool) → count 0 p ≡ 0
+unfolding count
+count-none p = refl
+
+pub count-more : (k : ℕ) (p : ℕ → Bool) → count (k + 1) p ≡ pick (p (k + 1)) (count k p + 1) (count k p)
+unfolding count
+count-more k p = rw (add-one k)
+
+pub tab-none {ℓ} : {X : Type ℓ} (f : ℕ → X) → tab 0 f ≡ []
+unfolding tab
+tab-none f = refl
+
+pub tab-more {ℓ} : {X : Type ℓ} (k : ℕ) (f : ℕ → X) → tab (k + 1) f ≡ tab k f ++ (f (k + 1) ∷ [])
+unfolding tab
+tab-more k f = rw (add-one k)
+
+pub length-tab {ℓ} : {X : Type ℓ} (n : ℕ) (f : ℕ → X) → length (tab n f) ≡ n
+unfolding tab
+length-tab zero f = refl
+length-tab (suc k) f = length-append (tab k f) (f (suc k) ∷ []) ∙ simp (length-tab k f, add-one)
+
+-- entry w of a table
+pub getD-tab : {X : Type 0} (n : ℕ) (f : ℕ → X) (w : ℕ) (d : X) → 1 ≤ w → w ≤ n → getD (tab n f) (w - 1) d ≡ f w
+unfolding tab
+getD-tab zero f w d l k = absurd (let e : 1 ≤ 0 = omega arith in not-suc-le-zero e)
+getD-tab (suc n) f w d l k =
+    upTo-suc k
+    (λ e. getD-at (tab n f) (f (suc n)) [] d (w - 1) (length-tab n f ∙ let q : n ≡ w - 1 = omega arith in q) ∙ ap f (sym e))
+    (λ m. let q : w - 1 < length (tab n f) = rw (length-tab n f) (omega arith) in
+    List·getD-append (tab n f) (f (suc n) ∷ []) d (w - 1) q ∙ getD-tab n f w d l m)
+
+-- a table that is filled up to k, with entry k + 1 chosen and stored, is filled up to k + 1
+pub filled {ℓ} : {X : Type ℓ} (k : ℕ) (f : ℕ → X) (l : List X) (b : Bool) (x d : X) → k < length l
+    → f (k + 1) ≡ pick b x (getD l (k + 1 - 1) d)
+    → pick b (set (tab k f ++ drop k l) (k + 1 - 1) x) (tab k f ++ drop k l) ≡ tab (k + 1) f ++ drop (k + 1) l
+filled k f l true x d h e =
+    let back : k + 1 - 1 ≡ k = omega arith in
+    rw (back, drop-cons l k d, set-at (tab k f) (getD l k d) (drop (suc k) l) x k (length-tab k f), tab-more k f, e, add-one k)
+    (sym (append-snoc (tab k f) x (drop (suc k) l)))
+filled k f l false x d h e =
+    let back : k + 1 - 1 ≡ k = omega arith in
+    rw (tab-more k f, e, back, add-one k, drop-cons l k d)
+    (sym (append-snoc (tab k f) (getD l k d) (drop (suc k) l)))
+
+pub filled-none {ℓ} : {X : Type ℓ} (f : ℕ → X) (l : List X) → l ≡ tab 0 f ++ drop 0 l
+unfolding tab
+filled-none f l = refl
+
+pub filled-all {ℓ} : {X : Type ℓ} (n : ℕ) (f : ℕ → X) (l : List X) → length l ≡ n → tab n f ++ drop n l ≡ tab n f
+filled-all n f l e = rw (← e, drop-length l) (append-nil (tab (length l) f))
+
+-- a list has as many elements as what it is mapped to
+pub length-mapped : {X Y : Type 0} (f : X → Y) (l : List X) (n : ℕ) → length (map f l) ≡ n → length l ≡ n
+length-mapped f l n e = sym (length-map l f) ∙ e

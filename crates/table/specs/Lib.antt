@@ -1,0 +1,3 @@
+pub mod Loop
+pub mod Table
+pub mod Quorum
