@@ -1,0 +1,13 @@
+pub mod Choice
+pub mod Quorums
+pub mod Tables
+pub mod Agreement
+pub mod Turned
+pub mod Answered
+pub mod Raised
+pub mod Received
+pub mod Lockstep
+pub mod React
+pub mod Answers
+pub mod Compares
+pub mod Steps

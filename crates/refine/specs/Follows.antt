@@ -1,0 +1,71 @@
+-- When the bounded record of a node follows its sets: each table says of the sets what document 01 has it remember.
+use Prim.Native.Nat.{ℕ}
+use mathlib.Core.Path.{_≡_}
+use mathlib.Core.List.{List}
+use lib.ListN.{length}
+use Rattle.view.specs.declared.View.{View}
+use Rattle.table.specs.Table.{heardOf}
+use Rattle.table.specs.Quorum.{member}
+use Rattle.record.specs.declared.Node.{Node}
+use Rattle.record.specs.declared.Operation.{Operation}
+use Rattle.record.specs.declared.Wait.{Wait}
+use Rattle.record.specs.declared.Wait.the-variants.{Idle, Reading, Writing, Comparing, Borrowing}
+use Rattle.eqaso.specs.Message as M
+use Rattle.eqaso.specs.Algorithm as A
+use Rattle.eqaso.specs.Order.{OneTo}
+use Rattle.eqaso.proofs.Newest.{latest}
+use Rattle.refine.specs.Meaning.{entryOf, viewOf, operationOf, kindOf, number}
+
+-- The senders counted, as a test and as a number.
+abbrev pub SameNodes : ℕ → A.Nodes → ℕ → Type 0
+SameNodes n s a = (k : ℕ) → OneTo n k → s k ≡ member a k
+
+-- The waits are of one kind, with the same numbers.
+pub data SameWait (n : ℕ) : A.Wait → Wait → Type 0 where
+  idle : SameWait n A.idle Idle
+  reading : {o : Operation} {s : A.Nodes} {a u : ℕ} → SameNodes n s a
+      → SameWait n (A.reading (operationOf o) s u) (Reading o a u)
+  writing : {op : A.Operation} {r : A.Round} {t a : ℕ} {s : A.Nodes} → SameNodes n s a
+      → SameWait n (A.writing op r t s) (Writing (kindOf op) (number r) t a)
+  comparing : {op : A.Operation} {r : A.Round} {t : ℕ}
+      → SameWait n (A.comparing op r t) (Comparing (kindOf op) (number r) t)
+  borrowing : {op : A.Operation} {t : ℕ} → SameWait n (A.borrowing op t) (Borrowing (kindOf op) t)
+
+-- The tables have their sizes.
+pub record Sized (v : View) : Type 0 where
+  pub tags : length (v .tags) ≡ 16
+  pub reports : length (v .reports) ≡ 16
+
+-- A view that holds of each writer the newest value up to tag t.
+abbrev pub Holds : ℕ → View → ℕ → List M.Value → Type 0
+Holds n v t l = (w : ℕ) → OneTo n w → entryOf v w ≡ A.newest w t l
+
+-- While a round with tag t is open, the table for it holds the newest up to t.
+abbrev pub HoldsRound : ℕ → View → A.Wait → List M.Value → Type 0
+HoldsRound n v A.idle l = Unit {0}
+HoldsRound n v (A.reading op s u) l = Unit {0}
+HoldsRound n v (A.writing op r t s) l = Holds n v t l
+HoldsRound n v (A.comparing op r t) l = Holds n v t l
+HoldsRound n v (A.borrowing op t) l = Unit {0}
+
+-- Record c of node i of n follows the sets ν.
+pub record Follows (n i : ℕ) (ν : A.Node) (c : Node) : Type 0 where
+  pub size : c .n ≡ n
+  pub own : c .own ≡ i
+  pub maxtag : c .maxtag ≡ ν .maxtag
+  pub request : c .request ≡ ν .request
+  pub wait : SameWait n (ν .wait) (c .wait)
+  -- The last tag heard of each writer from each sender.
+  pub heard : (k w : ℕ) → OneTo n k → OneTo n w → heardOf (c .heard) k w ≡ latest w (ν .from k) .tag
+  -- The last report of each writer, the newest up to maxtag, and the newest up to the tag of the open round.
+  pub last : (w : ℕ) → OneTo n w → entryOf (c .last) w ≡ latest w (ν .all)
+  pub atmax : Holds n (c .atmax) (ν .maxtag) (ν .all)
+  pub atround : HoldsRound n (c .atround) (ν .wait) (ν .all)
+  -- The good message that amendment 4 keeps.
+  pub kept : c .kept ≡ A.kept n (ν .goods) .tag
+  pub keptview : viewOf n (c .keptview) ≡ A.kept n (ν .goods) .view
+  pub heard-size : length (c .heard) ≡ 256
+  pub last-size : Sized (c .last)
+  pub atmax-size : Sized (c .atmax)
+  pub atround-size : Sized (c .atround)
+  pub keptview-size : Sized (c .keptview)

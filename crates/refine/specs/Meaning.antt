@@ -1,0 +1,79 @@
+-- What the values of the code mean for the algorithm over sets: a report is the number of its eight bytes, a message is
+-- the source's, addressed, and a view has an entry for each node.
+use Prim.Native.Nat.{ℕ, zero, suc}
+use mathlib.Core.List.{List, map}
+use Rattle.octets.specs.Bytes.{num}
+use Rattle.view.specs.Report.{reportBytes}
+use Rattle.view.specs.declared.Report.{Report}
+use Rattle.view.specs.declared.View.{View}
+use Rattle.wire.specs.declared.Message.{Message}
+use Rattle.wire.specs.declared.Message.the-variants.{Read, ReadAnswer, Write, WriteAnswer, Echo, Value, Good}
+use Rattle.table.specs.Table.{tagOf, reportOf}
+use Rattle.record.specs.declared.Operation.{Operation}
+use Rattle.record.specs.declared.Operation.the-variants.{Update, Scan}
+use Rattle.record.specs.declared.Kind.{Kind}
+use Rattle.record.specs.declared.Kind.the-variants.{Update as UpdateKind, Scan as ScanKind}
+use Rattle.node.specs.declared.Outbox.{Outbox}
+use Rattle.node.specs.declared.Rule.{Rule}
+use Rattle.node.specs.declared.Rule.the-variants.{Direct, Borrowed}
+use Rattle.node.specs.declared.Ending.{Ending}
+use Rattle.node.specs.declared.Ending.the-variants.{None, Done, Scan as Scanned, Spent}
+use Rattle.node.specs.Step.{messages}
+use Rattle.eqaso.specs.Message as M
+use Rattle.eqaso.specs.Algorithm as A
+
+abbrev pub code : Report → ℕ
+code p = num (reportBytes p)
+
+-- What a view of the code has of writer w, and of all nodes 1 to n.
+abbrev pub entryOf : View → ℕ → M.Entry
+entryOf v w = record { tag = tagOf v w; report = code (reportOf v w) }
+
+abbrev pub viewOf : ℕ → View → M.View
+viewOf n v = A.table (entryOf v) n
+
+-- A message beside its view v. An answer goes to node `to`.
+abbrev pub messageOf : (n to : ℕ) → View → Message → M.Message
+messageOf n to v (Read q) = M.read q
+messageOf n to v (ReadAnswer q t) = M.readAnswer to q t
+messageOf n to v (Write q t) = M.write q t
+messageOf n to v (WriteAnswer q t) = M.writeAnswer to q t
+messageOf n to v (Echo t) = M.echo t
+messageOf n to v (Value t w p) = M.value (record { tag = t; writer = w; report = code p })
+messageOf n to v (Good t) = M.good t (viewOf n v)
+
+-- The messages of a step, in order.
+abbrev pub sentOf : ℕ → Outbox → List M.Message
+sentOf n o = map (messageOf n (o .to) (o .view)) (messages o)
+
+abbrev pub operationOf : Operation → A.Operation
+operationOf (Update p) = A.update (code p)
+operationOf Scan = A.scan
+
+abbrev pub kindOf : A.Operation → Kind
+kindOf (A.update p) = UpdateKind
+kindOf A.scan = ScanKind
+
+-- The number of a round.
+abbrev pub number : A.Round → ℕ
+number A.round0 = 0
+number A.round1 = 1
+number A.round2 = 2
+number A.round3 = 3
+
+abbrev pub roundOf : ℕ → A.Round
+roundOf zero = A.round0
+roundOf (suc zero) = A.round1
+roundOf (suc (suc zero)) = A.round2
+roundOf (suc (suc (suc i))) = A.round3
+
+abbrev pub ruleOf : Rule → A.Rule
+ruleOf (Direct i) = A.direct (roundOf i)
+ruleOf Borrowed = A.borrowed
+
+-- An ending beside its view.
+abbrev pub endingOf : ℕ → View → Ending → A.Ending
+endingOf n v None = A.none
+endingOf n v (Done r) = A.done (ruleOf r) (viewOf n v)
+endingOf n v (Scanned r) = A.shown (ruleOf r) (viewOf n v)
+endingOf n v Spent = A.spent
