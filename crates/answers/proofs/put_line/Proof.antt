@@ -1,0 +1,83 @@
+use borrow.Author.Needs.{needs}
+use Prim.Native.Nat.{ℕ, _+_, min}
+use mathlib.Core.Path.{_≡_, refl, sym, ap, _∙_}
+use mathlib.Core.List.{List, [], _++_}
+use native.Mathlib.Omega.{arith}
+use lib.ListN.{length, length-append}
+use Rattle.octets.specs.Bytes.{put}
+use Rattle.octets.specs.Loop.{join}
+use Rattle.octets.proofs.Put.{put-nil, put-then}
+use Rattle.answers.specs.Answer.{scanIs, start, entryAt, entries, feed, line}
+use Rattle.answers.proofs.put_line.Statement.{statement}
+use Rattle.answers.proofs.put_line.Tie as tie
+
+returns : tie.Need-returns
+unfolding line
+returns c = rw (c .before .before .before .before .reply .given .1) (c .put-short .ensures)
+
+returns-2 : tie.Need-returns-2
+unfolding line entries
+returns-2 c =
+    let a = c .before .before .before .before .before .before .before .before .before .before .before .args in
+    let o = a .out .now in
+    let node : ℕ = c .before .before .before .before .before .before .before .before .before .reply2 .given .0 .0 in
+    let s : List ℕ = start (a .event) scanIs node in
+    let m : ℕ = c .before .before .before .least .result in
+    let p = c .before .before .before .before .before .put-start .ensures in
+    let q = c .before .before .put-entries .ensures in
+    let r = c .put-feed .ensures in
+    let t : List ℕ = s ++ join m (entryAt (a .v)) in
+    let l : 0 + length s ≡ c .before .before .before .before .before .put-start .result = omega (arith, p .1) in
+    let z : c .before .before .put-entries .result + 1 ≡ length (t ++ feed) = simp length-append (omega (
+      arith,
+      p .1,
+      q .1,
+    )) in
+    let n : 0 + length t ≡ c .before .before .put-entries .result = simp length-append (omega (arith, p .1, q .1)) in
+    rw (
+      c .before .before .before .before .before .before .before .before .before .reply2 .given .1,
+      sym (c .before .before .before .least .ensures),
+    ) (
+      put-then o 0 t feed (c .before .before .put-entries .result) (omega arith) n
+          (put-then o 0 s (join m (entryAt (a .v))) (c .before .before .before .before .before .put-start .result)
+          (omega arith) l (p .0) (q .0)) (r .0),
+      r .1 ∙ z,
+    )
+
+returns-3 : tie.Need-returns-3
+unfolding line
+returns-3 c = rw (c .before .before .before .before .reply3 .given .1) (c .put-short2 .ensures)
+
+returns-4 : tie.Need-returns-4
+unfolding line
+returns-4 c = rw (c .before .before .before .before .reply4 .given .1) (c .put-short3 .ensures)
+
+returns-5 : tie.Need-returns-5
+unfolding line
+returns-5 c = rw (c .enum-told .given .1) (sym (put-nil (c .before .before .args .out .now) 0), refl)
+
+pub put-line-spec : {M : Type 1} → statement M
+put-line-spec =
+    tie.close
+    (tie.spec
+    (λ c. search needs)
+    (λ c. search needs)
+    (λ c κs. search needs)
+    (λ c. search needs)
+    (λ c. search needs)
+    (λ c κs. search needs)
+    (λ c κs. search needs)
+    (λ c κs. search needs)
+    (λ c κs. search needs)
+    (λ c. search needs)
+    (λ c. search needs)
+    (λ c κs. search needs)
+    (λ c. search needs)
+    (λ c. search needs)
+    (λ c κs. search needs)
+    (λ c. search needs)
+    returns
+    returns-2
+    returns-3
+    returns-4
+    returns-5)

@@ -1,0 +1,118 @@
+// The lines that a session prints, written into a lent buffer.
+ghost use mathlib.Core.Path.{_≡_};
+ghost use mathlib.Core.List.{_++_};
+ghost use Prim.Native.Nat.{_+_, _*_, _≤_};
+ghost use lib.ListN.{length};
+ghost use Rattle.octets.specs.Bytes.{put};
+ghost use Rattle.octets.specs.Loop.{join};
+ghost use Rattle.digits.specs.Decimal.{decimal};
+ghost use Rattle.answers.specs.Answer.{start, entry, entryAt, entries, feed, line};
+use octets::least;
+use octets::put_bytes;
+use view::NODES;
+use view::Report;
+use view::View;
+
+// The bytes that every line fits in.
+pub const ROOM: usize = 320;
+
+// What is printed of an event: the ending of an operation at a node, a refusal's number, or nothing.
+pub enum Reply {
+    Done(usize),
+    Scan(usize),
+    Spent(usize),
+    No(usize),
+    Nothing,
+}
+
+// Each function writes at a place, and answers the place after what it wrote.
+fn put_number(out: &mut [u8], at: usize, x: u64) -> usize
+    requires { ⌜ at + 20 ≤ length (now out) ⌝ }
+    ensures { λ r. ⌜ (now (out .exit) ≡ put (now (out .entry)) at (decimal x))
+        × (r ≡ at + length (decimal x)) × (r ≤ at + 20) ⌝ }
+{
+    let d = digits::decimal(x);
+    let text = d.text;
+    let from = d.from;
+    put_bytes(out, at, &text[from..20]);
+    at + (20 - from)
+}
+
+fn put_start(out: &mut [u8], event: u64, word: &[u8], x: u64) -> usize
+    requires { ⌜ (length (now word) ≤ 7) × (47 ≤ length (now out)) ⌝ }
+    ensures { λ r. ⌜ (now (out .exit) ≡ put (now (out .entry)) 0 (start event (now (word .entry)) x))
+        × (r ≡ length (start event (now (word .entry)) x)) × (r ≤ 47) ⌝ }
+{
+    let k = put_number(out, 0, event);
+    put_bytes(out, k, word);
+    put_number(out, k + word.len(), x)
+}
+
+fn put_entry(out: &mut [u8], at: usize, tag: u64, p: Report) -> usize
+    requires { ⌜ at + 17 ≤ length (now out) ⌝ }
+    ensures { λ r. ⌜ (now (out .exit) ≡ put (now (out .entry)) at (entry tag p))
+        × (r ≡ at + length (entry tag p)) × (r ≤ at + 17) ⌝ }
+{
+    if tag == 0 {
+        let none = [32u8, 45];
+        put_bytes(out, at, &none);
+        return at + 2;
+    }
+    let space = [32u8];
+    put_bytes(out, at, &space);
+    let b = view::report_bytes(p);
+    let text = digits::hex_text(&b);
+    put_bytes(out, at + 1, &text);
+    at + 17
+}
+
+fn put_entries(out: &mut [u8], at: usize, n: usize, v: View) -> usize
+    requires { ⌜ (n ≤ 16) × (at + 17 * n ≤ length (now out)) ⌝ }
+    ensures { λ r. ⌜ (now (out .exit) ≡ put (now (out .entry)) at (join n (entryAt v)))
+        × (r ≡ at + length (join n (entryAt v))) × (r ≤ at + 17 * n) ⌝ }
+{
+    let tags = v.tags;
+    let reports = v.reports;
+    let mut k = at;
+    let mut i = 0;
+    while i < n {
+        k = put_entry(out, k, tags[i], reports[i]);
+        i += 1;
+    }
+    k
+}
+
+fn put_feed(out: &mut [u8], at: usize) -> usize
+    requires { ⌜ at + 1 ≤ length (now out) ⌝ }
+    ensures { λ r. ⌜ (now (out .exit) ≡ put (now (out .entry)) at feed) × (r ≡ at + 1) ⌝ }
+{
+    out[at] = 10;
+    at + 1
+}
+
+fn put_short(out: &mut [u8], event: u64, word: &[u8], x: u64) -> usize
+    requires { ⌜ (length (now word) ≤ 7) × (48 ≤ length (now out)) ⌝ }
+    ensures { λ r. ⌜ (now (out .exit) ≡ put (now (out .entry)) 0 (start event (now (word .entry)) x ++ feed))
+        × (r ≡ length (start event (now (word .entry)) x ++ feed)) ⌝ }
+{
+    let k = put_start(out, event, word, x);
+    put_feed(out, k)
+}
+
+// Writes the line of an event at the front of a buffer, and answers its length; the other bytes stay.
+pub fn put_line(out: &mut [u8; ROOM], event: u64, reply: Reply, n: usize, v: View) -> usize
+    ensures { λ r. ⌜ (now (out .exit) ≡ put (now (out .entry)) 0 (line event reply n v))
+        × (r ≡ length (line event reply n v)) ⌝ }
+{
+    match reply {
+        Reply::Done(c) => put_short(out, event, b" done ", c as u64),
+        Reply::Scan(c) => {
+            let k = put_start(out, event, b" scan ", c as u64);
+            let e = put_entries(out, k, least(n, NODES), v);
+            put_feed(out, e)
+        }
+        Reply::Spent(c) => put_short(out, event, b" spent ", c as u64),
+        Reply::No(k) => put_short(out, event, b" no ", k as u64),
+        Reply::Nothing => 0,
+    }
+}

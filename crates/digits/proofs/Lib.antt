@@ -1,0 +1,2 @@
+pub mod DecimalBack
+pub mod HexBack

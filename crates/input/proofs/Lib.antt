@@ -1,0 +1,3 @@
+pub mod Feeding
+pub mod Kept
+pub mod Pieces

@@ -1,0 +1,97 @@
+// Input of any length as lines, in constant memory: what is kept of the line that is being read.
+ghost use mathlib.Core.Path.{_≡_};
+ghost use Rattle.input.specs.Carry.{eventIn, nodesIn};
+ghost use Rattle.input.specs.Carry.{push as Carry·push, carryOf, fed};
+ghost use mathlib.Core.List.{[]};
+use lines::Line;
+
+// The first bytes of a line, and its length, where 41 stands for every greater one.
+pub struct Carry {
+    pub bytes: [u8; 40],
+    pub size: usize,
+}
+
+// What is kept after a piece of input, how many of its bytes were used, and whether the line ended with them.
+pub struct Fed {
+    pub carry: Carry,
+    pub used: usize,
+    pub ended: bool,
+}
+
+// What is kept where no byte of a line has been read.
+pub fn none() -> Carry
+    ensures { λ r. ⌜ r ≡ carryOf [] ⌝ }
+{
+    Carry {
+        bytes: [0; 40],
+        size: 0,
+    }
+}
+
+fn push(c: Carry, x: u8) -> Carry
+    ensures { λ r. ⌜ r ≡ Carry·push c x ⌝ }
+{
+    let size = c.size;
+    if size < 40 {
+        let mut bytes = c.bytes;
+        bytes[size] = x;
+        return Carry {
+            bytes: bytes,
+            size: size + 1,
+        };
+    }
+    let bytes = c.bytes;
+    Carry {
+        bytes: bytes,
+        size: 41,
+    }
+}
+
+// Adds the bytes of a piece, up to its first line feed, to the line that is being read.
+pub fn take(c: Carry, piece: &[u8]) -> Fed
+    ensures { λ r. ⌜ r ≡ fed c (now (piece .entry)) ⌝ }
+{
+    let mut next = c;
+    let mut i = 0;
+    while i < piece.len() {
+        let x = piece[i];
+        if x == 10 {
+            return Fed {
+                carry: next,
+                used: i + 1,
+                ended: true,
+            };
+        }
+        next = push(next, x);
+        i += 1;
+    }
+    Fed {
+        carry: next,
+        used: i,
+        ended: false,
+    }
+}
+
+// The event that a line is.
+pub fn event(c: Carry) -> Line
+    ensures { λ r. ⌜ r ≡ eventIn c ⌝ }
+{
+    let bytes = c.bytes;
+    let size = c.size;
+    if size <= 40 {
+        return lines::event(&bytes[..size]);
+    }
+    Line::Bad
+}
+
+// The nodes that a first line says, and 0 where it is bad.
+pub fn nodes(c: Carry) -> usize
+    ensures { λ r. ⌜ r ≡ nodesIn c ⌝ }
+{
+    let bytes = c.bytes;
+    let size = c.size;
+    if size <= 40 {
+        return lines::nodes(&bytes[..size]);
+    }
+    0
+}

@@ -1,0 +1,4 @@
+pub mod Fields
+pub mod OnlyLegal
+pub mod Reading
+pub mod ShowBack

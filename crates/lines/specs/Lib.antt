@@ -1,0 +1,3 @@
+pub mod Grammar
+pub mod Legal
+pub mod Show
