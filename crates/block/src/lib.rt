@@ -1,0 +1,123 @@
+// One node's block in a cluster's bytes: what it says, and the changes of it.
+use octets::and;
+use record::Node;
+ghost use mathlib.Core.Path.{_≡_};
+ghost use Prim.Native.Nat.{_≤_};
+ghost use lib.ListN.{length};
+ghost use Rattle.region.specs.Channel.{slotSize, first};
+ghost use Rattle.block.specs.Block.{blockSize, hasStopped, channelIn, nodeIn, waitingIn, keep, takeOff, receive, halt, recordSound, channelsSound, blockSound};
+
+// Whether the node has stopped.
+pub fn has_stopped(k: &[u8]) -> bool
+    requires { ⌜ length (now k) ≡ blockSize ⌝ }
+    ensures { λ r. ⌜ r ≡ hasStopped (now (k .entry)) ⌝ }
+{
+    0 < k[0]
+}
+
+// The node's record.
+pub fn node_in(k: &[u8]) -> Node
+    requires { ⌜ length (now k) ≡ blockSize ⌝ }
+    ensures { λ r. ⌜ r ≡ nodeIn (now (k .entry)) ⌝ }
+{
+    region::stored::load(&k[1..3169])
+}
+
+// How many messages wait on the channel from node a.
+pub fn waiting_in(k: &[u8], a: usize) -> usize
+    requires { ⌜ (length (now k) ≡ blockSize) × (1 ≤ a) × (a ≤ 16) ⌝ }
+    ensures { λ r. ⌜ (r ≡ waitingIn (now (k .entry)) a) × (r ≤ 255) ⌝ }
+{
+    let at = 3169 + 4386 * (a - 1);
+    region::channel::index(k[at])
+}
+
+// The slot of the message that has waited longest on the channel from node a.
+pub fn first_in(k: &[u8], a: usize) -> &[u8]
+    requires { ⌜ (length (now k) ≡ blockSize) × (1 ≤ a) × (a ≤ 16) ⌝ }
+    ensures { λ r. ⌜ now r ≡ first (channelIn (now (k .entry)) a) ⌝ }
+{
+    let at = 3169 + 4386 * (a - 1);
+    let end = at + 4386;
+    region::channel::first(&k[at..end])
+}
+
+// Writes another record.
+pub fn keep_node(k: &mut [u8], c: Node)
+    requires { ⌜ length (now k) ≡ blockSize ⌝ }
+    ensures { λ _. ⌜ now (k .exit) ≡ keep c (now (k .entry)) ⌝ }
+{
+    region::stored::save(&mut k[1..3169], c);
+}
+
+// Takes the oldest message off the channel from node a.
+pub fn take_off(k: &mut [u8], a: usize)
+    requires { ⌜ (length (now k) ≡ blockSize) × (1 ≤ a) × (a ≤ 16) ⌝ }
+    ensures { λ _. ⌜ now (k .exit) ≡ takeOff a (now (k .entry)) ⌝ }
+{
+    let at = 3169 + 4386 * (a - 1);
+    let end = at + 4386;
+    region::channel::pop(&mut k[at..end]);
+}
+
+// Puts a message at the end of the channel from node a, unless the node has stopped.
+pub fn receive_from(k: &mut [u8], a: usize, m: &[u8])
+    requires { ⌜ (length (now k) ≡ blockSize) × (1 ≤ a) × (a ≤ 16) × (length (now m) ≤ slotSize) ⌝ }
+    ensures { λ _. ⌜ now (k .exit) ≡ receive a (now (m .entry)) (now (k .entry)) ⌝ }
+{
+    if 0 < k[0] {
+        return;
+    }
+    let at = 3169 + 4386 * (a - 1);
+    let end = at + 4386;
+    region::channel::push(&mut k[at..end], m);
+}
+
+// Stops the node and empties its channels from 1 to n.
+pub fn halt_node(k: &mut [u8], n: usize)
+    requires { ⌜ (length (now k) ≡ blockSize) × (n ≤ 16) ⌝ }
+    ensures { λ _. ⌜ now (k .exit) ≡ halt n (now (k .entry)) ⌝ }
+{
+    k[0] = 1;
+    let mut i = 0;
+    while i < n {
+        let at = 3169 + 4386 * i;
+        let end = at + 4386;
+        region::channel::clear(&mut k[at..end]);
+        i += 1;
+    }
+}
+
+// Whether these bytes are a usable record of node c of n.
+fn record_sound(r: &[u8], n: usize, c: usize) -> bool
+    requires { ⌜ length (now r) ≡ 3168 ⌝ }
+    ensures { λ t. ⌜ t ≡ recordSound n c (now (r .entry)) ⌝ }
+{
+    let d = region::stored::load(r);
+    and(
+        and(octets::get_word(r, 40) <= 4, record::usable::is_usable(d)),
+        and(d.n == n, d.own == c),
+    )
+}
+
+// Whether no channel from 1 to n has more messages than it can hold.
+fn channels_sound(k: &[u8], n: usize) -> bool
+    requires { ⌜ (length (now k) ≡ blockSize) × (n ≤ 16) ⌝ }
+    ensures { λ r. ⌜ r ≡ channelsSound n (now (k .entry)) ⌝ }
+{
+    let mut ok = true;
+    let mut a = 0;
+    while a < n {
+        a += 1;
+        ok = and(waiting_in(k, a) <= 16, ok);
+    }
+    ok
+}
+
+// Whether refusal 2 has nothing against the block of node c of n.
+pub fn block_sound(k: &[u8], n: usize, c: usize) -> bool
+    requires { ⌜ (length (now k) ≡ blockSize) × (n ≤ 16) ⌝ }
+    ensures { λ r. ⌜ r ≡ blockSound n c (now (k .entry)) ⌝ }
+{
+    and(record_sound(&k[1..3169], n, c), channels_sound(k, n))
+}

@@ -1,0 +1,3 @@
+pub mod Out
+pub mod Room
+pub mod Told

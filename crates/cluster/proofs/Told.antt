@@ -1,0 +1,69 @@
+-- What each return of an entry says, by the refusals that did not apply before it.
+use Prim.Native.Nat.{ℕ, _≤_}
+use mathlib.Core.Path.{_≡_, refl, sym, ap, _∙_}
+use mathlib.Core.Bool.{Bool, true, false}
+use mathlib.Core.List.{List}
+use lib.ListN.{length}
+use Rattle.view.specs.Size.{isSize}
+use Rattle.view.specs.View.{noView}
+use Rattle.record.specs.Usable.{usable}
+use Rattle.record.specs.declared.Operation.{Operation}
+use Rattle.layout.specs.Layout.{clusterSize, stated, stopped, node, fits, sound, isNode}
+use Rattle.layout.proofs.Check.{is-size, is-node, fits-length, sound-size, sound-usable}
+use Rattle.cluster.specs.declared.Answer.{Answer}
+use Rattle.cluster.specs.declared.Extent.{Extent}
+use Rattle.cluster.specs.declared.Outcome.the-variants.{Refused}
+use Rattle.cluster.specs.Event.{Result, refuse, beginIn, openIn, begin}
+use Rattle.cluster.specs.Outcome.{said, tells}
+
+pub refuses : (k : ℕ) {r : Answer} {b : List ℕ} {e : Result} → e ≡ refuse k b
+    → r ≡ record { outcome = Refused k; view = noView } → tells r b e
+refuses k p q = (
+  ap (λ (x : Answer). said (x .outcome)) q ∙ sym (ap (λ (x : Result). x .answer) p),
+  ap (λ (x : Answer). x .view) q ∙ sym (ap (λ (x : Result). x .view) p),
+  sym (ap (λ (x : Result). x .bytes) p),
+)
+
+-- the same event in another form
+pub becomes : (r : Answer) (b : List ℕ) {e f : Result} → e ≡ f → tells r b f → tells r b e
+becomes r b p t = (
+  t .0 ∙ sym (ap (λ (x : Result). x .answer) p),
+  t .1 ∙ sym (ap (λ (x : Result). x .view) p),
+  t .2 ∙ sym (ap (λ (x : Result). x .bytes) p),
+)
+
+-- what bytes that passed 12 and 2 are
+module _ (b : List ℕ) (n : ℕ) (st : n ≡ stated b) (f : fits b ≡ true) (s : sound b ≡ true) where
+  n-size : isSize n ≡ true
+  n-size = ap isSize st ∙ sound-size b s
+
+  pub n-most : n ≤ 16
+  n-most = is-size n n-size .1
+
+  pub n-length : length b ≡ clusterSize n
+  n-length = fits-length b n f st n-size
+
+  pub n-usable : (c : ℕ) → isNode n c ≡ true → usable (node b c) ≡ true
+  n-usable c h = sound-usable b s c (ap (λ (k : ℕ). isNode k c) (sym st) ∙ h)
+
+module _ (c : ℕ) (o : Operation) (x : Extent) (b : List ℕ) where
+  pub begin-unfit : fits b ≡ false → begin c o x b ≡ refuse 12 b
+  unfolding begin
+  begin-unfit f = rw f refl
+
+  pub begin-unsound : fits b ≡ true → sound b ≡ false → begin c o x b ≡ refuse 2 b
+  unfolding begin
+  begin-unsound f s = rw (f, s) refl
+
+  pub begin-is : (n : ℕ) → n ≡ stated b → fits b ≡ true → sound b ≡ true → begin c o x b ≡ beginIn n c o x b
+  unfolding begin
+  begin-is n e f s = rw (f, s) (ap (λ (k : ℕ). beginIn k c o x b) (sym e))
+
+  pub begin-nowhere : (n : ℕ) → isNode n c ≡ false → beginIn n c o x b ≡ refuse 3 b
+  begin-nowhere n h = rw h refl
+
+  pub begin-stopped : (n : ℕ) → isNode n c ≡ true → stopped b c ≡ true → beginIn n c o x b ≡ refuse 4 b
+  begin-stopped n h s = rw (h, s) refl
+
+  pub begin-opens : (n : ℕ) → isNode n c ≡ true → stopped b c ≡ false → beginIn n c o x b ≡ openIn n c o x b
+  begin-opens n h s = rw (h, s) refl

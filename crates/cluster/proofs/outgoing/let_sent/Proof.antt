@@ -1,0 +1,65 @@
+use borrow.Author.Needs.{needs}
+use mathlib.Core.Path.{sym, ap, _∙_}
+use mathlib.Core.List.{List}
+use lib.ListN.{take}
+use Rattle.entries.specs.Entries.{Entry}
+use Rattle.entries.proofs.Laws.{entries-one}
+use Rattle.cluster.specs.Event.{letOut}
+use Rattle.cluster.proofs.Out.{let-empty, let-two}
+use Rattle.cluster.proofs.outgoing.let_sent.Statement.{statement}
+use Rattle.cluster.proofs.outgoing.let_sent.Tie as tie
+
+enum-told : tie.Need-enum-told
+enum-told c = search needs
+
+enum-known-s : tie.Need-enum-known-s
+enum-known-s c = search needs
+
+let-message-requires : tie.Need-let-message-requires
+let-message-requires c κs = search needs
+
+enum-known-s-2 : tie.Need-enum-known-s-2
+enum-known-s-2 c = search needs
+
+let-message-requires-2 : tie.Need-let-message-requires-2
+let-message-requires-2 c κs = search needs
+
+left-after-requires : tie.Need-left-after-requires
+left-after-requires c κs = search needs
+
+let-message-requires-3 : tie.Need-let-message-requires-3
+let-message-requires-3 c κs = search needs
+
+returns : tie.Need-returns
+returns c = rw (c .enum-told .given .1) (sym (let-empty (c .before .before .before .args .n) (c .before .before .before .args .a) (c .before .before .before .args .c) (c .before .before .before .args .v) (c .before .before .before .args .left) (c .before .before .before .args .b .now)))
+
+same-length : tie.Need-same-length
+same-length c = search needs
+
+returns-2 : tie.Need-returns-2
+returns-2 c = rw (c .before .before .before .before .before .s .given .1) (c .before .before .let-message .ensures
+    ∙ ap (λ (l : List Entry). letOut (c .before .before .before .before .before .before .before .before .args .n) (c .before .before .before .before .before .before .before .before .args .c) (take (c .before .before .before .before .before .before .before .before .args .left) l) (c .before .before .before .before .before .before .before .before .args .b .now)) (sym (entries-one (c .before .before .before .before .before .before .before .before .args .n) (c .before .before .before .before .before .before .before .before .args .a) (c .before .before .before .before .before .before .before .before .args .v) _)))
+
+same-length-2 : tie.Need-same-length-2
+same-length-2 c = search needs
+
+returns-3 : tie.Need-returns-3
+returns-3 c = rw (c .before .before .before .before .before .before .before .before .before .before .s2 .given .1) (let-two (c .before .before .before .before .before .before .before .before .before .before .before .before .before .args .n) (c .before .before .before .before .before .before .before .before .before .before .before .before .before .args .a) (c .before .before .before .before .before .before .before .before .before .before .before .before .before .args .c) (c .before .before .before .before .before .before .before .before .before .before .before .before .before .args .left) (c .before .before .before .before .before .before .before .before .before .before .before .before .before .args .v) _ _ (c .before .before .before .before .before .before .before .before .before .before .before .before .before .args .b .now) (c .before .before .before .before .before .before .before .let-message2 .ensures)
+    (c .before .before .before .left-after .ensures (c .before .before .before .before .before .before .before .before .before .before .before .before .before .args .a) (c .before .before .before .before .before .before .before .before .before .before .before .before .before .args .v)) (c .before .before .let-message3 .ensures))
+
+pub let-sent-spec : {M : Type 1} → statement M
+let-sent-spec =
+    tie.close
+    (tie.spec
+    enum-told
+    enum-known-s
+    let-message-requires
+    enum-known-s-2
+    let-message-requires-2
+    left-after-requires
+    let-message-requires-3
+    returns
+    same-length
+    returns-2
+    same-length-2
+    returns-3)

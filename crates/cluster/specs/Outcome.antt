@@ -1,0 +1,18 @@
+-- What the answer of an event says in document 01's terms: the ending that it gives, or the number of the refusal.
+use Prim.Native.Nat.{ℕ}
+use mathlib.Core.Path.{_≡_}
+use mathlib.Core.List.{List}
+use Rattle.octets.specs.Answer.{Answer, result, refused}
+use Rattle.node.specs.declared.Ending.{Ending}
+use Rattle.cluster.specs.Event.{Result}
+use Rattle.cluster.specs.declared.Answer.{Answer as Reply}
+use Rattle.cluster.specs.declared.Outcome.{Outcome}
+use Rattle.cluster.specs.declared.Outcome.the-variants.{Refused, Accepted}
+
+abbrev pub said : Outcome → Answer Ending
+said (Refused k) = refused k
+said (Accepted e) = result e
+
+-- The answer and the bytes at exit are those of an event.
+abbrev pub tells : Reply → List ℕ → Result → Type 0
+tells r b e = (said (r .outcome) ≡ e .answer) × (r .view ≡ e .view) × (b ≡ e .bytes)

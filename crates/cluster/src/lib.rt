@@ -1,0 +1,172 @@
+// A cluster (document 01's house) in lent bytes: n nodes and the channels between them. Every event judges everything
+// first and writes last, so that a refusal leaves every byte as it was.
+pub mod judge;
+pub mod outgoing;
+
+use entries::is_stale_message;
+use judge::has_room;
+use judge::may_cut;
+use layout::first_at;
+use layout::halt_at;
+use layout::is_fit;
+use layout::is_node;
+use layout::is_sound;
+use layout::keep_at;
+use layout::node_at;
+use layout::stopped_at;
+use layout::take_off_at;
+use layout::waiting_at;
+use node::Ending;
+use node::Step;
+use node::begin_step;
+use node::message_step;
+use octets::and;
+use outgoing::let_out;
+use record::Operation;
+use record::blank_node;
+use record::usable::has_open;
+use record::usable::is_full;
+use region::channel::index;
+use table::quorum::most_faults;
+use view::View;
+use wire::Found;
+use wire::Message;
+use wire::read_prefix;
+ghost use mathlib.Core.Path.{_≡_};
+ghost use mathlib.Core.Bool.{true, false};
+ghost use Prim.Native.Nat.{_+_, _*_, _≤_};
+ghost use lib.ListN.{length};
+ghost use lib.Dec.{eqb};
+ghost use Rattle.octets.specs.Answer.{result};
+ghost use Rattle.octets.specs.Test.{pick};
+ghost use Rattle.view.specs.View.{noView};
+ghost use Rattle.node.specs.declared.Ending.the-variants.{None};
+ghost use Rattle.entries.specs.Entries.{entries};
+ghost use Rattle.record.specs.Record.{blank};
+ghost use Rattle.record.specs.Usable.{usable};
+ghost use Rattle.octets.specs.Loop.{upTo};
+ghost use Rattle.view.specs.View.{viewOf};
+ghost use Rattle.wire.specs.Codec.{viewAt};
+ghost use Rattle.node.specs.Allowed.{lawful};
+ghost use Rattle.region.specs.Channel.{first};
+ghost use Rattle.block.specs.Block.{keep};
+ghost use Rattle.layout.specs.Layout.{clusterSize, node as nodeOf, channel, onBlock};
+ghost use Rattle.cluster.specs.declared.Outcome.the-variants.{Refused};
+ghost use Rattle.cluster.specs.Event.{isCut, haltIf, stepped, letOut, within, most, openIn, begin as beginEvent, handOver, deliver as deliverEvent, fresh as freshEvent};
+ghost use Rattle.cluster.specs.Outcome.{said, tells};
+
+// How much an event lets out of its list of entries: all of it, or its first m entries, after which the node stops.
+pub enum Extent {
+    Whole,
+    Cut(usize),
+}
+
+// A refusal by its number in document 01, or the ending that an accepted event gives.
+pub enum Outcome {
+    Refused(u8),
+    Accepted(Ending),
+}
+
+// The answer of an event, with the view of the operation that it ended.
+pub struct Answer {
+    pub outcome: Outcome,
+    pub view: View,
+}
+
+fn refused(k: u8) -> Answer
+    ensures { λ r. ⌜ r ≡ record { outcome = Refused k; view = noView } ⌝ }
+{
+    Answer {
+        outcome: Outcome::Refused(k),
+        view: view::absent(),
+    }
+}
+
+// Whether the node stops.
+fn is_cut(x: Extent) -> bool
+    ensures { λ r. ⌜ r ≡ isCut x ⌝ }
+{
+    match x {
+        Extent::Whole => false,
+        Extent::Cut(_) => true,
+    }
+}
+
+// A number of entries that holds all that are let out: no step has more than 96.
+fn allowance(x: Extent) -> usize
+    ensures { λ r. ⌜ r ≡ most x ⌝ }
+{
+    match x {
+        Extent::Whole => 96,
+        Extent::Cut(m) => m,
+    }
+}
+
+// What an accepted event answers: a cut one does not give its ending.
+fn given(cut: bool, ending: Ending, view: View) -> Answer
+    ensures { λ r. ⌜ (said (r .outcome) ≡ result (pick cut None ending)) × (r .view ≡ pick cut noView view) ⌝ }
+{
+    if cut {
+        return Answer {
+            outcome: Outcome::Accepted(Ending::None),
+            view: view::absent(),
+        };
+    }
+    Answer {
+        outcome: Outcome::Accepted(ending),
+        view: view,
+    }
+}
+
+fn halt_if(b: &mut [u8], n: usize, c: usize, cut: bool)
+    requires { ⌜ (n ≤ 16) × (1 ≤ c) × (clusterSize c ≤ length (now b)) ⌝ }
+    ensures { λ _. ⌜ now (b .exit) ≡ haltIf cut n c (now (b .entry)) ⌝ }
+{
+    if cut {
+        halt_at(b, n, c);
+    }
+}
+
+// Node c takes step s: its record is written, in a cut it stops, and the entries are let out.
+fn settle(b: &mut [u8], n: usize, a: usize, c: usize, s: Step, x: Extent) -> Answer
+    requires { ⌜ (n ≤ 16) × (1 ≤ a) × (a ≤ n) × (1 ≤ c) × (c ≤ n) × (length (now b) ≡ clusterSize n) ⌝ }
+    ensures { λ r. ⌜ (said (r .outcome) ≡ result (pick (isCut x) None (s .ending)))
+        × (r .view ≡ pick (isCut x) noView (s .view))
+        × (now (b .exit) ≡ letOut n c (within x (entries n a (s .outbox))) (stepped n c x s (now (b .entry)))) ⌝ }
+{
+    let cut = is_cut(x);
+    keep_at(b, c, s.node);
+    halt_if(b, n, c, cut);
+    let_out(b, n, a, c, s.outbox, allowance(x));
+    let ending = s.ending;
+    given(cut, ending, s.view)
+}
+
+// A fresh record in every block.
+fn blank_blocks(b: &mut [u8], n: usize)
+    requires { ⌜ (n ≤ 16) × (length (now b) ≡ clusterSize n) ⌝ }
+    ensures { λ _. ⌜ now (b .exit) ≡ upTo n (λ i. onBlock (i + 1) (keep (blank n (i + 1)))) (now (b .entry)) ⌝ }
+{
+    let mut i = 0;
+    while i < n {
+        i += 1;
+        keep_at(b, i, blank_node(n, i));
+    }
+}
+
+// The view that a good message in the oldest slot from a to c carries.
+fn first_view(b: &[u8], n: usize, a: usize, c: usize) -> View
+    requires { ⌜ (n ≤ 16) × (1 ≤ a) × (a ≤ n) × (1 ≤ c) × (c ≤ n) × (length (now b) ≡ clusterSize n) ⌝ }
+    ensures { λ r. ⌜ r ≡ viewOf n (viewAt n (first (channel (now (b .entry)) a c))) ⌝ }
+{
+    let s = first_at(b, a, c);
+    let end = 18 + 16 * n;
+    view::read_view(n, &s[18..end])
+}
+
+// How many messages leave the channel from c to itself when one from a is handed to c.
+fn gone(a: usize, c: usize) -> usize
+    ensures { λ r. ⌜ r ≡ pick (eqb a c) 1 0 ⌝ }
+{
+    if a == c { 1 } else { 0 }
+}

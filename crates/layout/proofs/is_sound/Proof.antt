@@ -1,0 +1,59 @@
+use borrow.Author.Needs.{needs}
+use mathlib.Core.Path.{sym, ap₂, _∙_}
+use mathlib.Core.Bool.{Bool}
+use Prim.Native.Nat.{ℕ}
+use lib.Dec.{leb}
+use native.Mathlib.Omega.{arith}
+use Rattle.octets.specs.Test.{both}
+use Rattle.layout.proofs.Check.{is-size, fits-some, fits-length, sound-sized, sound-unsized}
+use Rattle.layout.proofs.is_sound.Statement.{statement}
+use Rattle.layout.proofs.is_sound.Tie as tie
+
+shared-slice-read-index : tie.Need-shared-slice-read-index
+shared-slice-read-index c = let h = fits-some (c .before .before .args .b .now) (c .before .before .pre) in search needs
+
+index-requires : tie.Need-index-requires
+index-requires c κs = search needs
+
+and-requires : tie.Need-and-requires
+and-requires c κs = search needs
+
+blocks-sound-requires : tie.Need-blocks-sound-requires
+blocks-sound-requires c κs = (
+  is-size (c .before .before .index .result) (sym (c .before .and .ensures) ∙ c .if1 .taken) .1,
+  fits-length (c .before .before .before .before .before .args .b .now) (c .before .before .index .result) (c .before .before .before .before .before .pre) (c .before .before .index .ensures .0) (sym (c .before .and .ensures) ∙ c .if1 .taken),
+)
+
+stopped-nodes-requires : tie.Need-stopped-nodes-requires
+stopped-nodes-requires c κs = (
+  is-size (c .before .before .before .index .result) (sym (c .before .before .and .ensures) ∙ c .before .if1 .taken) .1,
+  fits-length (c .before .before .before .before .before .before .args .b .now) (c .before .before .before .index .result) (c .before .before .before .before .before .before .pre) (c .before .before .before .index .ensures .0) (sym (c .before .before .and .ensures) ∙ c .before .if1 .taken),
+)
+
+most-faults-requires : tie.Need-most-faults-requires
+most-faults-requires c κs = search needs
+
+and-requires-2 : tie.Need-and-requires-2
+and-requires-2 c κs = search needs
+
+returns : tie.Need-returns
+returns c = c .and2 .ensures
+    ∙ ap₂ both (c .before .before .before .blocks-sound .ensures) (ap₂ leb (c .before .before .stopped-nodes .ensures) (c .before .most-faults .ensures))
+    ∙ sym (sound-sized (c .before .before .before .before .before .before .before .before .before .args .b .now) (c .before .before .before .before .before .before .index .result) (c .before .before .before .before .before .before .index .ensures .0) (sym (c .before .before .before .before .before .and .ensures) ∙ c .before .before .before .before .if1 .taken))
+
+returns-2 : tie.Need-returns-2
+returns-2 c = sym (sound-unsized (c .before .before .before .before .before .args .b .now) (c .before .before .index .result) (c .before .before .index .ensures .0) (sym (c .before .and .ensures) ∙ c .if1 .left))
+
+pub is-sound-spec : {M : Type 1} → statement M
+is-sound-spec =
+    tie.close
+    (tie.spec
+    shared-slice-read-index
+    index-requires
+    and-requires
+    blocks-sound-requires
+    stopped-nodes-requires
+    most-faults-requires
+    and-requires-2
+    returns
+    returns-2)

@@ -1,0 +1,169 @@
+// A cluster's bytes: where the blocks of its nodes stand, what they say, and the changes of one of them.
+use octets::and;
+use record::Node;
+use region::channel::index;
+use table::quorum::most_faults;
+ghost use mathlib.Core.Path.{_≡_};
+ghost use mathlib.Core.Bool.{true};
+ghost use Prim.Native.Nat.{_≤_};
+ghost use lib.ListN.{length};
+ghost use Rattle.table.specs.Loop.{all, count};
+ghost use Rattle.region.specs.Channel.{slotSize, countOf, first};
+ghost use Rattle.block.specs.Block.{keep, takeOff, receive, halt, blockSound};
+ghost use Rattle.layout.specs.Layout.{clusterSize, size as sizeOf, stated, block, stopped, node, channel, onBlock, fits, sound, isNode};
+
+// The bytes to lend for a cluster of n nodes; 0 where there may be none.
+pub fn size(n: usize) -> usize
+    ensures { λ r. ⌜ r ≡ sizeOf n ⌝ }
+{
+    if and(1 <= n, n <= 16) {
+        1 + 73345 * n
+    } else {
+        0
+    }
+}
+
+// Whether c is a node's number.
+pub fn is_node(n: usize, c: usize) -> bool
+    ensures { λ r. ⌜ r ≡ isNode n c ⌝ }
+{
+    and(1 <= c, c <= n)
+}
+
+// Whether node c has stopped.
+pub fn stopped_at(b: &[u8], c: usize) -> bool
+    requires { ⌜ (1 ≤ c) × (clusterSize c ≤ length (now b)) ⌝ }
+    ensures { λ r. ⌜ r ≡ stopped (now (b .entry)) c ⌝ }
+{
+    let at = 1 + 73345 * (c - 1);
+    let end = at + 73345;
+    block::has_stopped(&b[at..end])
+}
+
+// The record of node c.
+pub fn node_at(b: &[u8], c: usize) -> Node
+    requires { ⌜ (1 ≤ c) × (clusterSize c ≤ length (now b)) ⌝ }
+    ensures { λ r. ⌜ r ≡ node (now (b .entry)) c ⌝ }
+{
+    let at = 1 + 73345 * (c - 1);
+    let end = at + 73345;
+    block::node_in(&b[at..end])
+}
+
+// How many messages wait on the channel from a to c.
+pub fn waiting_at(b: &[u8], a: usize, c: usize) -> usize
+    requires { ⌜ (1 ≤ a) × (a ≤ 16) × (1 ≤ c) × (clusterSize c ≤ length (now b)) ⌝ }
+    ensures { λ r. ⌜ (r ≡ countOf (channel (now (b .entry)) a c)) × (r ≤ 255) ⌝ }
+{
+    let at = 1 + 73345 * (c - 1);
+    let end = at + 73345;
+    block::waiting_in(&b[at..end], a)
+}
+
+// The slot of the message that has waited longest on the channel from a to c.
+pub fn first_at(b: &[u8], a: usize, c: usize) -> &[u8]
+    requires { ⌜ (1 ≤ a) × (a ≤ 16) × (1 ≤ c) × (clusterSize c ≤ length (now b)) ⌝ }
+    ensures { λ r. ⌜ now r ≡ first (channel (now (b .entry)) a c) ⌝ }
+{
+    let at = 1 + 73345 * (c - 1);
+    let end = at + 73345;
+    block::first_in(&b[at..end], a)
+}
+
+// Node c receives a message from a, unless it has stopped.
+pub fn receive_at(b: &mut [u8], a: usize, c: usize, m: &[u8])
+    requires { ⌜ (1 ≤ a) × (a ≤ 16) × (1 ≤ c) × (clusterSize c ≤ length (now b)) × (length (now m) ≤ slotSize) ⌝ }
+    ensures { λ _. ⌜ now (b .exit) ≡ onBlock c (receive a (now (m .entry))) (now (b .entry)) ⌝ }
+{
+    let at = 1 + 73345 * (c - 1);
+    let end = at + 73345;
+    block::receive_from(&mut b[at..end], a, m);
+}
+
+// Takes the oldest message off the channel from a to c.
+pub fn take_off_at(b: &mut [u8], a: usize, c: usize)
+    requires { ⌜ (1 ≤ a) × (a ≤ 16) × (1 ≤ c) × (clusterSize c ≤ length (now b)) ⌝ }
+    ensures { λ _. ⌜ now (b .exit) ≡ onBlock c (takeOff a) (now (b .entry)) ⌝ }
+{
+    let at = 1 + 73345 * (c - 1);
+    let end = at + 73345;
+    block::take_off(&mut b[at..end], a);
+}
+
+// Writes another record of node c.
+pub fn keep_at(b: &mut [u8], c: usize, d: Node)
+    requires { ⌜ (1 ≤ c) × (clusterSize c ≤ length (now b)) ⌝ }
+    ensures { λ _. ⌜ now (b .exit) ≡ onBlock c (keep d) (now (b .entry)) ⌝ }
+{
+    let at = 1 + 73345 * (c - 1);
+    let end = at + 73345;
+    block::keep_node(&mut b[at..end], d);
+}
+
+// Stops node c of n.
+pub fn halt_at(b: &mut [u8], n: usize, c: usize)
+    requires { ⌜ (n ≤ 16) × (1 ≤ c) × (clusterSize c ≤ length (now b)) ⌝ }
+    ensures { λ _. ⌜ now (b .exit) ≡ onBlock c (halt n) (now (b .entry)) ⌝ }
+{
+    let at = 1 + 73345 * (c - 1);
+    let end = at + 73345;
+    block::halt_node(&mut b[at..end], n);
+}
+
+// How many of the nodes 1 to n have stopped.
+pub fn stopped_nodes(b: &[u8], n: usize) -> usize
+    requires { ⌜ (n ≤ 16) × (length (now b) ≡ clusterSize n) ⌝ }
+    ensures { λ r. ⌜ r ≡ count n (stopped (now (b .entry))) ⌝ }
+{
+    let mut k = 0;
+    let mut c = 0;
+    while c < n {
+        c += 1;
+        if stopped_at(b, c) {
+            k += 1;
+        }
+    }
+    k
+}
+
+// Whether every block is sound.
+fn blocks_sound(b: &[u8], n: usize) -> bool
+    requires { ⌜ (n ≤ 16) × (length (now b) ≡ clusterSize n) ⌝ }
+    ensures { λ r. ⌜ r ≡ all n (λ c. blockSound n c (block (now (b .entry)) c)) ⌝ }
+{
+    let mut ok = true;
+    let mut c = 0;
+    while c < n {
+        let at = 1 + 73345 * c;
+        let end = at + 73345;
+        c += 1;
+        ok = and(block::block_sound(&b[at..end], n, c), ok);
+    }
+    ok
+}
+
+// Whether the length is right, so far as the bytes state an n (refusal 12).
+pub fn is_fit(b: &[u8]) -> bool
+    ensures { λ r. ⌜ r ≡ fits (now (b .entry)) ⌝ }
+{
+    if b.len() == 0 {
+        return false;
+    }
+    let n = index(b[0]);
+    if and(1 <= n, n <= 16) {
+        return b.len() == 1 + 73345 * n;
+    }
+    true
+}
+
+// Whether the bytes are a cluster that can be used (refusal 2).
+pub fn is_sound(b: &[u8]) -> bool
+    requires { ⌜ fits (now b) ≡ true ⌝ }
+    ensures { λ r. ⌜ r ≡ sound (now (b .entry)) ⌝ }
+{
+    let n = index(b[0]);
+    if and(1 <= n, n <= 16) {
+        return and(blocks_sound(b, n), stopped_nodes(b, n) <= most_faults(n));
+    }
+    false
+}

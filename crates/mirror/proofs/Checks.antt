@@ -1,0 +1,61 @@
+-- Bytes that mirror a cluster pass the checks that every event begins with: 12 and 2 do not come up.
+use Prim.Native.Nat.{ℕ, _≤_}
+use native.Mathlib.Omega.{arith}
+use mathlib.Core.Path.{_≡_, refl, sym}
+use mathlib.Core.Bool.{true}
+use mathlib.Core.List.{List}
+use lib.Dec.{leb, eqb}
+use lib.ListN.{length}
+use borrow.Author.Tests.{le-leb, eq-eqb, ne-eqb}
+use Rattle.theory.specs.Count as C
+use Rattle.octets.specs.Test.{both}
+use Rattle.octets.proofs.Test.{both-left, both-right, both-true}
+use Rattle.view.specs.Size.{isSize}
+use Rattle.table.specs.Loop.{count}
+use Rattle.table.specs.Quorum.{faults}
+use Rattle.table.proofs.Laws.{all-all}
+use Rattle.record.specs.Usable.{usable}
+use Rattle.region.specs.Channel.{capacity}
+use Rattle.region.specs.Record.{waitKnown, recordOf}
+use Rattle.block.specs.Block.{waitingIn, recordIn, nodeIn, blockSound}
+use Rattle.layout.specs.Layout.{clusterSize, block, stopped, fits, sound}
+use Rattle.cluster.specs.Event as E
+use Rattle.eqaso.specs.Cluster as K
+use Rattle.eqaso.specs.Order.{OneTo}
+use Rattle.refine.proofs.Quorums.{same-count}
+use Rattle.mirror.specs.Mirrors.{Mirrors}
+use Rattle.mirror.proofs.Says.{says-count}
+
+module _ {n : ℕ} (low : 1 ≤ n) (small : n ≤ 16) {b : List ℕ} {σ : K.Cluster} (M : Mirrors n b σ) where
+  pub sized : isSize n ≡ true
+  sized = both-true (le-leb 1 n low) (le-leb n 16 small)
+
+  pub is-fit : fits b ≡ true
+  unfolding fits
+  is-fit = rw (ne-eqb (length b) 0 (λ e. omega (arith, M .shows .long)), M .shows .states, sized)
+      (eq-eqb (length b) (clusterSize n) (M .shows .long))
+
+  -- As many have stopped.
+  pub same-stopped : count n (stopped b) ≡ C.count (σ .stopped) n
+  same-stopped = same-count n (stopped b) (σ .stopped) (λ c o. sym (M .shows .says c o .stop))
+
+  block-sound : (c : ℕ) → 1 ≤ c → c ≤ n → blockSound n c (block b c) ≡ true
+  unfolding blockSound
+  block-sound c lo hi = both-true (M .shows .says c (lo, hi) .sound)
+      (all-all n (λ a. leb (waitingIn (block b c) a) capacity) (λ a l h. le-leb (waitingIn (block b c) a) capacity
+      (rw (says-count small (M .shows .says c (lo, hi)) a (l, h)) (M .room a c (l, h) (lo, hi)))))
+
+  pub is-sound : sound b ≡ true
+  unfolding sound
+  is-sound = rw (M .shows .states) (both-true sized (both-true (all-all n (λ c. blockSound n c (block b c)) block-sound)
+      (le-leb (count n (stopped b)) (faults n) (rw same-stopped (M .few)))))
+
+  -- The record of a node is usable.
+  pub is-usable : (c : ℕ) → OneTo n c → usable (nodeIn (block b c)) ≡ true
+  is-usable c o =
+      let r = recordIn (block b c) in
+      both-right (waitKnown r) (usable (recordOf r)) (both-left (both (waitKnown r) (usable (recordOf r)))
+      (both (eqb (recordOf r .n) n) (eqb (recordOf r .own) c)) (M .shows .says c o .sound))
+
+  pub is-checked : (r : E.Result) → E.checked b r ≡ r
+  is-checked r = rw (is-fit, is-sound) refl

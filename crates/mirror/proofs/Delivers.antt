@@ -1,0 +1,166 @@
+-- A delivery on bytes is a delivery of the algorithm's cluster; 7 and 9 do not come up.
+use Prim.Native.Nat.{ℕ, _<_, _≤_}
+use native.Mathlib.Omega.{arith}
+use native.Mathlib.Decide.{ℕ-discrete}
+use mathlib.Core.Path.{_≡_, refl, sym, ap, ap₂, _∙_, subst}
+use mathlib.Core.Logic.{inl, inr}
+use mathlib.Core.Bool.{false, _&&_, true≢false}
+use mathlib.Core.List.{List, [], _∷_}
+use lib.Dec.{ltb}
+use lib.ListN.{length}
+use borrow.Author.Tests.{lt-ltb, le-ltb}
+use Rattle.theory.specs.Update.{upd2, upd2-same, upd2-other}
+use Rattle.octets.specs.Answer.{Answer, result, refused}
+use Rattle.octets.specs.Test.{both}
+use Rattle.view.specs.View.{viewOf}
+use Rattle.view.specs.declared.View.{View}
+use Rattle.view.proofs.ViewBytes.{view-absent}
+use Rattle.wire.specs.Codec.{front, viewAt}
+use Rattle.wire.specs.declared.Message.{Message}
+use Rattle.wire.specs.declared.Message.the-variants.{Read, ReadAnswer, Write, WriteAnswer, Echo, Value, Good}
+use Rattle.wire.proofs.RoundTrip.{front-only}
+use Rattle.table.specs.Quorum.{faults}
+use Rattle.record.specs.declared.Node.{Node}
+use Rattle.node.specs.Move.{messageStep}
+use Rattle.region.specs.Channel.{capacity, countOf, first}
+use Rattle.entries.specs.Stale.{staleMessage}
+use Rattle.layout.specs.Layout.{stated, stopped, node, channel, isNode}
+use Rattle.cluster.specs.Event as E
+use Rattle.cluster.specs.declared.Extent.{Extent}
+use Rattle.eqaso.specs.Message as M
+use Rattle.eqaso.specs.Algorithm as A
+use Rattle.eqaso.specs.Cluster as K
+use Rattle.eqaso.specs.Order.{OneTo}
+use Rattle.eqaso.proofs.Sets.{and-both}
+use Rattle.eqaso.specs.Bounded.{BoundedNode}
+use Rattle.eqaso.specs.Bounded.{Expected}
+use Rattle.refine.specs.Meaning.{messageOf}
+use Rattle.refine.specs.Follows.{Sized, Follows}
+use Rattle.refine.proofs.Steps.{message-follows, never-stale}
+use Rattle.mirror.specs.Mirrors.{meantBy, extentOf, Mirrors}
+use Rattle.mirror.specs.SameResult.{SameResult}
+use Rattle.mirror.proofs.LetOut.{both-and}
+use Rattle.mirror.proofs.Says.{says-count, says-first}
+use Rattle.mirror.proofs.Shows.{Gone, shows-take}
+use Rattle.mirror.proofs.Settle.{same-refusal, tells-true, settles}
+use Rattle.mirror.proofs.Checks.{sized, is-usable, is-checked}
+use Rattle.mirror.proofs.Lawful.{allowed-lawful}
+use Rattle.mirror.proofs.Safety.{message-safe}
+use Rattle.mirror.proofs.Events.{same-isNode, one-to, stands-not, same-demand, stands-tells, cut-tells, few-then}
+
+abbrev pub IsResult : {X : Type 0} → Answer X → Type 0
+IsResult (result x) = Unit {0}
+IsResult (refused k) = ⊥
+
+-- A view that is read has its sizes.
+sized-view : (n : ℕ) (b : List ℕ) → n ≤ 16 → Sized (viewOf n b)
+sized-view n b small = let v = view-absent n b small in record { tags = v .tags-length; reports = v .reports-length }
+
+-- No message that a run hands over is stale.
+not-stale : {n i : ℕ} {ν : A.Node} {c : Node} → n ≤ 16 → Follows n i ν c → (k : ℕ) → OneTo n k
+    → (m : Message) (v : View)
+    → Expected n k ν (messageOf n i v m) → staleMessage c k m ≡ false
+not-stale small F k o (Read q) v a = refl
+not-stale small F k o (ReadAnswer q t) v a = refl
+not-stale small F k o (Write q t) v a = refl
+not-stale small F k o (WriteAnswer q t) v a = refl
+not-stale small F k o (Echo t) v a = refl
+not-stale small F k o (Value t w p) v a = never-stale F small k o t w p a
+not-stale small F k o (Good t) v a = refl
+
+module _ {n : ℕ} (low : 1 ≤ n) (small : n ≤ 16) {b : List ℕ} {σ : K.Cluster} (mirror : Mirrors n b σ)
+    (bounded : (c : ℕ) → BoundedNode n (σ .nodes c)) (a c : ℕ) (x : Extent) where
+  -- The message that has waited longest is handled.
+  module _ (from : OneTo n a) (at : OneTo n c) (stands : σ .stopped c ≡ false) (m : M.Message) (rest : List M.Message)
+      (waits : σ .channel a c ≡ m ∷ rest) (expects : Expected n a (σ .nodes c) m) where
+    q : ℕ → ℕ → List M.Message
+    q = upd2 (σ .channel) a c rest
+
+    s : List ℕ
+    s = first (channel b a c)
+
+    F : Follows n c (σ .nodes c) (node b c)
+    F = mirror .shows .says c at .node
+
+    gone : Gone (σ .stopped) q
+    unfolding q
+    gone y d e = upd2-other (σ .channel) a c rest y d (inr (λ z. true≢false (sym e ∙ ap (σ .stopped) z ∙ stands)))
+        ∙ mirror .gone y d e
+
+    room : (y d : ℕ) → OneTo n y → OneTo n d → length (q y d) ≤ capacity
+    unfolding q
+    room y d p o = go (ℕ-discrete y a) (ℕ-discrete d c)
+      where
+        less : length rest ≤ capacity
+        less = omega (arith, mirror .room a c from at, ap length waits)
+
+        go : Dec (y ≡ a) → Dec (d ≡ c) → length (upd2 (σ .channel) a c rest y d) ≤ capacity
+        go (yes e) (yes h) = rw (e, h, upd2-same (σ .channel) a c rest) less
+        go (yes e) (no h) = rw (upd2-other (σ .channel) a c rest y d (inr h)) (mirror .room y d p o)
+        go (no e) h = rw (upd2-other (σ .channel) a c rest y d (inl e)) (mirror .room y d p o)
+
+    -- The slot says some message of the code; 7 does not come up.
+    reads : (r : Answer (Message × ℕ)) → front n s ≡ r → meantBy n c (viewOf n (viewAt n s)) r ≡ result m
+        → SameResult n (E.deliverMessage n a c x b s r) (K.deliverFirst n (faults n) a c (extentOf x) σ (m ∷ rest))
+    unfolding s q
+    reads (refused k) e h = absurd (subst IsResult (sym h) tt)
+    reads (result p) e h = subst (λ z. SameResult n (E.deliverMessage n a c x b s (result p))
+        (K.deliverFirst n (faults n) a c (extentOf x) σ (z ∷ rest)))
+        means (rw (not-stale small F a from (p .0) v ex)
+        (same-demand low small mirror (K.holds (K.mayCut n (faults n) (extentOf x) σ))
+        (cut-tells low small mirror x) 10 λ cut.
+        settles small (sized low small mirror) a c from at x (few-then low small mirror x c cut) mirror q
+        (shows-take small (mirror .shows) a c from at waits) gone room (messageStep (faults n) (node b c) a (p .0) v)
+        (A.messageStep n (faults n) c a (messageOf n c v (p .0)) (σ .nodes c))
+        (message-follows small F (bounded c) (faults n) a from (p .0) v (sized-view n (viewAt n s) small) ex)
+        (message-safe small F (is-usable low small mirror c at) (faults n) a from (p .0) v
+        (allowed-lawful n small (p .0) (viewAt n s) (front-only n s (p .0) (p .1) e .allowed-is)))))
+      where
+        v : View
+        v = viewOf n (viewAt n s)
+
+        means : messageOf n c v (p .0) ≡ m
+        means = cc h
+
+        ex : Expected n a (σ .nodes c) (messageOf n c v (p .0))
+        ex = subst (Expected n a (σ .nodes c)) (sym means) expects
+
+    handles : SameResult n (E.demand (ltb 0 (countOf (channel b a c))) 8 b (E.deliverMessage n a c x b s (front n s)))
+        (K.deliverFirst n (faults n) a c (extentOf x) σ (m ∷ rest))
+    unfolding s
+    handles =
+        let some : 0 < countOf (channel b a c) = rw (says-count small (mirror .shows .says c at) a from, waits)
+        (omega arith) in
+        rw (lt-ltb 0 (countOf (channel b a c)) some)
+        (reads (front n s) refl (says-first small (mirror .shows .says c at) a from waits .0))
+
+  module _ (expects : (m : M.Message) (rest : List M.Message) → OneTo n c → σ .stopped c ≡ false
+      → σ .channel a c ≡ m ∷ rest
+      → Expected n a (σ .nodes c) m) where
+    delivers-in : SameResult n (E.deliverIn n a c x b) (K.deliverEvent n (faults n) a c (extentOf x) σ)
+    unfolding s
+    delivers-in =
+        same-demand low small mirror (K.holds (K.isNode n a && K.isNode n c))
+        (tells-true (ap₂ both (same-isNode n a) (same-isNode n c) ∙ both-and (K.isNode n a) (K.isNode n c))) 3 λ is.
+        let (f, g) = and-both (K.isNode n a) (K.isNode n c) is in
+        let from : OneTo n a = one-to n a f in
+        let at : OneTo n c = one-to n c g in
+        same-demand low small mirror (K.holds (K.stands σ c)) (stands-tells low small mirror c at) 4 λ up.
+        go from at (stands-not (σ .stopped c) up) (σ .channel a c) refl
+      where
+        go : OneTo n a → OneTo n c → σ .stopped c ≡ false → (l : List M.Message) → σ .channel a c ≡ l
+            → SameResult n (E.demand (ltb 0 (countOf (channel b a c))) 8 b
+            (E.deliverMessage n a c x b (first (channel b a c)) (front n (first (channel b a c)))))
+            (K.deliverFirst n (faults n) a c (extentOf x) σ l)
+        go from at up [] e =
+            let none : countOf (channel b a c) ≤ 0 = rw (says-count small (mirror .shows .says c at) a from, e)
+            (omega arith) in
+            rw (le-ltb 0 (countOf (channel b a c)) none) (same-refusal mirror 8)
+        go from at up (m ∷ rest) e = handles from at up m rest e (expects m rest at up e)
+
+    pub delivers : SameResult n (E.deliver a c x b) (K.deliverEvent n (faults n) a c (extentOf x) σ)
+    unfolding E.deliver
+    delivers = subst (λ r. SameResult n r (K.deliverEvent n (faults n) a c (extentOf x) σ))
+        (ap (λ k. E.deliverIn k a c x b) (sym (mirror .shows .states))
+        ∙ sym (is-checked low small mirror (E.deliverIn (stated b) a c x b)))
+        delivers-in

@@ -1,0 +1,117 @@
+-- One event on bytes is one event of the algorithm's cluster: the same refusals, on the same conditions and in the same
+-- order, and else the same result.
+use Prim.Native.Nat.{ℕ, suc, _-_, _≤_}
+use native.Mathlib.Omega.{arith}
+use native.Mathlib.Decide.{decLe, decLt}
+use mathlib.Core.Path.{_≡_, refl, sym, ap, ap₂, _∙_, subst}
+use mathlib.Core.Bool.{Bool, true, false, not, decide, decide-iff}
+use mathlib.Core.List.{List}
+use lib.Dec.{leb, ltb}
+use borrow.Author.Tests.{le-leb, lt-leb}
+use Rattle.theory.specs.Count as C
+use Rattle.octets.specs.Test.{both}
+use Rattle.table.specs.Loop.{count}
+use Rattle.table.specs.Quorum.{faults}
+use Rattle.record.specs.Usable.{isOpen}
+use Rattle.record.specs.declared.Operation.{Operation}
+use Rattle.node.specs.Move.{beginStep}
+use Rattle.layout.specs.Layout.{stated, stopped, node, isNode}
+use Rattle.cluster.specs.Event as E
+use Rattle.cluster.specs.declared.Extent.{Extent}
+use Rattle.cluster.specs.declared.Extent.the-variants.{Whole, Cut}
+use Rattle.eqaso.specs.Algorithm as A
+use Rattle.eqaso.specs.Cluster as K
+use Rattle.eqaso.specs.Order.{OneTo}
+use Rattle.eqaso.proofs.Sets.{and-both}
+use Rattle.eqaso.specs.Bounded.{BoundedNode}
+use Rattle.refine.specs.Meaning.{operationOf}
+use Rattle.refine.specs.Follows.{Follows}
+use Rattle.refine.proofs.Choice.{Tells, same-side}
+use Rattle.refine.proofs.Steps.{begin-follows, same-idle, not-full, is-full}
+use Rattle.mirror.specs.Mirrors.{extentOf, Mirrors}
+use Rattle.mirror.specs.SameResult.{SameResult}
+use Rattle.mirror.proofs.LetOut.{leb-decides, both-and}
+use Rattle.mirror.proofs.Fits.{count-one}
+use Rattle.mirror.proofs.Settle.{same-refusal, tells-true, settles}
+use Rattle.mirror.proofs.Checks.{sized, same-stopped, is-usable, is-checked}
+use Rattle.mirror.proofs.Safety.{begin-safe}
+
+-- The tests of the code are the decisions of the algorithm.
+lt-decides : (a b : ℕ) → leb (suc a) b ≡ decide (decLt a b)
+unfolding decide
+lt-decides a b = elim (decLt a b) as (λ d. leb (suc a) b ≡ decide d) [
+  | yes h ↦ le-leb (suc a) b h
+  | no h ↦ lt-leb
+      (suc a) b (omega arith)
+]
+
+pub same-isNode : (n c : ℕ) → isNode n c ≡ K.isNode n c
+same-isNode n c = ap₂ both (lt-decides 0 c) (leb-decides c n) ∙ both-and (decide (decLt 0 c)) (decide (decLe c n))
+
+pub one-to : (n c : ℕ) → K.isNode n c ≡ true → OneTo n c
+one-to n c e = let (x, y) = and-both (decide (decLt 0 c)) (decide (decLe c n)) e in
+    (decide-iff (decLt 0 c) .0 x, decide-iff (decLe c n) .0 y)
+
+pub stands-not : (y : Bool) → not y ≡ true → y ≡ false
+stands-not true e = sym e
+stands-not false e = refl
+
+module _ {n : ℕ} (low : 1 ≤ n) (small : n ≤ 16) {b : List ℕ} {σ : K.Cluster} (mirror : Mirrors n b σ) where
+  -- A refusal is given on the same condition.
+  pub same-demand : {P : Type 0} {t : Bool} (d : Dec P) → Tells t P → (k : ℕ) {r : E.Result} {r′ : K.Result}
+      → (P → SameResult n r r′) → SameResult n (E.demand t k b r) (K.demand d k σ r′)
+  same-demand d t k next = same-side (SameResult n) d t next (λ h. same-refusal mirror k)
+
+  pub stands-tells : (c : ℕ) → OneTo n c → Tells (not (stopped b c)) (K.stands σ c ≡ true)
+  stands-tells c o = tells-true (ap not (mirror .shows .says c o .stop))
+
+  pub cut-tells : (x : Extent) → Tells (E.mayCut n x b) (K.mayCut n (faults n) (extentOf x) σ ≡ true)
+  cut-tells Whole = tells-true refl
+  cut-tells (Cut m) = tells-true (ap (λ k. ltb k (faults n)) (same-stopped low small mirror)
+      ∙ lt-decides (C.count (σ .stopped) n) (faults n))
+
+  pub few-then : (x : Extent) (c : ℕ) → K.mayCut n (faults n) (extentOf x) σ ≡ true
+      → C.count (K.halted (extentOf x) c (σ .stopped)) n ≤ faults n
+  few-then Whole c e = mirror .few
+  few-then (Cut m) c e = omega (
+    arith,
+    decide-iff (decLt (C.count (σ .stopped) n) (faults n)) .0 e,
+    count-one
+        (σ .stopped) c n,
+  )
+
+  module _ (bounded : (c : ℕ) → BoundedNode n (σ .nodes c)) where
+    begins-in : (c : ℕ) (o : Operation) (x : Extent)
+        → SameResult n (E.beginIn n c o x b) (K.beginEvent n (faults n) c (operationOf o) (extentOf x) σ)
+    begins-in c o x =
+        same-demand (K.holds (K.isNode n c)) (tells-true (same-isNode n c)) 3 λ is.
+        let at : OneTo n c = one-to n c is in
+        let F : Follows n c (σ .nodes c) (node b c) = mirror .shows .says c at .node in
+        same-demand (K.holds (K.stands σ c)) (stands-tells c at) 4 λ stands.
+        same-demand (K.holds (K.isIdle (σ .nodes c .wait))) (idle F) 5 λ free.
+        same-demand (decLe 5 (A.limit - σ .nodes c .request))
+        (λ h. ap not (not-full F h), λ h. ap not (is-full F h)) 6 λ left.
+        same-demand (K.holds (K.mayCut n (faults n) (extentOf x) σ)) (cut-tells x) 10 λ cut.
+        settles small (sized low small mirror) c c at at x (few-then x c cut) mirror (σ .channel) (mirror .shows)
+        (mirror .gone) (mirror .room)
+        (beginStep (faults n) (node b c) o) (A.beginStep n (faults n) c (operationOf o) (σ .nodes c))
+        (begin-follows small F (bounded c) (faults n) o)
+        (begin-safe small F (is-usable low small mirror c at) (faults n) o (same-idle (F .wait) ∙ ap not free)
+        (not-full F left))
+      where
+        twice : (y : Bool) → not (not y) ≡ y
+        twice true = refl
+        twice false = refl
+
+        idle : Follows n c (σ .nodes c) (node b c)
+            → Tells (not (isOpen (node b c .wait))) (K.isIdle (σ .nodes c .wait) ≡ true)
+        idle F = tells-true (ap not (same-idle (F .wait)) ∙ twice (K.isIdle (σ .nodes c .wait)))
+
+    -- The begin of an operation.
+    pub begins : (c : ℕ) (o : Operation) (x : Extent)
+        → SameResult n (E.begin c o x b) (K.beginEvent n (faults n) c (operationOf o) (extentOf x) σ)
+    unfolding E.begin
+    begins c o x = subst (λ r. SameResult n r (K.beginEvent n (faults n) c (operationOf o) (extentOf x) σ))
+        (ap (λ k. E.beginIn k c o x b) (sym (mirror .shows .states))
+        ∙ sym (is-checked low small mirror (E.beginIn (stated b) c o x b)))
+        (begins-in c o x)

@@ -1,0 +1,134 @@
+-- How an event ends: the node takes its step and lets its entries out, or 11 is given, alike on bytes and over sets.
+use Prim.Native.Nat.{ℕ, _≤_}
+use native.Mathlib.Omega.{arith}
+use native.Mathlib.Decide.{ℕ-discrete}
+use mathlib.Core.Path.{_≡_, refl, sym, ap, _∙_, subst}
+use mathlib.Core.Bool.{Bool, true, false, Bool-discrete}
+use mathlib.Core.List.{List, map}
+use lib.ListN.{length, take}
+use Rattle.theory.specs.Count.{count}
+use Rattle.theory.specs.Log.{_∈_}
+use Rattle.theory.specs.Update.{upd}
+use Rattle.octets.specs.Answer.{result}
+use Rattle.octets.specs.Test.{pick}
+use Rattle.octets.proofs.Test.{not-true-false}
+use Rattle.view.specs.Size.{isSize}
+use Rattle.view.specs.View.{viewBytes, noView}
+use Rattle.wire.specs.Layout.{allowed}
+use Rattle.wire.specs.declared.Message.{Message}
+use Rattle.table.specs.Quorum.{faults}
+use Rattle.record.specs.Usable.{usable}
+use Rattle.node.specs.Step.{messages}
+use Rattle.node.specs.declared.Ending.the-variants.{None}
+use Rattle.node.specs.declared.Step.{Step}
+use Rattle.region.specs.Channel.{capacity}
+use Rattle.entries.specs.Entries.{Entry, entries}
+use Rattle.cluster.specs.Event as E
+use Rattle.cluster.specs.declared.Extent.{Extent}
+use Rattle.cluster.specs.declared.Extent.the-variants.{Whole, Cut}
+use Rattle.eqaso.specs.Message as M
+use Rattle.eqaso.specs.Algorithm as A
+use Rattle.eqaso.specs.Cluster as K
+use Rattle.eqaso.specs.Order.{OneTo}
+use Rattle.refine.specs.Meaning.{messageOf}
+use Rattle.refine.specs.Lockstep.{SameStep}
+use Rattle.refine.proofs.Choice.{Tells, same-side}
+use Rattle.mirror.specs.Mirrors.{mail, extentOf, Shows, Mirrors}
+use Rattle.mirror.specs.SameResult.{answerOf, SameResult}
+use Rattle.mirror.proofs.Channels.{channel-stopped, channel-other, emptied, emptied-gone, channels-emptied}
+use Rattle.mirror.proofs.Channels.{same-entries, map-take}
+use Rattle.mirror.proofs.Shows.{Gone, shows-step}
+use Rattle.mirror.proofs.LetOut.{shows-out, same-roomy, room-of, roomy-at}
+use Rattle.mirror.proofs.Fits.{Fits, fits-take, fits-entries}
+
+-- What a step of the code is known to keep: its record is usable, and its messages are of the layout.
+pub record Safe (n : ℕ) (s : Step) : Type 0 where
+  pub node : usable (s .node) ≡ true
+  pub layout : (m : Message) → m ∈ messages (s .outbox) → allowed n m (viewBytes n (s .outbox .view)) ≡ true
+
+-- A test that is another one tells whether that one holds.
+pub tells-true : {b c : Bool} → b ≡ c → Tells b (c ≡ true)
+tells-true {b} {c} e = (λ h. e ∙ h, λ h. e ∙ not-true-false c h)
+
+-- A refusal leaves both as they were.
+pub same-refusal : {n : ℕ} {b : List ℕ} {σ : K.Cluster} → Mirrors n b σ → (k : ℕ)
+    → SameResult n (E.refuse k b) (K.refuse k σ)
+same-refusal m k = record { answer = refl; sent = refl; mirrors = m }
+
+module _ {n : ℕ} (small : n ≤ 16) (sized : isSize n ≡ true) (a c : ℕ) (from : OneTo n a) (node : OneTo n c)
+    {σ : K.Cluster} (x : Extent) (few : count (K.halted (extentOf x) c (σ .stopped)) n ≤ faults n)
+    {b found : List ℕ} (mirror : Mirrors n b σ) (q : ℕ → ℕ → List M.Message)
+    (S : Shows n found (σ .nodes) (σ .stopped) q)
+    (gone : Gone (σ .stopped) q) (room : (a d : ℕ) → OneTo n a → OneTo n d → length (q a d) ≤ capacity)
+    (s : Step) (t : A.Step) (same : SameStep n c a s t) (safe : Safe n s) where
+  abbrev stopped : ℕ → Bool
+  stopped = K.halted (extentOf x) c (σ .stopped)
+
+  -- The same entries are let out.
+  abbrev out : List Entry
+  out = E.within x (entries n a (s .outbox))
+
+  whole-out : map (mail n) (entries n a (s .outbox)) ≡ K.entries n (t .sent)
+  whole-out = same-entries n a (s .outbox .view) (messages (s .outbox))
+      ∙ ap (K.entries n) (ap (λ k. map (messageOf n k (s .outbox .view)) (messages (s .outbox))) (sym (same .to))
+      ∙ same .sent)
+
+  same-out : (x : Extent) → map (mail n) (E.within x (entries n a (s .outbox))) ≡ K.letOut (extentOf x)
+      (K.entries n (t .sent))
+  same-out Whole = whole-out
+  same-out (Cut m) = map-take (mail n) m (entries n a (s .outbox)) ∙ ap (take m) whole-out
+
+  fits-out : (x : Extent) → Fits n (E.within x (entries n a (s .outbox)))
+  fits-out Whole = fits-entries n a from (s .outbox .view) (messages (s .outbox)) (safe .layout)
+  fits-out (Cut m) = fits-take n m (entries n a (s .outbox))
+      (fits-entries n a from (s .outbox .view) (messages (s .outbox)) (safe .layout))
+
+  -- The channels after the step, and after the entries.
+  abbrev mid : ℕ → ℕ → List M.Message
+  mid = emptied stopped q
+
+  abbrev end : ℕ → ℕ → List M.Message
+  end = K.channels stopped c (K.letOut (extentOf x) (K.entries n (t .sent))) q
+
+  mid-end : K.channels stopped c (map (mail n) out) mid ≡ end
+  mid-end = ap (λ l. K.channels stopped c l mid) (same-out x)
+      ∙ channels-emptied stopped c (K.letOut (extentOf x) (K.entries n (t .sent))) q
+
+  after-step : Shows n (E.stepped n c x s found) (upd (σ .nodes) c (t .node)) stopped mid
+  after-step = shows-step small S c node x s (same .node) (safe .node) gone
+
+  -- The event is accepted.
+  accepts : K.roomy c n end ≡ true → SameResult n (E.commit n c x s out found)
+      (K.commit c (extentOf x) t (K.letOut (extentOf x) (K.entries n (t .sent))) q σ)
+  accepts e = record {
+    answer = answers x;
+    sent = same-out x;
+    mirrors = record {
+      shows = subst (Shows n (E.letOut n c out (E.stepped n c x s found)) (upd (σ .nodes) c (t .node)) stopped) mid-end
+          (shows-out small sized c node out after-step (emptied-gone stopped q) (fits-out x)
+          (room-of small after-step c node out (ap (K.roomy c n) mid-end ∙ e)));
+      room = λ a d p o. fits a d p o (stopped d) refl (ℕ-discrete a c);
+      gone = λ a d h. channel-stopped stopped c (K.letOut (extentOf x) (K.entries n (t .sent))) q a d h;
+      few = few;
+    };
+  }
+    where
+      l : List K.Sent
+      l = K.letOut (extentOf x) (K.entries n (t .sent))
+
+      answers : (x : Extent) → answerOf n (pick (E.isCut x) noView (s .view))
+          (result (pick (E.isCut x) None (s .ending)))
+          ≡ K.accepted (K.given (extentOf x) (t .ending))
+      answers Whole = ap K.accepted (same .ending)
+      answers (Cut m) = refl
+
+      fits : (a d : ℕ) → OneTo n a → OneTo n d → (y : Bool) → stopped d ≡ y → Dec (a ≡ c) → length (end a d) ≤ capacity
+      fits a d p o true h z = rw (channel-stopped stopped c l q a d h) (omega arith)
+      fits a d p o false h (yes z) = rw z (roomy-at c end n e d o)
+      fits a d p o false h (no z) = rw (channel-other stopped c l q a d h z) (room a d p o)
+
+  pub settles : SameResult n (E.settle n a c x s found b) (K.settle n c (extentOf x) t q σ)
+  unfolding E.settle
+  settles = same-side (SameResult n) (Bool-discrete (K.roomy c n end) true)
+      (tells-true (same-roomy small after-step c node out ∙ ap (K.roomy c n) mid-end)) accepts
+      (λ e. same-refusal mirror 11)

@@ -1,0 +1,5 @@
+pub mod Mirrors
+pub mod SameResult
+pub mod Run
+pub mod Encodes
+pub mod Demand2

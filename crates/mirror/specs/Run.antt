@@ -1,0 +1,58 @@
+-- Runs on bytes: any list of begins and deliveries, with any numbers, each on the bytes as the one before left them.
+use Prim.Native.Nat.{ℕ}
+use mathlib.Core.Path.{_≡_}
+use mathlib.Core.Bool.{Bool, true}
+use mathlib.Core.List.{List, [], _∷_, map}
+use lib.Dec.{eqb}
+use Rattle.table.specs.Loop.{either}
+use Rattle.octets.specs.Answer.{Answer, result, refused}
+use Rattle.record.specs.declared.Operation.{Operation}
+use Rattle.node.specs.declared.Ending.{Ending}
+use Rattle.cluster.specs.Event as E
+use Rattle.cluster.specs.declared.Extent.{Extent}
+use Rattle.eqaso.specs.Cluster as K
+use Rattle.eqaso.specs.Trace.{Seen, Trace}
+use Rattle.refine.specs.Meaning.{operationOf}
+use Rattle.mirror.specs.Mirrors.{mail, extentOf}
+use Rattle.mirror.specs.SameResult.{answerOf}
+
+pub data Event : Type 0 where
+  begin : (node : ℕ) → Operation → Extent → Event
+  deliver : (sender receiver : ℕ) → Extent → Event
+
+abbrev pub event : Event → List ℕ → E.Result
+event (begin c o x) b = E.begin c o x b
+event (deliver a c x) b = E.deliver a c x b
+
+unfoldable pub after : List ℕ → List Event → List ℕ
+after b [] = b
+after b (e ∷ es) = after (event e b .bytes) es
+
+-- The same event of the algorithm's cluster.
+abbrev pub meaning : Event → K.Event
+meaning (begin c o x) = K.begin c (operationOf o) (extentOf x)
+meaning (deliver a c x) = K.deliver a c (extentOf x)
+
+-- What is seen of a run from outside, in the algorithm's terms: of each event its answer and the entries let out.
+abbrev pub seen : ℕ → Event → E.Result → Seen
+seen n e r = record { event = meaning e; answer = answerOf n (r .view) (r .answer); sent = map (mail n) (r .sent) }
+
+unfoldable pub traceFrom : ℕ → List ℕ → List Event → Trace
+traceFrom n b [] = []
+traceFrom n b (e ∷ es) = seen n e (event e b) ∷ traceFrom n (event e b .bytes) es
+
+-- The run from what fresh makes of lent bytes b.
+abbrev pub traceOf : ℕ → List ℕ → List Event → Trace
+traceOf n b es = traceFrom n (E.fresh n b .bytes) es
+
+-- The refusals that come up in a run. The others do not: 1 is for fresh, 2, 7 and 9 are for bytes that no run makes,
+-- and
+-- 12 is for a lent length.
+abbrev pub inRun : ℕ → Bool
+inRun k =
+    either (eqb k 3) (either (eqb k 4) (either (eqb k 5)
+    (either (eqb k 6) (either (eqb k 8) (either (eqb k 10) (eqb k 11))))))
+
+abbrev pub ComesUp : Answer Ending → Type 0
+ComesUp (result e) = Unit {0}
+ComesUp (refused k) = inRun k ≡ true

@@ -1,0 +1,21 @@
+-- When an event on bytes and an event of the algorithm's cluster are the same: the same answer (a refusal's number, or
+-- the ending with its rule and view), the same entries let out, in order, and bytes that mirror the cluster after it.
+use Prim.Native.Nat.{ℕ}
+use mathlib.Core.Path.{_≡_}
+use mathlib.Core.List.{map}
+use Rattle.octets.specs.Answer.{Answer, result, refused}
+use Rattle.view.specs.declared.View.{View}
+use Rattle.node.specs.declared.Ending.{Ending}
+use Rattle.cluster.specs.Event.{Result}
+use Rattle.eqaso.specs.Cluster as K
+use Rattle.refine.specs.Meaning.{endingOf}
+use Rattle.mirror.specs.Mirrors.{mail, Mirrors}
+
+abbrev pub answerOf : ℕ → View → Answer Ending → K.Answer
+answerOf n v (result e) = K.accepted (endingOf n v e)
+answerOf n v (refused k) = K.refused k
+
+pub record SameResult (n : ℕ) (r : Result) (t : K.Result) : Type 0 where
+  pub answer : answerOf n (r .view) (r .answer) ≡ t .answer
+  pub sent : map (mail n) (r .sent) ≡ t .sent
+  pub mirrors : Mirrors n (r .bytes) (t .cluster)

@@ -1,0 +1,59 @@
+use borrow.Author.Needs.{needs}
+use native.Mathlib.Omega.{arith}
+use Prim.Native.Nat.{ℕ, _+_}
+use mathlib.Core.List.{List, _++_}
+use mathlib.Core.Path.{_≡_}
+use lib.ListN.{length, length-append}
+use Rattle.octets.proofs.Put.{put-then}
+use Rattle.view.specs.View.{viewBytes}
+use Rattle.view.proofs.ViewBytes.{length-viewBytes}
+use Rattle.region.specs.Record.{viewPlace}
+use Rattle.region.proofs.stored.save_views.Statement.{statement}
+use Rattle.region.proofs.stored.save_views.Tie as tie
+
+save-view-requires : tie.Need-save-view-requires
+save-view-requires c κs = search needs
+
+save-view-requires-2 : tie.Need-save-view-requires-2
+save-view-requires-2 c κs = search needs
+
+save-view-requires-3 : tie.Need-save-view-requires-3
+save-view-requires-3 c κs = search needs
+
+save-view-requires-4 : tie.Need-save-view-requires-4
+save-view-requires-4 c κs = search needs
+
+same-length : tie.Need-same-length
+same-length c = search needs
+
+returns : tie.Need-returns
+returns c = let b = c .before .before .before .before .before .before .before .before .before .before .before .before .before .before .before .before .before .args .b .now in
+    let p = viewBytes 16 (c .before .before .before .before .before .before .before .before .before .before .before .before .before .before .before .before .before .args .c .last) in
+    let q = viewBytes 16 (c .before .before .before .before .before .before .before .before .before .before .before .before .before .before .before .before .before .args .c .atmax) in
+    let r = viewBytes 16 (c .before .before .before .before .before .before .before .before .before .before .before .before .before .before .before .before .before .args .c .atround) in
+    let s = viewBytes 16 (c .before .before .before .before .before .before .before .before .before .before .before .before .before .before .before .before .before .args .c .keptview) in
+    let one : viewPlace 0 + length p ≡ viewPlace 1 = omega (arith, length-viewBytes 16 (c .before .before .before .before .before .before .before .before .before .before .before .before .before .before .before .before .before .args .c .last)) in
+    let two : viewPlace 0 + length (p ++ q) ≡ viewPlace 2 =
+    simp length-append (omega (arith, length-viewBytes 16 (c .before .before .before .before .before .before .before .before .before .before .before .before .before .before .before .before .before .args .c .last), length-viewBytes 16 (c .before .before .before .before .before .before .before .before .before .before .before .before .before .before .before .before .before .args .c .atmax))) in
+    let three : viewPlace 0 + length (p ++ q ++ r) ≡ viewPlace 3 = simp length-append (omega (
+      arith,
+      length-viewBytes 16
+          (c .before .before .before .before .before .before .before .before .before .before .before .before .before .before .before .before .before .args .c .last),
+      length-viewBytes 16 (c .before .before .before .before .before .before .before .before .before .before .before .before .before .before .before .before .before .args .c .atmax),
+      length-viewBytes 16 (c .before .before .before .before .before .before .before .before .before .before .before .before .before .before .before .before .before .args .c .atround),
+    )) in
+    put-then b (viewPlace 0) (p ++ q ++ r) s (viewPlace 3) (omega arith) three
+    (put-then b (viewPlace 0) (p ++ q) r (viewPlace 2) (omega arith) two
+    (put-then b (viewPlace 0) p q (viewPlace 1) (omega arith) one (c .before .before .before .before .before .before .before .before .before .before .before .before .before .before .save-view .ensures) (c .before .before .before .before .before .before .before .before .before .before .save-view2 .ensures))
+    (c .before .before .before .before .before .before .save-view3 .ensures)) (c .before .before .save-view4 .ensures)
+
+pub save-views-spec : {M : Type 1} → statement M
+save-views-spec =
+    tie.close
+    (tie.spec
+    save-view-requires
+    save-view-requires-2
+    save-view-requires-3
+    save-view-requires-4
+    same-length
+    returns)

@@ -1,0 +1,3 @@
+// The two kinds of region in a cluster's bytes: a channel, and the record of a node.
+pub mod channel;
+pub mod stored;
