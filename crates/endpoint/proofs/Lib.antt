@@ -1,3 +1,4 @@
+pub mod Points
 pub mod Refusals
 pub mod Rim
 pub mod Rooms

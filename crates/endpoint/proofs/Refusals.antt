@@ -1,6 +1,6 @@
 -- Which answer a call gives, case by case: each refusal on its condition where no earlier one applies, and the step where
 -- none does. The cases are all there are. Assumes nothing.
-use mathlib.Core.Path.{_≡_, refl, ap, _∙_}
+use mathlib.Core.Path.{_≡_}
 use mathlib.Core.Bool.{true, false}
 use mathlib.Core.List.{List}
 use Prim.Native.Nat.{ℕ}
@@ -15,7 +15,7 @@ use Rattle.record.specs.Usable.{usable, isOpen, full}
 use Rattle.record.specs.declared.Node.{Node}
 use Rattle.record.specs.declared.Operation.{Operation}
 use Rattle.node.specs.Move.{messageStep, beginStep}
-use Rattle.endpoint.specs.Entry.{Outcome, refuse, letOut, begin, isStale, beside, taken, message}
+use Rattle.endpoint.specs.Entry.{refuse, letOut, begin, isStale, beside, taken, message}
 
 module _ (c : Node) (o : Operation) (out : List ℕ) where
   pub begin-12 : ltb (length out) 512 ≡ true → begin c o out ≡ refuse 12 c out

@@ -1,7 +1,7 @@
 -- Messages with their view by value and in bytes: what is lawful there is allowed here, and back. Assumes nothing.
 use mathlib.Core.Path.{_≡_, refl, sym, ap, _∙_}
-use mathlib.Core.Bool.{Bool, true, false}
-use mathlib.Core.List.{List, [], _∷_, _++_, append-nil}
+use mathlib.Core.Bool.{true}
+use mathlib.Core.List.{List, [], _∷_, append-nil}
 use Prim.Native.Nat.{ℕ, _+_, _-_, _*_, _≤_, _<_}
 use native.Mathlib.Decide.{decLe}
 use native.Mathlib.Omega.{arith}
@@ -9,19 +9,19 @@ use lib.Dec.{leb, eqb}
 use lib.ListN.{length, getD, replicate, List·getD-append}
 use borrow.Author.Tests.{leb-true, le-leb, eq-eqb, eqb-true}
 use Rattle.octets.specs.Answer.{result}
-use Rattle.octets.specs.Bytes.{Bytes, part}
+use Rattle.octets.specs.Bytes.{Bytes}
 use Rattle.octets.specs.Loop.{tab}
 use Rattle.octets.specs.Test.{both}
 use Rattle.octets.proofs.Table.{length-tab, getD-tab}
 use Rattle.octets.proofs.Put.{part-bytes}
 use Rattle.octets.proofs.Test.{both-left, both-right, both-true}
-use Rattle.view.specs.Size.{limit, isSize}
+use Rattle.view.specs.Size.{isSize}
 use Rattle.view.specs.Report.{noReport, isNone}
-use Rattle.view.specs.View.{noView, viewBytes, viewOf, viewOk, tagAt, reportAt}
+use Rattle.view.specs.View.{viewBytes, viewOf, viewOk, tagAt, reportAt}
 use Rattle.view.specs.declared.Report.{Report}
 use Rattle.view.specs.declared.View.{View}
 use Rattle.view.proofs.ViewBytes.{length-viewBytes, ok-written, ok-tag, ok-report, view-absent}
-use Rattle.wire.specs.Layout.{allowed, isRequest, isTag}
+use Rattle.wire.specs.Layout.{allowed, isTag}
 use Rattle.wire.specs.Codec.{decode, viewPart}
 use Rattle.wire.specs.declared.Message.{Message}
 use Rattle.wire.specs.declared.Message.the-variants.{Read, ReadAnswer, Write, WriteAnswer, Echo, Value, Good}

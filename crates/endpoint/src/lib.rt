@@ -32,7 +32,7 @@ ghost use Rattle.wire.specs.Codec.{decode};
 ghost use Rattle.node.specs.Claims.{AllLawful, sizes};
 ghost use Rattle.node.specs.Step.{messages};
 ghost use Rattle.endpoint.specs.Room.{WriterIn};
-ghost use Rattle.endpoint.specs.Entry.{saidOf, viewShown, refusing, replied, letOut, freshReply, begin, isStale, beside, taken, message};
+ghost use Rattle.endpoint.specs.Entry.{saidOf, viewShown, refusing, letOut, freshReply, begin, isStale, beside, taken, message};
 
 // The least length of an output buffer.
 pub const OUTPUT: usize = 512;

@@ -1,12 +1,12 @@
 -- The handlers and the begin keep a usable record usable. Assumes nothing.
-use mathlib.Core.Path.{_≡_, refl, sym, ap, _∙_}
+use mathlib.Core.Path.{_≡_, refl, _∙_}
 use mathlib.Core.Bool.{Bool, true, false}
-use Prim.Native.Nat.{ℕ, _+_, _-_, _≤_, _<_, max}
+use Prim.Native.Nat.{ℕ, _+_, _-_, _≤_, max}
 use native.Mathlib.Nat.{le-of-lt}
 use native.Mathlib.Omega.{arith}
 use lib.Dec.{leb, ltb, eqb}
 use borrow.Author.Tests.{leb-true, ltb-true, ltb-false}
-use Rattle.octets.specs.Test.{pick, both}
+use Rattle.octets.specs.Test.{both}
 use Rattle.octets.proofs.Test.{both-left, both-right, true-false}
 use Rattle.view.specs.Size.{limit}
 use Rattle.view.specs.declared.Report.{Report}
@@ -14,7 +14,7 @@ use Rattle.view.specs.declared.View.{View}
 use Rattle.wire.specs.Layout.{isRequest, isTag}
 use Rattle.wire.specs.declared.Message.{Message}
 use Rattle.wire.specs.declared.Message.the-variants.{Read, ReadAnswer, Write, WriteAnswer, Echo, Value, Good}
-use Rattle.table.specs.Table.{tagOf, put, newest, within, cell}
+use Rattle.table.specs.Table.{put, newest, within, cell}
 use Rattle.table.specs.Quorum.{member, with, only}
 use Rattle.table.proofs.Entries.{Sized, within-newest, within-put, heard-within-set}
 use Rattle.table.proofs.Sets.{only-none, only-with}

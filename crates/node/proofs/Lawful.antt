@@ -1,31 +1,26 @@
 -- Every message that a step of a usable record sends is of the layout, and a step sends at most four of them, of at most
 -- 341 bytes. Assumes nothing.
 use mathlib.Core.Path.{_≡_, refl, sym, ap, _∙_, subst}
-use mathlib.Core.Bool.{Bool, true, false}
+use mathlib.Core.Bool.{true}
 use mathlib.Core.Logic.{_⊎_, ⊎-elim}
 use mathlib.Core.List.{List, [], _∷_, _++_}
 use Prim.Native.Nat.{ℕ, _+_, _-_, _*_, _≤_, _<_, max}
-use native.Mathlib.Nat.{le-max-right, add-assoc}
+use native.Mathlib.Nat.{add-assoc}
 use native.Mathlib.Omega.{arith}
 use lib.Arith.{lt-of-le-ne}
 use lib.Dec.{leb, ltb, eqb}
 use lib.ListN.{length, length-append}
-use borrow.Author.Tests.{leb-true, le-leb, ltb-true, eqb-true, eqb-false}
-use Rattle.octets.specs.Test.{pick, both}
-use Rattle.octets.proofs.Test.{both-left, both-right, both-true}
+use borrow.Author.Tests.{le-leb, ltb-true, eqb-true, eqb-false}
+use Rattle.octets.proofs.Test.{both-right, both-true}
 use Rattle.view.specs.Size.{limit}
 use Rattle.view.specs.View.{noView}
-use Rattle.view.specs.declared.Report.{Report}
 use Rattle.view.specs.declared.View.{View}
 use Rattle.wire.specs.Layout.{size, isRequest, isTag}
 use Rattle.wire.specs.declared.Message.{Message}
 use Rattle.wire.specs.declared.Message.the-variants.{Read, ReadAnswer, Write, WriteAnswer, Echo, Value, Good}
-use Rattle.table.specs.Table.{tagOf, within}
 use Rattle.table.specs.Quorum.{size as setSize, isQuorum, agreeing}
 use Rattle.record.specs.Record.{waiting}
-use Rattle.record.specs.Usable.{stillUses}
 use Rattle.record.specs.declared.Node.{Node}
-use Rattle.record.specs.declared.Kind.{Kind}
 use Rattle.record.specs.declared.Operation.{Operation}
 use Rattle.record.specs.declared.Operation.the-variants.{Update, Scan}
 use Rattle.record.specs.declared.Wait.{Wait}
@@ -38,7 +33,7 @@ use Rattle.node.specs.Step.{listed, messages, started}
 use Rattle.node.specs.Allowed.{lawful}
 use Rattle.node.specs.Claims.{AllLawful, sizes}
 use Rattle.node.specs.React.{isNew, react}
-use Rattle.node.specs.Move.{opened, afterRead, readPass, writePass, nextTag, afterGood, afterFailed, comparePass, borrowPass, reads, writes, compares, borrows, moveOn, begun}
+use Rattle.node.specs.Move.{afterRead, readPass, writePass, nextTag, afterGood, afterFailed, comparePass, borrowPass, reads, writes, compares, borrows, moveOn, begun}
 use Rattle.node.proofs.Numbers.{max-most, on-pick}
 use Rattle.node.proofs.Safe.{reads-parts, writes-parts, next-high}
 use Rattle.node.proofs.Same.{reads-keep, writes-keep, compares-keep}

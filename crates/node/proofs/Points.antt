@@ -1,20 +1,18 @@
 -- Document 01's point on the largest tag: an update that reads it, through an answer or as its own maxtag, is spent in
 -- that step and sends nothing; at one less it goes on, and so does a scan at the largest tag. Assumes nothing.
-use mathlib.Core.Path.{_≡_, refl, sym, ap, _∙_}
+use mathlib.Core.Path.{_≡_, refl, ap, _∙_}
 use mathlib.Core.Bool.{true, false}
 use mathlib.Core.List.{List, [], _∷_}
-use Prim.Native.Nat.{ℕ, _+_, _-_, _≤_, _<_, max}
+use Prim.Native.Nat.{ℕ, _+_, _-_, _<_, max}
 use native.Mathlib.Omega.{arith}
-use lib.Dec.{eqb}
 use borrow.Author.Tests.{eq-eqb, ne-eqb}
 use Rattle.view.specs.Size.{limit}
-use Rattle.view.specs.View.{noView}
 use Rattle.view.specs.declared.Report.{Report}
 use Rattle.view.specs.declared.View.{View}
 use Rattle.wire.specs.declared.Message.{Message}
 use Rattle.wire.specs.declared.Message.the-variants.{ReadAnswer, Write, Value}
 use Rattle.table.specs.Quorum.{member, with, size, isQuorum}
-use Rattle.record.specs.Record.{waiting, closed}
+use Rattle.record.specs.Record.{waiting}
 use Rattle.record.specs.declared.Node.{Node}
 use Rattle.record.specs.declared.Operation.{Operation}
 use Rattle.record.specs.declared.Operation.the-variants.{Update, Scan}
@@ -25,7 +23,7 @@ use Rattle.node.specs.declared.Sent.the-variants.{Nothing}
 use Rattle.node.specs.declared.Ending.{Ending}
 use Rattle.node.specs.declared.Ending.the-variants.{None, Spent}
 use Rattle.node.specs.declared.Step.{Step}
-use Rattle.node.specs.Step.{messages, started, ended}
+use Rattle.node.specs.Step.{messages, started}
 use Rattle.node.specs.React.{react, readAnswered}
 use Rattle.node.specs.Move.{opened, afterRead, readPass, writePass, comparePass, borrowPass, writes, compares, borrows, moveOn, messageStep}
 use Rattle.node.proofs.Waits.{no-quorum}

@@ -1,13 +1,12 @@
 -- The passes keep a usable record usable. Assumes nothing.
-use mathlib.Core.Path.{_≡_, refl, sym, ap, _∙_}
-use mathlib.Core.Bool.{Bool, true, false}
+use mathlib.Core.Path.{_≡_, refl}
+use mathlib.Core.Bool.{true}
 use Prim.Native.Nat.{ℕ, _+_, _-_, _≤_, _<_, max}
-use native.Mathlib.Nat.{le-trans, le-max-right}
+use native.Mathlib.Nat.{le-max-right}
 use native.Mathlib.Omega.{arith}
 use lib.Arith.{lt-of-le-ne}
 use lib.Dec.{leb, ltb, eqb}
-use borrow.Author.Tests.{eqb-true, eqb-false, ltb-true, le-leb, leb-true}
-use Rattle.octets.specs.Test.{pick}
+use borrow.Author.Tests.{eqb-true, eqb-false, ltb-true, le-leb}
 use Rattle.view.specs.Size.{limit}
 use Rattle.view.specs.View.{noView}
 use Rattle.view.specs.declared.View.{View}
@@ -16,7 +15,7 @@ use Rattle.table.specs.Quorum.{size, isQuorum, agreeing}
 use Rattle.table.proofs.Entries.{within-absent, within-newest}
 use Rattle.table.proofs.Sets.{only-none}
 use Rattle.record.specs.Record.{turned, waiting, closed}
-use Rattle.record.specs.Usable.{stillUses, roundTag, waitOk, usable}
+use Rattle.record.specs.Usable.{stillUses, roundTag, waitOk}
 use Rattle.record.specs.declared.Node.{Node}
 use Rattle.record.specs.declared.Operation.{Operation}
 use Rattle.record.specs.declared.Operation.the-variants.{Update, Scan}
@@ -24,7 +23,7 @@ use Rattle.record.specs.declared.Kind.{Kind}
 use Rattle.record.specs.declared.Kind.the-variants.{Update as UpdateKind, Scan as ScanKind}
 use Rattle.record.specs.declared.Wait.{Wait}
 use Rattle.record.specs.declared.Wait.the-variants.{Idle, Reading, Writing, Comparing, Borrowing}
-use Rattle.record.proofs.Parts.{Parts, parts, usable-of, Round, reading-ok, round-parts, round-of, writing-ok, writing-of}
+use Rattle.record.proofs.Parts.{Parts, Round, reading-ok, round-parts, round-of, writing-ok, writing-of}
 use Rattle.node.specs.declared.Step.{Step}
 use Rattle.node.specs.Move.{opened, afterRead, readPass, writePass, nextTag, afterGood, afterFailed, comparePass, borrowPass, reads, writes, compares, borrows, moveOn}
 use Rattle.node.proofs.Numbers.{max-most, on-pick}

@@ -9,7 +9,7 @@ use Rattle.view.specs.declared.View.{View}
 use Rattle.wire.specs.declared.Message.{Message}
 use Rattle.wire.specs.declared.Message.the-variants.{Read, ReadAnswer, Write, WriteAnswer, Echo, Value, Good}
 use Rattle.table.specs.Quorum.{member, size, isQuorum, agreeing}
-use Rattle.record.specs.Record.{turned, waiting}
+use Rattle.record.specs.Record.{turned}
 use Rattle.record.specs.declared.Node.{Node}
 use Rattle.record.specs.declared.Operation.the-variants.{Update, Scan}
 use Rattle.record.specs.declared.Wait.{Wait}

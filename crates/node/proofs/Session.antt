@@ -3,22 +3,19 @@
 use mathlib.Core.Path.{_≡_, refl}
 use mathlib.Core.List.{List, [], _∷_, _++_, map}
 use Prim.Native.Nat.{ℕ, zero, suc, _+_}
-use lib.Dec.{leb}
-use lib.Bits.{bitOr}
 use Rattle.view.specs.declared.Report.{Report}
 use Rattle.view.specs.declared.View.{View}
 use Rattle.wire.specs.declared.Message.{Message}
-use Rattle.wire.specs.declared.Message.the-variants.{Read, ReadAnswer, Write, WriteAnswer, Echo, Value, Good}
+use Rattle.wire.specs.declared.Message.the-variants.{ReadAnswer, Write, WriteAnswer, Echo, Value, Good}
 use Rattle.view.specs.View.{noView}
 use Rattle.table.specs.Loop.{all, count, tab}
 use Rattle.table.specs.Table.{put, newest}
 use Rattle.table.specs.Quorum.{member, with, size, agrees, agreeing}
 use Rattle.record.specs.Record.{blank}
 use Rattle.record.specs.declared.Node.{Node}
-use Rattle.record.specs.declared.Operation.{Operation}
 use Rattle.record.specs.declared.Operation.the-variants.{Update, Scan}
 use Rattle.node.specs.declared.Ending.{Ending}
-use Rattle.node.specs.declared.Ending.the-variants.{None, Done, Scan as Scanned, Spent}
+use Rattle.node.specs.declared.Ending.the-variants.{None, Done, Scan as Scanned}
 use Rattle.node.specs.declared.Rule.the-variants.{Direct}
 use Rattle.node.specs.declared.Step.{Step}
 use Rattle.node.specs.Step.{messages}
@@ -42,13 +39,19 @@ letters s = map (λ m. record { message = m; view = s .outbox .view }) (messages
 abbrev shown : Step → Shown
 shown s = record { sent = messages (s .outbox); ending = s .ending; view = s .view }
 
--- k deliveries, of the letters in their order: what they show, and the node after them, where none is left over
+-- k deliveries, of the letters in their order: what they show, and the node after them
 deliver : ℕ → Node → List Letter → List Shown
 unfolding messageStep
 deliver zero c l = []
 deliver (suc k) c [] = []
 deliver (suc k) c (x ∷ l) =
     let s = messageStep 0 c 1 (x .message) (x .view) in shown s ∷ deliver k (s .node) (l ++ letters s)
+
+last : ℕ → Node → List Letter → Node
+last zero c l = c
+last (suc k) c [] = c
+last (suc k) c (x ∷ l) =
+    let s = messageStep 0 c 1 (x .message) (x .view) in last k (s .node) (l ++ letters s)
 
 p : Report
 p = record { extensions = 1; lines = 2; waiting = 3; wakeups = 4 }
@@ -65,3 +68,13 @@ updated : deliver 12 (update .node) (letters update) ≡
     ∷ record { sent = Good 1 ∷ []; ending = Done (Direct 1); view = put noView 1 1 p } ∷ quiet [] ∷ []
 unfolding deliver update p quiet messageStep begun beginStep moveOn readPass writePass comparePass borrowPass afterRead afterGood afterFailed opened react raised received keep readAnswered writeAnswered all count tab newest member with size agrees agreeing
 updated = refl
+
+-- the scan after it
+scan : Step
+scan = beginStep 0 (last 11 (update .node) (letters update)) Scan
+
+scanned : deliver 6 (scan .node) (letters scan) ≡
+    quiet (ReadAnswer 4 1 ∷ []) ∷ quiet (Write 5 1 ∷ []) ∷ quiet (WriteAnswer 5 1 ∷ [])
+    ∷ record { sent = Good 1 ∷ []; ending = Scanned (Direct 1); view = put noView 1 1 p } ∷ quiet [] ∷ []
+unfolding deliver last scan update p quiet messageStep begun beginStep moveOn readPass writePass comparePass borrowPass afterRead afterGood afterFailed opened react raised received keep readAnswered writeAnswered all count tab newest member with size agrees agreeing
+scanned = refl

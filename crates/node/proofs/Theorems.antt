@@ -1,6 +1,6 @@
 -- What holds of every step of a usable record: the claims of document 01 on one node. Assumes nothing.
 use mathlib.Core.Path.{_≡_, refl, sym, ap, _∙_, subst}
-use mathlib.Core.Bool.{Bool, true, false}
+use mathlib.Core.Bool.{true, false}
 use mathlib.Core.Logic.{_⊎_, inl, inr}
 use mathlib.Core.List.{List, [], _∷_, _++_}
 use Prim.Native.Nat.{ℕ, _+_, _-_, _≤_, _<_, max}
@@ -25,7 +25,7 @@ use Rattle.record.specs.declared.Operation.{Operation}
 use Rattle.record.specs.declared.Kind.{Kind}
 use Rattle.record.specs.declared.Wait.{Wait}
 use Rattle.record.specs.declared.Wait.the-variants.{Idle, Reading, Writing, Comparing, Borrowing}
-use Rattle.record.proofs.Parts.{Parts, parts, usable-of}
+use Rattle.record.proofs.Parts.{parts, usable-of}
 use Rattle.node.specs.declared.Sent.{Sent}
 use Rattle.node.specs.declared.Sent.the-variants.{Nothing}
 use Rattle.node.specs.declared.Ending.the-variants.{None}

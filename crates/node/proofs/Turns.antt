@@ -1,5 +1,5 @@
 -- What each pass does where it moves the operation on. Assumes nothing.
-use mathlib.Core.Path.{_≡_, refl, sym, ap, _∙_}
+use mathlib.Core.Path.{_≡_, sym, ap, _∙_}
 use mathlib.Core.Bool.{Bool, true, false}
 use Prim.Native.Nat.{ℕ, _≤_, max}
 use lib.Dec.{leb}
@@ -9,8 +9,7 @@ use Rattle.record.specs.Usable.{waitOk}
 use Rattle.record.specs.declared.Node.{Node}
 use Rattle.record.specs.declared.Operation.{Operation}
 use Rattle.record.specs.declared.Kind.{Kind}
-use Rattle.record.specs.declared.Wait.{Wait}
-use Rattle.record.specs.declared.Wait.the-variants.{Reading, Writing, Comparing}
+use Rattle.record.specs.declared.Wait.the-variants.{Reading, Comparing}
 use Rattle.record.proofs.Parts.{Parts, Round, reading-ok, round-parts}
 use Rattle.node.specs.declared.Step.{Step}
 use Rattle.node.specs.Move.{readPass, comparePass, afterRead, afterGood, afterFailed}

@@ -1,25 +1,23 @@
 -- After a step the open operation must wait, and a begin does no more than to ask. Assumes nothing.
-use mathlib.Core.Path.{_≡_, refl, sym, ap, _∙_}
-use mathlib.Core.Bool.{Bool, true, false}
-use Prim.Native.Nat.{ℕ, _+_, _-_, _≤_, _<_, max}
+use mathlib.Core.Path.{_≡_, refl}
+use mathlib.Core.Bool.{false}
+use Prim.Native.Nat.{ℕ, _-_, _≤_, _<_, max}
 use native.Mathlib.Omega.{arith}
 use lib.Dec.{leb, ltb, eqb}
 use borrow.Author.Tests.{lt-leb}
-use Rattle.octets.specs.Test.{pick}
 use Rattle.view.specs.Size.{limit}
 use Rattle.table.specs.Quorum.{size, isQuorum, agreeing}
 use Rattle.table.proofs.Sets.{size-none}
-use Rattle.record.specs.Record.{turned, waiting, closed}
+use Rattle.record.specs.Record.{waiting}
 use Rattle.record.specs.declared.Node.{Node}
 use Rattle.record.specs.declared.Operation.{Operation}
 use Rattle.record.specs.declared.Operation.the-variants.{Update, Scan}
-use Rattle.record.specs.declared.Kind.{Kind}
 use Rattle.record.specs.declared.Wait.{Wait}
 use Rattle.record.specs.declared.Wait.the-variants.{Idle, Reading, Writing, Comparing, Borrowing}
 use Rattle.node.specs.declared.Step.{Step}
 use Rattle.node.specs.Claims.{MustWait}
 use Rattle.node.specs.Step.{ended}
-use Rattle.node.specs.Move.{opened, afterRead, readPass, writePass, nextTag, afterGood, afterFailed, comparePass, borrowPass, reads, writes, compares, borrows, moveOn, begun, beginStep}
+use Rattle.node.specs.Move.{opened, afterRead, readPass, writePass, afterGood, afterFailed, comparePass, borrowPass, reads, writes, compares, borrows, moveOn, begun, beginStep}
 use Rattle.node.proofs.Numbers.{on-pick}
 use Rattle.node.proofs.Same.{reads-keep, writes-keep, compares-keep}
 

@@ -13,11 +13,9 @@ use Rattle.octets.specs.Test.{pick, both}
 use Rattle.table.specs.Table.{tagOf, put, newest, cell}
 use Rattle.table.specs.Quorum.{member, with}
 use Rattle.record.specs.Record.{waiting}
-use Rattle.record.specs.Usable.{isOpen}
 use Rattle.record.specs.declared.Node.{Node}
 use Rattle.record.specs.declared.Wait.{Wait}
 use Rattle.record.specs.declared.Wait.the-variants.{Idle, Reading, Writing, Comparing, Borrowing}
-use Rattle.node.specs.declared.Sent.{Sent}
 use Rattle.node.specs.declared.Sent.the-variants.{Nothing, One, Two}
 use Rattle.node.specs.declared.Step.{Step}
 use Rattle.node.specs.Step.{started}

@@ -13,7 +13,7 @@ use Rattle.node.specs.declared.Sent.the-variants.{Nothing, One, Two}
 use Rattle.node.specs.declared.Outbox.{Outbox}
 use Rattle.node.specs.declared.Rule.{Rule}
 use Rattle.node.specs.declared.Ending.{Ending}
-use Rattle.node.specs.declared.Ending.the-variants.{None, Done, Scan as Scanned, Spent}
+use Rattle.node.specs.declared.Ending.the-variants.{None, Done, Scan as Scanned}
 use Rattle.node.specs.declared.Step.{Step}
 
 -- the messages of one part, and of a whole step in the order produced

@@ -17,7 +17,6 @@ use view::View;
 use wire::Message;
 ghost use mathlib.Core.Path.{_≡_};
 ghost use Prim.Native.Nat.{_≤_};
-ghost use lib.Dec.{ltb};
 ghost use Rattle.octets.specs.Test.{pick};
 ghost use Rattle.table.specs.Table.{put};
 ghost use mathlib.Core.Bool.{true};

@@ -1,18 +1,12 @@
 -- The record of one node: its fresh form, and the changes that a step makes in it.
 -- Assumes nothing.
-use Prim.Native.Nat.{ℕ, _+_, _-_}
-use lib.Dec.{ltb}
-use lib.ListN.{replicate, set}
-use Rattle.view.specs.declared.Report.{Report}
+use Prim.Native.Nat.{ℕ}
+use lib.ListN.{replicate}
 use Rattle.view.specs.declared.View.{View}
-use Rattle.octets.specs.Test.{pick, both}
 use Rattle.view.specs.View.{noView}
-use Rattle.table.specs.Table.{tagOf, put, newest, cell}
 use Rattle.record.specs.declared.Node.{Node}
-use Rattle.record.specs.declared.Kind.{Kind}
-use Rattle.record.specs.declared.Operation.{Operation}
 use Rattle.record.specs.declared.Wait.{Wait}
-use Rattle.record.specs.declared.Wait.the-variants.{Idle, Reading, Writing, Comparing, Borrowing}
+use Rattle.record.specs.declared.Wait.the-variants.{Idle}
 
 -- Lines 1 to 3 of Algorithm 1: nothing received, maxtag 0; and amendment 4's kept message: tag 0 with no report.
 abbrev pub blank : ℕ → ℕ → Node

@@ -1,17 +1,17 @@
 -- Laws of sets of nodes as numbers: who is in a set with one node more, and how many. Assumes nothing.
 use mathlib.Core.Path.{_≡_, refl, sym, ap, ap₂, _∙_}
 use mathlib.Core.Bool.{Bool, true, false}
-use Prim.Native.Nat.{ℕ, zero, suc, _+_, _-_, _*_, _/_, _%_, _^_, _≤_, _<_, max}
+use Prim.Native.Nat.{ℕ, zero, suc, _+_, _-_, _*_, _/_, _%_, _^_, _≤_, _<_}
 use native.Mathlib.Nat.{mod-eq-of-lt, one-mul, div-eq-of-lt, mul-mod-left, zero-div, mod-lt}
 use native.Mathlib.Decide.{ℕ-discrete, decLt}
 use native.Mathlib.Omega.{arith}
 use lib.Dec.{eqb}
-use lib.Bits.{bitOr, or-shr, or-mod, or-zero-r, or-zero-l}
-use lib.Pow.{pow-lt, pow-add, pow-pos, shl-shr}
-use borrow.Author.Tests.{eqb-true, eq-eqb}
+use lib.Bits.{bitOr, or-shr, or-mod, or-zero-r}
+use lib.Pow.{pow-lt, pow-add, shl-shr}
+use borrow.Author.Tests.{eq-eqb}
 use Rattle.octets.specs.Test.{pick}
 use Rattle.table.specs.Loop.{count}
-use Rattle.table.specs.Quorum.{member, with, only, size}
+use Rattle.table.specs.Quorum.{member, with, only, size, faults}
 
 -- a 1 that is shifted by s stays in its word
 pub shifted : (s : ℕ) → s < 64 → 1 * 2 ^ s % 2 ^ 64 ≡ 2 ^ s
@@ -122,3 +122,9 @@ pub size-with : (n m s : ℕ) → 1 ≤ s → s ≤ n → member m s ≡ false �
 unfolding size
 size-with n m s a b e =
     count-one-more n (member m) (member (with m s)) s a b e (member-same m s) (λ w l d. member-other m s w a l d)
+
+-- ---- f
+
+-- f is the largest number with 2f < n
+pub faults-largest : (n : ℕ) → 1 ≤ n → (2 * faults n < n) × (n ≤ 2 * (faults n + 1))
+faults-largest n h = (omega arith, omega arith)

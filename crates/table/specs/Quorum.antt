@@ -2,10 +2,9 @@
 -- Assumes nothing.
 use mathlib.Core.Bool.{Bool}
 use mathlib.Core.List.{List}
-use Prim.Native.Nat.{ℕ, _+_, _-_, _*_, _/_, _%_, _^_, max}
+use Prim.Native.Nat.{ℕ, _-_, _/_, _%_, _^_}
 use lib.Dec.{leb, eqb}
 use lib.Bits.{bitOr}
-use Rattle.octets.specs.Test.{pick}
 use Rattle.table.specs.Loop.{either, all, count}
 use Rattle.table.specs.Table.{at, heardOf}
 

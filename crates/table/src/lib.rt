@@ -5,7 +5,6 @@ pub mod views;
 
 ghost use mathlib.Core.Path.{_≡_};
 ghost use Prim.Native.Nat.{max};
-ghost use Rattle.octets.specs.Test.{both};
 ghost use Rattle.table.specs.Loop.{either};
 
 // The disjunction of two flags, as a value: a test over a table has then no branches to follow.

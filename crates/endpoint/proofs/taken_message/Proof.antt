@@ -9,7 +9,7 @@ use Rattle.table.proofs.Laws.{length-mapped}
 use Rattle.node.specs.Move.{messageStep}
 use Rattle.node.specs.declared.Step.{Step}
 use Rattle.node.proofs.Handled.{Long}
-use Rattle.endpoint.specs.Entry.{Outcome, letOut, beside}
+use Rattle.endpoint.specs.Entry.{Outcome, letOut}
 use Rattle.endpoint.proofs.Refusals.{taken-9, taken-goes}
 use Rattle.endpoint.proofs.Rim.{read-writer, read-lawful}
 use Rattle.endpoint.proofs.Rooms.{message-fit}

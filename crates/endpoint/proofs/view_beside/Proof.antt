@@ -1,11 +1,11 @@
 -- `endpoint::view_beside` meets its contract. Assumes nothing.
 use borrow.Author.Needs.{needs}
-use mathlib.Core.Path.{_≡_, ap, _∙_}
+use mathlib.Core.Path.{ap, _∙_}
 use mathlib.Core.List.{List}
-use Prim.Native.Nat.{ℕ, _*_}
+use Prim.Native.Nat.{ℕ}
 use native.Mathlib.Omega.{arith}
 use lib.ListN.{length}
-use Rattle.octets.specs.Answer.{Answer, result}
+use Rattle.octets.specs.Answer.{result}
 use Rattle.view.specs.View.{viewOf}
 use Rattle.wire.specs.declared.Message.{Message}
 use Rattle.endpoint.proofs.Rim.{good-length}

@@ -1,7 +1,6 @@
 -- `node::react::react_to` meets its contract. Assumes nothing.
 use borrow.Author.Needs.{needs}
 use native.Mathlib.Omega.{arith}
-use mathlib.Core.Path.{sym, _∙_}
 use Rattle.node.specs.React.{react}
 use Rattle.node.proofs.Numbers.{writer-in}
 use Rattle.node.proofs.react.react_to.Statement.{statement}

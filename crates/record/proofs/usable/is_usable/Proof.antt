@@ -1,8 +1,7 @@
 -- `record::usable::is_usable` meets its contract. Assumes nothing.
 use borrow.Author.Needs.{needs}
-use mathlib.Core.Path.{_≡_, sym, _∙_}
-use mathlib.Core.Bool.{true}
-use Rattle.record.specs.Usable.{usable, sizesOk}
+use mathlib.Core.Path.{sym, _∙_}
+use Rattle.record.specs.Usable.{usable}
 use Rattle.record.proofs.Parts.{sizes-most}
 use Rattle.record.proofs.usable.is_usable.Statement.{statement}
 use Rattle.record.proofs.usable.is_usable.Tie as tie

@@ -1,6 +1,5 @@
 -- `record::usable::round_tag` meets its contract. Assumes nothing.
 use borrow.Author.Needs.{needs}
-use Rattle.record.specs.Usable.{roundTag}
 use Rattle.record.proofs.usable.round_tag.Statement.{statement}
 use Rattle.record.proofs.usable.round_tag.Tie as tie
 

@@ -1,6 +1,5 @@
 -- `table::quorum::with_member` meets its contract. Assumes nothing.
 use borrow.Author.Needs.{needs}
-use mathlib.Core.Path.{_≡_}
 use Prim.Native.Nat.{_-_}
 use Rattle.table.specs.Quorum.{with}
 use Rattle.table.proofs.Sets.{shifted}
