@@ -1,3 +1,4 @@
 pub mod Out
 pub mod Room
+pub mod Settled
 pub mod Told

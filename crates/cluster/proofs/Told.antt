@@ -1,19 +1,25 @@
 -- What each return of an entry says, by the refusals that did not apply before it.
-use Prim.Native.Nat.{ℕ, _≤_}
+use Prim.Native.Nat.{ℕ, _+_, _≤_}
 use mathlib.Core.Path.{_≡_, refl, sym, ap, _∙_}
 use mathlib.Core.Bool.{Bool, true, false}
-use mathlib.Core.List.{List}
-use lib.ListN.{length}
+use mathlib.Core.List.{List, []}
+use lib.ListN.{length, set, replicate}
+use borrow.Author.Tests.{eq-eqb, ne-eqb}
+use Rattle.octets.specs.Answer.{result}
+use Rattle.octets.specs.Loop.{upTo}
 use Rattle.view.specs.Size.{isSize}
 use Rattle.view.specs.View.{noView}
+use Rattle.record.specs.Record.{blank}
 use Rattle.record.specs.Usable.{usable}
 use Rattle.record.specs.declared.Operation.{Operation}
-use Rattle.layout.specs.Layout.{clusterSize, stated, stopped, node, fits, sound, isNode}
+use Rattle.node.specs.declared.Ending.the-variants.{None}
+use Rattle.block.specs.Block.{keep}
+use Rattle.layout.specs.Layout.{clusterSize, stated, stopped, node, onBlock, fits, sound, isNode}
 use Rattle.layout.proofs.Check.{is-size, is-node, fits-length, sound-size, sound-usable}
 use Rattle.cluster.specs.declared.Answer.{Answer}
 use Rattle.cluster.specs.declared.Extent.{Extent}
 use Rattle.cluster.specs.declared.Outcome.the-variants.{Refused}
-use Rattle.cluster.specs.Event.{Result, refuse, beginIn, openIn, begin}
+use Rattle.cluster.specs.Event.{Result, refuse, beginIn, openIn, begin, freshBytes, fresh}
 use Rattle.cluster.specs.Outcome.{said, tells}
 
 pub refuses : (k : ℕ) {r : Answer} {b : List ℕ} {e : Result} → e ≡ refuse k b
@@ -67,3 +73,23 @@ module _ (c : ℕ) (o : Operation) (x : Extent) (b : List ℕ) where
 
   pub begin-opens : (n : ℕ) → isNode n c ≡ true → stopped b c ≡ false → beginIn n c o x b ≡ openIn n c o x b
   begin-opens n h s = rw (h, s) refl
+
+module _ (n : ℕ) (b : List ℕ) where
+  pub fresh-none : isSize n ≡ false → fresh n b ≡ refuse 1 b
+  unfolding fresh
+  fresh-none h = rw h refl
+
+  pub fresh-unfit : isSize n ≡ true → (length b ≡ clusterSize n → ⊥) → fresh n b ≡ refuse 12 b
+  unfolding fresh
+  fresh-unfit h l = rw (h, ne-eqb (length b) (clusterSize n) l) refl
+
+  pub fresh-is : isSize n ≡ true → length b ≡ clusterSize n
+      → fresh n b ≡ record { bytes = freshBytes n (length b); answer = result None; view = noView; sent = [] }
+  unfolding fresh
+  fresh-is h l = rw (h, eq-eqb (length b) (clusterSize n) l) refl
+
+  -- zeros, then n, then a fresh record in every block
+  pub fresh-bytes : {z y : List ℕ} → z ≡ replicate (length b) 0
+      → y ≡ upTo n (λ i. onBlock (i + 1) (keep (blank n (i + 1)))) (set z 0 n) → y ≡ freshBytes n (length b)
+  unfolding freshBytes
+  fresh-bytes e q = q ∙ ap (λ (t : List ℕ). upTo n (λ i. onBlock (i + 1) (keep (blank n (i + 1)))) (set t 0 n)) e

@@ -154,6 +154,65 @@ fn blank_blocks(b: &mut [u8], n: usize)
     }
 }
 
+// Makes the lent bytes a fresh cluster of n nodes, or refuses with 1, 12.
+pub fn fresh(n: usize, b: &mut [u8]) -> Answer
+    ensures { λ r. ⌜ tells r (now (b .exit)) (freshEvent n (now (b .entry))) ⌝ }
+{
+    if !and(1 <= n, n <= 16) {
+        return refused(1);
+    }
+    if b.len() != 1 + 73345 * n {
+        return refused(12);
+    }
+    octets::fill(b, 0);
+    b[0] = n as u8;
+    blank_blocks(b, n);
+    given(false, Ending::None, view::absent())
+}
+
+// Opens an operation at node c, which is alive, or refuses with 5, 6, 10, 11.
+fn open_at(b: &mut [u8], n: usize, c: usize, o: Operation, x: Extent) -> Answer
+    requires { ⌜ (n ≤ 16) × (1 ≤ c) × (c ≤ n) × (length (now b) ≡ clusterSize n) × (usable (nodeOf (now b) c) ≡ true) ⌝ }
+    ensures { λ r. ⌜ tells r (now (b .exit)) (openIn n c o x (now (b .entry))) ⌝ }
+{
+    let d = node_at(b, c);
+    let wait = d.wait;
+    if has_open(wait) {
+        return refused(5);
+    }
+    if is_full(d) {
+        return refused(6);
+    }
+    if !may_cut(b, n, is_cut(x)) {
+        return refused(10);
+    }
+    let s = begin_step(most_faults(n), d, o);
+    if !has_room(b, n, c, c, is_cut(x), 0, s.outbox, allowance(x)) {
+        return refused(11);
+    }
+    settle(b, n, c, c, s, x)
+}
+
+// Begins an operation at node c, or refuses with 12, 2, 3, 4, 5, 6, 10, 11.
+pub fn begin(b: &mut [u8], c: usize, o: Operation, x: Extent) -> Answer
+    ensures { λ r. ⌜ tells r (now (b .exit)) (beginEvent c o x (now (b .entry))) ⌝ }
+{
+    if !is_fit(b) {
+        return refused(12);
+    }
+    if !is_sound(b) {
+        return refused(2);
+    }
+    let n = index(b[0]);
+    if !is_node(n, c) {
+        return refused(3);
+    }
+    if stopped_at(b, c) {
+        return refused(4);
+    }
+    open_at(b, n, c, o, x)
+}
+
 // The view that a good message in the oldest slot from a to c carries.
 fn first_view(b: &[u8], n: usize, a: usize, c: usize) -> View
     requires { ⌜ (n ≤ 16) × (1 ≤ a) × (a ≤ n) × (1 ≤ c) × (c ≤ n) × (length (now b) ≡ clusterSize n) ⌝ }
