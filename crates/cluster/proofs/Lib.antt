@@ -1,3 +1,5 @@
+pub mod Handed
+pub mod Lawful
 pub mod Out
 pub mod Room
 pub mod Settled

@@ -229,3 +229,51 @@ fn gone(a: usize, c: usize) -> usize
 {
     if a == c { 1 } else { 0 }
 }
+
+// Hands the oldest message from a, which is m, to node c, or refuses with 9, 10, 11.
+fn hand_over(b: &mut [u8], n: usize, a: usize, c: usize, m: Message, x: Extent) -> Answer
+    requires { ⌜ (n ≤ 16) × (1 ≤ a) × (a ≤ n) × (1 ≤ c) × (c ≤ n) × (length (now b) ≡ clusterSize n)
+        × (usable (nodeOf (now b) c) ≡ true) × (nodeOf (now b) c .n ≡ n)
+        × (lawful n m (viewOf n (viewAt n (first (channel (now b) a c)))) ≡ true) ⌝ }
+    ensures { λ r. ⌜ tells r (now (b .exit)) (handOver n a c x (now (b .entry)) (first (channel (now (b .entry)) a c)) m) ⌝ }
+{
+    let d = node_at(b, c);
+    if is_stale_message(d, a, m) {
+        return refused(9);
+    }
+    if !may_cut(b, n, is_cut(x)) {
+        return refused(10);
+    }
+    let s = message_step(most_faults(n), d, a, m, first_view(b, n, a, c));
+    if !has_room(b, n, a, c, is_cut(x), gone(a, c), s.outbox, allowance(x)) {
+        return refused(11);
+    }
+    take_off_at(b, a, c);
+    settle(b, n, a, c, s, x)
+}
+
+// Delivers what has waited longest on the channel from a to c, or refuses with 12, 2, 3, 4, 8, 7, 9, 10, 11.
+pub fn deliver(b: &mut [u8], a: usize, c: usize, x: Extent) -> Answer
+    ensures { λ r. ⌜ tells r (now (b .exit)) (deliverEvent a c x (now (b .entry))) ⌝ }
+{
+    if !is_fit(b) {
+        return refused(12);
+    }
+    if !is_sound(b) {
+        return refused(2);
+    }
+    let n = index(b[0]);
+    if !and(is_node(n, a), is_node(n, c)) {
+        return refused(3);
+    }
+    if stopped_at(b, c) {
+        return refused(4);
+    }
+    if waiting_at(b, a, c) == 0 {
+        return refused(8);
+    }
+    match read_prefix(n, first_at(b, a, c)) {
+        Found::Refused(_) => refused(7),
+        Found::At(m, _) => hand_over(b, n, a, c, m, x),
+    }
+}
