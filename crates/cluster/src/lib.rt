@@ -73,7 +73,7 @@ pub struct Answer {
     pub view: View,
 }
 
-fn refused(k: u8) -> Answer
+pub fn refused(k: u8) -> Answer
     ensures { λ r. ⌜ r ≡ record { outcome = Refused k; view = noView } ⌝ }
 {
     Answer {
@@ -103,7 +103,7 @@ fn allowance(x: Extent) -> usize
 }
 
 // What an accepted event answers: a cut one does not give its ending.
-fn given(cut: bool, ending: Ending, view: View) -> Answer
+pub fn given(cut: bool, ending: Ending, view: View) -> Answer
     ensures { λ r. ⌜ (said (r .outcome) ≡ result (pick cut None ending)) × (r .view ≡ pick cut noView view) ⌝ }
 {
     if cut {

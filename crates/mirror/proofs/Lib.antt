@@ -18,3 +18,5 @@ pub mod Encoded
 pub mod Stops
 pub mod Run
 pub mod Demand2
+pub mod Ceases
+pub mod Demand3

@@ -20,9 +20,10 @@ use Rattle.eqaso.proofs.BoundedRun.{run-bounded, run-expected}
 use Rattle.mirror.specs.Mirrors.{Mirrors}
 use Rattle.mirror.specs.SameResult.{SameResult}
 use Rattle.mirror.specs.Encodes.{EachEncodes}
-use Rattle.mirror.specs.Run.{Event, begin, deliver, event, after, meaning, traceFrom, traceOf, ComesUp}
+use Rattle.mirror.specs.Run.{Event, begin, deliver, stop, event, after, meaning, traceFrom, traceOf, ComesUp}
 use Rattle.mirror.proofs.Events.{begins}
 use Rattle.mirror.proofs.Delivers.{delivers}
+use Rattle.mirror.proofs.Ceases.{ceases}
 use Rattle.mirror.proofs.Fresh.{fresh-mirrors}
 use Rattle.mirror.proofs.Refusals.{comes-up}
 use Rattle.mirror.proofs.Encoded.{encoded}
@@ -44,6 +45,7 @@ module _ (n : ℕ) (low : 1 ≤ n) (small : n ≤ 16) where
   same-event ks mirror (begin c o x) = begins low small mirror (run-bounded n (faults n) half ks) c o x
   same-event ks mirror (deliver a c x) = delivers low small mirror (run-bounded n (faults n) half ks) a c x
       (λ m rest o up e. run-expected n (faults n) half ks a c m rest o up e)
+  same-event ks mirror (stop c) = ceases low small mirror c
 
   -- The events so far, and one more.
   next : {b : List ℕ} (ks : List K.Event) → Mirrors n b (K.after n (faults n) K.start ks) → (e : Event)

@@ -3,3 +3,4 @@ pub mod SameResult
 pub mod Run
 pub mod Encodes
 pub mod Demand2
+pub mod Demand3

@@ -1,4 +1,5 @@
--- Runs on bytes: any list of begins and deliveries, with any numbers, each on the bytes as the one before left them.
+-- Runs on bytes: any list of begins, deliveries and stops, with any numbers, each on the bytes as the one before left
+-- them.
 use Prim.Native.Nat.{ℕ}
 use mathlib.Core.Path.{_≡_}
 use mathlib.Core.Bool.{Bool, true}
@@ -9,6 +10,7 @@ use Rattle.octets.specs.Answer.{Answer, result, refused}
 use Rattle.record.specs.declared.Operation.{Operation}
 use Rattle.node.specs.declared.Ending.{Ending}
 use Rattle.cluster.specs.Event as E
+use Rattle.halting.specs.Stop as S
 use Rattle.cluster.specs.declared.Extent.{Extent}
 use Rattle.eqaso.specs.Cluster as K
 use Rattle.eqaso.specs.Trace.{Seen, Trace}
@@ -19,10 +21,12 @@ use Rattle.mirror.specs.SameResult.{answerOf}
 pub data Event : Type 0 where
   begin : (node : ℕ) → Operation → Extent → Event
   deliver : (sender receiver : ℕ) → Extent → Event
+  stop : (node : ℕ) → Event
 
 abbrev pub event : Event → List ℕ → E.Result
 event (begin c o x) b = E.begin c o x b
 event (deliver a c x) b = E.deliver a c x b
+event (stop c) b = S.stop c b
 
 unfoldable pub after : List ℕ → List Event → List ℕ
 after b [] = b
@@ -32,6 +36,7 @@ after b (e ∷ es) = after (event e b .bytes) es
 abbrev pub meaning : Event → K.Event
 meaning (begin c o x) = K.begin c (operationOf o) (extentOf x)
 meaning (deliver a c x) = K.deliver a c (extentOf x)
+meaning (stop c) = K.stop c
 
 -- What is seen of a run from outside, in the algorithm's terms: of each event its answer and the entries let out.
 abbrev pub seen : ℕ → Event → E.Result → Seen
@@ -45,8 +50,7 @@ traceFrom n b (e ∷ es) = seen n e (event e b) ∷ traceFrom n (event e b .byte
 abbrev pub traceOf : ℕ → List ℕ → List Event → Trace
 traceOf n b es = traceFrom n (E.fresh n b .bytes) es
 
--- The refusals that come up in a run. The others do not: 1 is for fresh, 2, 7 and 9 are for bytes that no run makes,
--- and
+-- The refusals that come up in a run. The others do not: 1 is for fresh, 2, 7 and 9 are for bytes that no run makes, and
 -- 12 is for a lent length.
 abbrev pub inRun : ℕ → Bool
 inRun k =

@@ -1,0 +1,20 @@
+-- The stop of a node: it takes part in nothing more, and what waits for it is gone.
+use Prim.Native.Nat.{ℕ}
+use mathlib.Core.Bool.{not}
+use mathlib.Core.List.{List, []}
+use Rattle.octets.specs.Answer.{result}
+use Rattle.view.specs.View.{noView}
+use Rattle.node.specs.declared.Ending.the-variants.{None}
+use Rattle.block.specs.Block.{halt}
+use Rattle.layout.specs.Layout.{stated, stopped, onBlock, isNode}
+use Rattle.cluster.specs.Event.{Result, demand, checked, mayStop}
+
+abbrev pub stopIn : (n c : ℕ) → List ℕ → Result
+stopIn n c b =
+    demand (isNode n c) 3 b
+    (demand (not (stopped b c)) 4 b
+    (demand (mayStop n b) 10 b
+    (record { bytes = onBlock c (halt n) b; answer = result None; view = noView; sent = [] })))
+
+unfoldable pub stop : ℕ → List ℕ → Result
+stop c b = checked b (stopIn (stated b) c b)
