@@ -4,7 +4,7 @@ ghost use mathlib.Core.Path.{_≡_};
 ghost use Prim.Native.Nat.{_+_, _-_, _*_, _<_, _≤_, min};
 ghost use lib.ListN.{length, replicate};
 ghost use Rattle.octets.specs.Test.{both};
-ghost use Rattle.octets.specs.Bytes.{num, be, part, put};
+ghost use Rattle.octets.specs.Bytes.{num, be, put};
 ghost use Rattle.octets.specs.Word.{word, words, wordBytes};
 
 // A byte as a wide number.
@@ -94,18 +94,6 @@ pub fn put_bytes(b: &mut [u8], at: usize, s: &[u8])
     }
 }
 
-// Moves some bytes of b to a lower place.
-pub fn move_down(b: &mut [u8], at: usize, from: usize, count: usize)
-    requires { ⌜ (at ≤ from) × (from + count ≤ length (now b)) ⌝ }
-    ensures { λ _. ⌜ now (b .exit) ≡ put (now (b .entry)) at (part (now (b .entry)) from count) ⌝ }
-{
-    let mut i = 0;
-    while i < count {
-        b[at + i] = b[from + i];
-        i += 1;
-    }
-}
-
 // Makes every byte of b an x.
 pub fn fill(b: &mut [u8], x: u8)
     ensures { λ _. ⌜ now (b .exit) ≡ replicate (length (now (b .entry))) x ⌝ }
@@ -159,23 +147,7 @@ pub fn put_words(b: &mut [u8], at: usize, t: &[u64])
     }
 }
 
-// Tables of sixteen and of 256 words: an array that is a field of a struct is lent whole.
-pub fn get_table16(b: &[u8], at: usize) -> [u64; 16]
-    requires { ⌜ at + 128 ≤ length (now b) ⌝ }
-    ensures { λ r. ⌜ r ≡ words 16 (now (b .entry)) at ⌝ }
-{
-    let mut t = [0u64; 16];
-    get_words(b, at, &mut t);
-    t
-}
-
-pub fn put_table16(b: &mut [u8], at: usize, t: &[u64; 16])
-    requires { ⌜ at + 128 ≤ length (now b) ⌝ }
-    ensures { λ _. ⌜ now (b .exit) ≡ put (now (b .entry)) at (wordBytes (now (t .entry))) ⌝ }
-{
-    put_words(b, at, t);
-}
-
+// Tables of 256 words: an array that is a field of a struct is lent whole.
 pub fn get_table256(b: &[u8], at: usize) -> [u64; 256]
     requires { ⌜ at + 2048 ≤ length (now b) ⌝ }
     ensures { λ r. ⌜ r ≡ words 256 (now (b .entry)) at ⌝ }

@@ -1,11 +1,13 @@
 -- A view and its bytes give back each other, and what the test of view bytes tells.
-use Prim.Native.Nat.{ℕ, _+_, _*_, _<_, _≤_}
+use Prim.Native.Nat.{ℕ, zero, suc, _+_, _*_, _<_, _≤_}
 use mathlib.Core.Path.{_≡_, refl, sym, ap, ap₂, _∙_}
 use mathlib.Core.Bool.{Bool, true, false}
 use mathlib.Core.List.{List, _++_}
 use native.Mathlib.Nat.{add-zero, le-trans}
 use native.Mathlib.Omega.{arith}
+use Rattle.octets.specs.Loop.{join}
 use lib.ListN.{length, getD, take}
+use lib.Seq.{take-all, take-append-le}
 use lib.Dec.{leb, eqb}
 use borrow.Author.Tests.{leb-true, le-leb, eqb-true, eq-eqb}
 use Rattle.octets.specs.Test.{pick}
@@ -29,6 +31,21 @@ pub length-viewBytes : (n : ℕ) (v : View) → length (viewBytes n v) ≡ 16 * 
 unfolding viewBytes
 length-viewBytes n v = length-join n 16 (λ i. entryBytes (getD (v .tags) i 0) (getD (v .reports) i noReport))
     (λ i. refl)
+
+-- the bytes of more places begin with those of fewer
+one-more : (n m : ℕ) (v : View) → n ≤ m → take (16 * n) (viewBytes (suc m) v) ≡ take (16 * n) (viewBytes m v)
+unfolding viewBytes join
+one-more n m v h =
+    take-append-le (16 * n) (viewBytes m v) (entryBytes (getD (v .tags) m 0) (getD (v .reports) m noReport))
+    (rw (length-viewBytes m v) (omega arith))
+
+pub front-viewBytes : (n k : ℕ) (v : View) → take (16 * n) (viewBytes (n + k) v) ≡ viewBytes n v
+front-viewBytes n zero v =
+    ap (λ (m : ℕ). take (16 * n) (viewBytes m v)) (add-zero n)
+    ∙ take-all (16 * n) (viewBytes n v) (rw (length-viewBytes n v) (omega arith))
+front-viewBytes n (suc k) v =
+    let e : n + suc k ≡ suc (n + k) = omega arith in
+    ap (λ (m : ℕ). take (16 * n) (viewBytes m v)) e ∙ one-more n (n + k) v (omega arith) ∙ front-viewBytes n k v
 
 -- ---- entries of a view's bytes, with anything after them
 

@@ -148,3 +148,12 @@ pub fn write_view(n: usize, v: View, out: &mut [u8])
         i += 1;
     }
 }
+
+// The bytes of a view's sixteen places; those of n nodes are the first 16 n.
+pub fn bytes(v: View) -> [u8; 256]
+    ensures { λ r. ⌜ r ≡ viewBytes 16 v ⌝ }
+{
+    let mut out = [0u8; 256];
+    write_view(NODES, v, &mut out);
+    out
+}
