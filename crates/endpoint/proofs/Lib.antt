@@ -1,4 +1,3 @@
-pub mod Points
 pub mod Refusals
 pub mod Rim
 pub mod Rooms

@@ -1,1 +1,1 @@
-// No code: document 01's points to prove about messages and figures, as one table (specs/) and one theorem (proofs/).
+// No code: document 01's points to prove (P), as one table (specs/) and one theorem (proofs/).

@@ -1,0 +1,206 @@
+-- A scan at a fresh cluster and any deliveries after it: once nothing waits it has finished, and it shows no report of
+-- any node, since no update was begun.
+use Prim.Native.Nat.{ℕ, zero, suc, _+_, _-_, _<_}
+use native.Mathlib.Omega.{arith}
+use native.Mathlib.Decide.{ℕ-discrete}
+use mathlib.Core.Path.{_≡_, refl, sym, ap, ap₂, _∙_, subst}
+use mathlib.Core.Bool.{Bool, true, false, cond, decide, _||_}
+use mathlib.Core.List.{List, [], _∷_, map}
+use lib.ListN.{length, getD, replicate}
+use Rattle.octets.specs.Answer.{Answer, result, refused}
+use Rattle.view.specs.declared.View.{View}
+use Rattle.table.specs.Quorum.{faults}
+use Rattle.record.specs.declared.Operation.the-variants.{Scan}
+use Rattle.node.specs.declared.Ending.{Ending}
+use Rattle.node.specs.declared.Ending.the-variants.{None, Done, Scan as Scanned, Spent}
+use Rattle.layout.specs.Layout.{clusterSize, stated, stopped, node}
+use Rattle.cluster.specs.Event as E
+use Rattle.cluster.specs.declared.Extent.the-variants.{Whole}
+use Rattle.eqaso.specs.Message.{Entry, absent}
+use Rattle.eqaso.specs.Algorithm as A
+use Rattle.eqaso.specs.Cluster as K
+use Rattle.eqaso.specs.Trace as T
+use Rattle.eqaso.specs.Order.{OneTo, Finished, IsScan, ClosedBy}
+use Rattle.eqaso.proofs.Book.{tagOf, bookOf}
+use Rattle.eqaso.proofs.Corollary.{scan-without-updates}
+use Rattle.eqaso.proofs.Entries.{length-table}
+use Rattle.eqaso.proofs.Facts.{Fit}
+use Rattle.eqaso.proofs.Run.{good}
+use Rattle.refine.specs.Meaning.{entryOf}
+use Rattle.refine.specs.Follows.{Follows}
+use Rattle.refine.proofs.Steps.{same-idle, not-full}
+use Rattle.mirror.specs.Mirrors.{Mirrors, extentOf}
+use Rattle.mirror.specs.SameResult.{answerOf}
+use Rattle.mirror.specs.Run as R
+use Rattle.mirror.proofs.Checks.{is-fit, is-sound}
+use Rattle.mirror.proofs.Says.{says-count}
+use Rattle.mirror.proofs.Demand2.{demand2}
+use Rattle.mirror.proofs.Demand3.{demand3}
+use Rattle.points.specs.Points.{Delivery, delivery, scanThen, AllWhole, NothingWaits, ShowsNone, Absences}
+use Rattle.points.proofs.Stops.{start-mirrors}
+use Rattle.points.proofs.Capacity.{accepts}
+
+abbrev delivers : List Delivery → List R.Event
+delivers ds = map delivery ds
+
+-- ---- deliveries begin nothing, and whole ones stop nobody
+
+begins-none : (a b : ℕ) (x : K.Extent) (y : K.Answer) → T.begunBy (K.deliver a b x) y ≡ T.nothing
+begins-none a b x (K.refused k) = refl
+begins-none a b x (K.accepted e) = refl
+
+stops-none : (a b : ℕ) (y : K.Answer) (c : ℕ) → T.stopsBy (K.deliver a b K.whole) y c ≡ false
+stops-none a b (K.refused k) c = refl
+stops-none a b (K.accepted e) c = refl
+
+abbrev Updates : T.Begun → Type 0
+Updates T.nothing = ⊥
+Updates (T.updating c p) = Unit {0}
+Updates (T.scanning c) = ⊥
+
+module _ (n : ℕ) where
+  abbrev answers : Delivery → List ℕ → K.Answer
+  answers d b = answerOf n (R.event (delivery d) b .view) (R.event (delivery d) b .answer)
+
+  deliveries-begin : (ds : List Delivery) (b : List ℕ) (u : ℕ) → T.begun (R.traceFrom n b (delivers ds)) u ≡ T.nothing
+  unfolding R.traceFrom
+  deliveries-begin [] b u = refl
+  deliveries-begin (d ∷ ds) b zero = begins-none (d .sender) (d .receiver) (extentOf (d .extent)) (answers d b)
+  deliveries-begin (d ∷ ds) b (suc u) = deliveries-begin ds (R.event (delivery d) b .bytes) u
+
+  deliveries-stop : (ds : List Delivery) → AllWhole ds → (b : List ℕ) (c : ℕ)
+      → T.stopped (R.traceFrom n b (delivers ds)) c ≡ false
+  unfolding R.traceFrom T.stopped
+  deliveries-stop [] w b c = refl
+  deliveries-stop (d ∷ ds) (e, w) b c = ap₂ _||_
+      (ap (λ x. T.stopsBy (K.deliver (d .sender) (d .receiver) (extentOf x)) (answers d b) c) e
+      ∙ stops-none (d .sender) (d .receiver) (answers d b) c)
+      (deliveries-stop ds w (R.event (delivery d) b .bytes) c)
+
+  -- ---- a view has an entry for each node
+
+  abbrev Long : A.Ending → Type 0
+  Long A.none = Unit {0}
+  Long (A.done r v) = Unit {0}
+  Long (A.shown r v) = length v ≡ n
+  Long A.spent = Unit {0}
+
+  abbrev LongFate : T.Fate → Type 0
+  LongFate T.unfinished = Unit {0}
+  LongFate (T.ended k e) = Long e
+
+  long-answer : (v : View) (y : Answer Ending) → Long (T.endingOf (answerOf n v y))
+  long-answer v (refused k) = tt
+  long-answer v (result None) = tt
+  long-answer v (result (Done r)) = tt
+  long-answer v (result (Scanned r)) = length-table (entryOf v) n
+  long-answer v (result Spent) = tt
+
+  long-by : (k : ℕ) (e : A.Ending) (x : T.Fate) → Long e → LongFate x → LongFate (T.fateBy k e x)
+  long-by k A.none x h l = l
+  long-by k (A.done r v) x h l = tt
+  long-by k (A.shown r v) x h l = h
+  long-by k A.spent x h l = tt
+
+  long-here : (t : Bool) (e : A.Ending) → Long e → Long (cond t e A.none)
+  long-here true e h = h
+  long-here false e h = tt
+
+  long-first : (c k : ℕ) (b : List ℕ) (es : List R.Event) → LongFate (T.firstEnding c k (R.traceFrom n b es))
+  unfolding R.traceFrom T.firstEnding
+  long-first c k b [] = tt
+  long-first c k b (e ∷ es) = long-by k (T.endingAt c (R.seen n e (R.event e b))) _
+      (long-here (decide (ℕ-discrete (T.handler (R.meaning e)) c)) _
+      (long-answer (R.event e b .view) (R.event e b .answer)))
+      (long-first c (suc k) (R.event e b .bytes) es)
+
+-- A list of which every entry is absent.
+all-absent : (v : List Entry) → ((i : ℕ) → i < length v → getD v i absent ≡ absent) → v ≡ replicate (length v) absent
+all-absent [] h = refl
+all-absent (x ∷ v) h = ap₂ (λ y l. y ∷ l) (h 0 (omega arith)) (all-absent v (λ i l. h (suc i) (omega arith)))
+
+none-shown : (n c s : ℕ) (x : T.Fate) → Fit n (T.scanning c) x s → Finished x → LongFate n x
+    → ((w : ℕ) → OneTo n w → T.entryAt (T.viewOf x) w ≡ absent) → T.viewOf x ≡ replicate n absent
+none-shown n c s (T.ended k (A.shown r v)) fit end long each = all-absent v
+    (λ i h. ap (λ j. getD v j absent) (let e : i ≡ suc i - 1 = omega arith in e) ∙ each (suc i) (omega arith, omega arith))
+    ∙ ap (λ k. replicate k absent) long
+
+-- ---- the scan
+
+module _ (n c : ℕ) (size : OneTo 16 n) (at : OneTo n c) (b : List ℕ) (long : length b ≡ clusterSize n) where
+  abbrev start : List ℕ
+  start = E.fresh n b .bytes
+
+  mirror : Mirrors n start K.start
+  mirror = start-mirrors n size b long
+
+  same-n : stated start ≡ n
+  same-n = mirror .shows .states
+
+  in-start : {k : ℕ} → OneTo (stated start) k → OneTo n k
+  in-start {k} o = subst (λ j. OneTo j k) same-n o
+
+  follows : Follows n c A.fresh (node start c)
+  follows = mirror .shows .says c at .node
+
+  -- Its begin is accepted.
+  begins : E.begin c Scan Whole start .answer ≡ result None
+  unfolding A.limit
+  begins = accepts start c Scan (is-fit (size .0) (size .1) mirror) (is-sound (size .0) (size .1) mirror)
+      (subst (λ j. OneTo j c) (sym same-n) at) (mirror .shows .says c at .stop)
+      (same-idle (follows .wait)) (not-full follows (omega arith))
+      (λ k o up. omega (arith, says-count (size .1) (mirror .shows .says k (in-start o)) c at))
+
+  module _ (ds : List Delivery) where
+    abbrev tr : T.Trace
+    tr = R.traceOf n b (scanThen c ds)
+
+    abbrev later : List ℕ
+    later = E.begin c Scan Whole start .bytes
+
+    scans : T.begun tr 0 ≡ T.scanning c
+    unfolding R.traceFrom
+    scans = ap (λ y. T.begunBy (K.begin c A.scan K.whole) (answerOf n (E.begin c Scan Whole start .view) y)) begins
+
+    no-update : (u d p : ℕ) → ¬ (T.begun tr u ≡ T.updating d p)
+    unfolding R.traceFrom
+    no-update zero d p e = subst Updates (sym e ∙ scans) tt
+    no-update (suc u) d p e = subst Updates (sym e ∙ deliveries-begin n ds later u) tt
+
+    stands : AllWhole ds → T.stopped tr c ≡ false
+    unfolding R.traceFrom T.stopped
+    stands w = ap₂ _||_
+        (ap (λ y. T.stopsBy (K.begin c A.scan K.whole) (answerOf n (E.begin c Scan Whole start .view) y) c) begins)
+        (deliveries-stop n ds w later c)
+
+    module _ (up : T.stopped tr c ≡ false) (quiet : NothingWaits n tr) where
+      finished : Finished (T.fate tr 0)
+      finished = subst (ClosedBy tr 0) scans (demand3 n size b long (scanThen c ds) .1 quiet 0) up
+
+      is-scan : IsScan (T.begun tr 0)
+      is-scan = subst IsScan (sym scans) tt
+
+      fits : Fit n (T.begun tr 0) (T.fate tr 0) (tagOf tr 0 (T.begun tr 0))
+      unfolding bookOf
+      fits =
+          let half : faults n + faults n < n = omega (arith, size .0) in
+          subst (λ x. Fit n (T.begun x 0) (T.fate x 0) (tagOf x 0 (T.begun x 0)))
+          (sym (demand2 n size b long .same (scanThen c ds)))
+          (good n (faults n) half (map R.meaning (scanThen c ds)) .kept .facts .fit 0)
+
+      long-view : LongFate n (T.fate tr 0)
+      long-view = subst (λ x. LongFate n (T.fateOf tr 0 x)) (sym scans) (long-first n c 0 start (scanThen c ds))
+
+      shows-none : ShowsNone n c tr
+      shows-none = record {
+        begun = scans;
+        finished = finished;
+        view = none-shown n c 0 (T.fate tr 0) (subst (λ x. Fit n x (T.fate tr 0) (tagOf tr 0 x)) scans fits) finished
+            long-view (scan-without-updates (demand3 n size b long (scanThen c ds) .0) no-update 0 is-scan finished);
+      }
+
+pub absences-hold : Absences
+absences-hold = record {
+  whole = λ n c size at b long ds w. shows-none n c size at b long ds (stands n c size at b long ds w);
+  cut = shows-none;
+}
