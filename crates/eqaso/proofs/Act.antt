@@ -4,8 +4,10 @@ use native.Mathlib.Omega.{arith}
 use mathlib.Core.Path.{_≡_, refl, sym, ap, subst}
 use mathlib.Core.Logic.{_⊎_, inl, inr}
 use mathlib.Core.List.{List, [], _∷_, List·Memᴰ·head}
-use Rattle.theory.specs.Count.{count, count-none}
-use Rattle.theory.specs.Log.{_∈_, push, push-or}
+use Rattle.theory.specs.Count.{count}
+use Rattle.theory.proofs.Count.{count-none}
+use Rattle.theory.specs.Log.{_∈_, push}
+use Rattle.theory.proofs.Log.{push-or}
 use Rattle.eqaso.specs.Message.{Value, Message, read, readAnswer, write, writeAnswer, echo, value, good}
 use Rattle.eqaso.specs.Algorithm.{Operation, update, scan, nobody, Wait, reading, writing, comparing, borrowing}
 use Rattle.eqaso.specs.Algorithm.{Node, Ending, none, done, shown, spent, Step, sending, _then_, react}
@@ -157,7 +159,7 @@ module _ (n f i : ℕ) (half : f + f < n) (op : Operation) where
   begin-moves : Moves n f i Begun Begun (λ e ν l. ⊥)
   begin-moves = record {
     stays = λ ν l h. h;
-    spends = λ ν l p u s q h. unanswered (h .0) q;
+    spends = λ ν l p u s q z h. unanswered (h .0) q;
     updates = λ ν l p u s q h. absurd (unanswered (h .0) q);
     scans = λ ν l u s q h. absurd (unanswered (h .0) q);
     compares = λ ν l o r t s q h. absurd (not-later (h .0) tt);

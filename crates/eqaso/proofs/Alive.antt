@@ -6,8 +6,10 @@ use mathlib.Core.Path.{_≡_, sym, subst}
 use mathlib.Core.Logic.{inl}
 use mathlib.Core.Bool.{Bool, true, false}
 use mathlib.Core.List.{List, [], _∷_}
-use Rattle.theory.specs.Update.{upd, upd-all, upd-map}
-use Rattle.theory.specs.Log.{_∈_, _⊑_, placed, push, each-at}
+use Rattle.theory.specs.Update.{upd}
+use Rattle.theory.proofs.Update.{upd-all, upd-map}
+use Rattle.theory.specs.Log.{_∈_, _⊑_, push}
+use Rattle.theory.proofs.Log.{placed, each-at}
 use Rattle.eqaso.specs.Message.{Message, read, readAnswer, write, writeAnswer, echo, value, good}
 use Rattle.eqaso.specs.Algorithm.{Operation, messageStep, beginStep}
 use Rattle.eqaso.specs.Cluster.{Extent, cut, halted}

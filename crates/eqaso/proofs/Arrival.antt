@@ -2,8 +2,10 @@
 use Prim.Native.Nat.{ℕ, _+_, _<_}
 use mathlib.Core.Path.{_≡_}
 use mathlib.Core.List.{_∷_}
-use Rattle.theory.specs.Update.{upd, upd-same, upd-all}
-use Rattle.theory.specs.Log.{_∈_, _⊑_, ⊑-cons, placed}
+use Rattle.theory.specs.Update.{upd}
+use Rattle.theory.proofs.Update.{upd-same, upd-all}
+use Rattle.theory.specs.Log.{_∈_, _⊑_}
+use Rattle.theory.proofs.Log.{⊑-cons, placed}
 use Rattle.eqaso.specs.Message.{Value, Message, read, readAnswer, write, writeAnswer, echo, value, good}
 use Rattle.eqaso.specs.Algorithm.{Operation, idle}
 use Rattle.eqaso.specs.Order.{OneTo}

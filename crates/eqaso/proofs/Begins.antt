@@ -4,7 +4,8 @@ use native.Mathlib.Omega.{arith}
 use mathlib.Core.Path.{_≡_, refl, _∙_, ap}
 use mathlib.Core.Bool.{Bool, false}
 use lib.ListN.{length}
-use Rattle.theory.specs.Update.{upd, upd-same}
+use Rattle.theory.specs.Update.{upd}
+use Rattle.theory.proofs.Update.{upd-same}
 use Rattle.eqaso.specs.Algorithm.{Operation, update, scan, Ending, none, Step, beginStep}
 use Rattle.eqaso.specs.Cluster.{Extent, begin, accepted, entries, letOut, halted, given}
 use Rattle.eqaso.specs.Trace.{Seen, Trace, begunBy}

@@ -4,7 +4,8 @@ use Prim.Native.Nat.{ℕ}
 use mathlib.Core.Path.{_≡_, refl, ap, sym, subst, _∙_}
 use mathlib.Core.Logic.{_⊎_, inl, inr}
 use mathlib.Core.List.{List, [], _∷_, _++_, List·Memᴰ·head, List·Memᴰ·tail, nil≢cons}
-use Rattle.theory.specs.Log.{_∈_, _⊑_, here, more, ⊑-trans, push, push-append, push-up, push-new, push-or}
+use Rattle.theory.specs.Log.{_∈_, _⊑_, here, more, push}
+use Rattle.theory.proofs.Log.{⊑-trans, ⊑-cons, placed, push-append, push-up, push-new, push-or}
 use Rattle.eqaso.specs.Message.{Message}
 use Rattle.eqaso.proofs.Cert.{Log}
 use Rattle.eqaso.proofs.Meant.{Meant, Others, whose, keep-by, pick, pick-append, pick-in, pick-of}
@@ -80,6 +81,20 @@ hand-over {b} {got} {m} {rest} c = subst (Handed b got m rest) (c .until) (hand-
 pub handed-at : {b : ℕ} {got : Log} {m : Message} {rest : List Message} {gone : Log} (d : Handed b got m rest gone)
     → (m ∷ d .place) ⊑ gone
 handed-at d = between-up (d .left)
+
+-- A message of a channel stands in the log after those before it on the channel.
+pub between-place : {b : ℕ} {got : Log} (l : List Message) (m : Message) (rest : List Message) {gone : Log}
+    → Between b got (l ++ (m ∷ rest)) gone
+    → (p : Log) × (got ⊑ p) × ((m ∷ p) ⊑ gone) × ((x : Message) → x ∈ l → x ∈ p)
+between-place [] m rest c = let d = hand-over c in (d .place, d .late, handed-at d, λ x i. elim i [ ])
+between-place (y ∷ l) m rest c =
+    let d = hand-over c in
+    let (p, up, at, in-p) = between-place l m rest (d .left) in
+    (p, ⊑-trans (d .late) (⊑-cons up), at, λ x i. go up in-p x i)
+  where
+    go : {q p : Log} → (y ∷ q) ⊑ p → ((x : Message) → x ∈ l → x ∈ p) → (x : Message) → x ∈ (y ∷ l) → x ∈ p
+    go {q} {p} up in-p x (List·Memᴰ·head e) = subst (λ z. z ∈ p) (sym e) (placed up)
+    go up in-p x (List·Memᴰ·tail i) = in-p x i
 
 -- What is on a channel was let out and is for its receiver; what was let out for it has been handed over
 -- or is on the channel.

@@ -7,9 +7,10 @@ use native.Mathlib.Decide.{decLe}
 use mathlib.Core.Path.{_≡_, sym, subst}
 use mathlib.Core.Logic.{_⊎_, inl, inr, ite}
 use mathlib.Core.List.{List, []}
-use Rattle.theory.specs.Count.{meet}
+use Rattle.theory.proofs.Count.{meet}
 use Rattle.theory.specs.Update.{upd}
-use Rattle.theory.specs.Log.{_∈_, _⊑_, comparable, mem-up}
+use Rattle.theory.specs.Log.{_∈_, _⊑_}
+use Rattle.theory.proofs.Log.{comparable, mem-up}
 use Rattle.eqaso.specs.Message.{Value, View, value}
 use Rattle.eqaso.specs.Algorithm.{Operation, update, scan, round3, Wait, idle, reading, writing, comparing}
 use Rattle.eqaso.specs.Algorithm.{borrowing, Good, Node, still, ended, waiting, borrowed, finish, kept}

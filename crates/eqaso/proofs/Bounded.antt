@@ -14,7 +14,8 @@ use Rattle.eqaso.specs.Order.{OneTo}
 pub use Rattle.eqaso.specs.Bounded.{UpTo, Bounded, BoundedNode, Arrives}
 use Rattle.eqaso.proofs.Sets.{or-cases, or-left, or-right, and-both, and-of, within-to, within-of}
 use Rattle.eqaso.proofs.Newest.{entry, newest-from, newest-value, newest-above, newest-same, newest-then}
-use Rattle.eqaso.proofs.Newest.{newest-beyond, highest, latest, latest-above, latest-then, newest-latest}
+use Rattle.eqaso.specs.Node.{highest, latest}
+use Rattle.eqaso.proofs.Newest.{newest-beyond, latest-above, latest-then, newest-latest}
 
 pub bounded-fresh : (n : ℕ) → Bounded n [] (λ k. []) 0
 bounded-fresh n = record {

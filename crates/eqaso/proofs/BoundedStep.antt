@@ -4,7 +4,8 @@ use native.Mathlib.Omega.{arith}
 use native.Mathlib.Decide.{decLt}
 use mathlib.Core.Path.{_≡_, refl, sym, _∙_, ap, subst}
 use mathlib.Core.List.{List, [], _∷_, List·Memᴰ·head, List·Memᴰ·tail}
-use Rattle.theory.specs.Update.{upd, upd-all}
+use Rattle.theory.specs.Update.{upd}
+use Rattle.theory.proofs.Update.{upd-all}
 use Rattle.theory.specs.Log.{_∈_}
 use Rattle.eqaso.specs.Message.{Value, Message, read, readAnswer, write, writeAnswer, echo, value, good}
 use Rattle.eqaso.specs.Algorithm.{Operation, Node, sending, _then_, react, messageStep, beginStep}
@@ -107,7 +108,7 @@ module _ (n : ℕ) where
   moves : (f i : ℕ) → Moves n f i Tidy Tidy (λ e. Tidy)
   moves f i = record {
     stays = λ ν l x. x;
-    spends = λ ν l p u s q x. x;
+    spends = λ ν l p u s q z x. x;
     updates = λ ν l p u s q x. x;
     scans = λ ν l u s q x. x;
     compares = λ ν l o r t s q x. x;

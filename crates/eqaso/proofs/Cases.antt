@@ -12,7 +12,7 @@ use Rattle.eqaso.specs.Message.{Value, echo, value}
 use Rattle.eqaso.specs.Algorithm.{Operation, Round, Nodes, Wait, idle, reading, writing, comparing, borrowing}
 use Rattle.eqaso.specs.Algorithm.{Node, Step, still, sending, waiting, has, receive, raise, readAnswered}
 use Rattle.eqaso.specs.Algorithm.{writeAnswered}
-use Rattle.eqaso.proofs.Change.{topping, holding}
+use Rattle.eqaso.specs.Node.{topping, holding}
 use Rattle.eqaso.proofs.Sets.{has-to, has-of}
 
 -- The tag is above maxtag, or it is not.

@@ -4,36 +4,19 @@ use native.Mathlib.Omega.{arith}
 use mathlib.Core.Path.{_≡_, refl, sym, subst}
 use mathlib.Core.Logic.{_⊎_, inl, inr}
 use mathlib.Core.Bool.{Bool, true}
-use mathlib.Core.List.{List, _∷_, List·Memᴰ·head, List·Memᴰ·tail}
-use Rattle.theory.specs.Count.{count, meet}
-use Rattle.theory.specs.Update.{upd, upd-all}
-use Rattle.theory.specs.Log.{_∈_, _⊑_, here, more, mem-up, cons-or}
+use mathlib.Core.List.{_∷_, List·Memᴰ·head, List·Memᴰ·tail}
+use Rattle.theory.specs.Count.{count}
+use Rattle.theory.proofs.Count.{meet}
+use Rattle.theory.specs.Update.{upd}
+use Rattle.theory.proofs.Update.{upd-all}
+use Rattle.theory.specs.Log.{_∈_, _⊑_, here, more}
+use Rattle.theory.proofs.Log.{mem-up, cons-or}
 use Rattle.eqaso.specs.Message.{Value, View, Message, read, readAnswer, write, writeAnswer, echo, value, good}
 use Rattle.eqaso.specs.Algorithm.{Operation, Round, Wait, idle, reading, writing, comparing, borrowing, Node}
-use Rattle.eqaso.specs.Algorithm.{waiting, keep}
+use Rattle.eqaso.specs.Algorithm.{topping, holding, waiting, keep}
 use Rattle.eqaso.proofs.Cert.{Log, Logs, _≼_}
 use Rattle.eqaso.proofs.Local.{Past, Took, Pending, Settled, Known, Due, Olds, Have, Stage, Phase, Local}
 use Rattle.eqaso.proofs.Grow.{held-up}
-
--- The node with another request number and wait.
-abbrev pub turned : ℕ → Wait → Node → Node
-turned q w ν = record { all = ν .all; from = ν .from; maxtag = ν .maxtag; goods = ν .goods; request = q; wait = w }
-
--- The node with a larger maxtag.
-abbrev pub topping : ℕ → Node → Node
-topping t ν = record {
-  all = ν .all;
-  from = ν .from;
-  maxtag = t;
-  goods = ν .goods;
-  request = ν .request;
-  wait =
-      ν .wait;
-}
-
--- The node with other values.
-abbrev pub holding : List Value → (ℕ → List Value) → Node → Node
-holding a g ν = record { all = a; from = g; maxtag = ν .maxtag; goods = ν .goods; request = ν .request; wait = ν .wait }
 
 -- The past of a node that has been handed more.
 abbrev pub handing : Logs → Past → Past

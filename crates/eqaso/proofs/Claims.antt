@@ -1,19 +1,27 @@
 -- The claims of specs, of every run.
 use Prim.Native.Nat.{ℕ, _+_, _<_}
-use mathlib.Core.Path.{sym, ap, subst}
-use mathlib.Core.List.{List}
-use Rattle.theory.specs.Log.{_∈_, ⊑-cons, mem-up, place, each-at}
-use Rattle.eqaso.specs.Message.{View, value, good}
-use Rattle.eqaso.specs.Cluster.{Event}
+use mathlib.Core.Path.{refl, sym, ap, subst}
+use mathlib.Core.List.{List, [], List·Memᴰ·head, Memᴰ·append-right}
+use Rattle.theory.specs.Log.{_∈_}
+use Rattle.theory.proofs.Log.{⊑-trans, ⊑-cons, mem-up, place, each-at}
+use Rattle.eqaso.specs.Message.{Value, View, value, good}
+use Rattle.eqaso.specs.Cluster.{Event, start, after}
 use Rattle.eqaso.specs.Trace.{trace, letOutTo}
-use Rattle.eqaso.specs.Bounded.{RunBounded, RunExpected, OwnHeld, OpensHigh, RunClosed}
-use Rattle.eqaso.specs.Claims.{Claim3, TagsAsWorded, RoundsComparable, ShowsAbsence, HasEarlier}
+use Rattle.eqaso.specs.Bounded.{RunBounded, RunExpected, OwnHeld, OpensHigh, LetOut, InitialSegment}
+use Rattle.eqaso.specs.Bounded.{RunClosed, RunRising}
+use Rattle.eqaso.specs.Claims.{Claim3, TagsAsWorded, RoundsComparable, ShowsAbsence, HasEarlier, SpentLast}
+use Rattle.eqaso.specs.Claims.{BeginsOpen}
 use Rattle.eqaso.proofs.Cert.{carry}
 use Rattle.eqaso.proofs.Local.{Due}
 use Rattle.eqaso.proofs.Grow.{upd-shorter}
 use Rattle.eqaso.proofs.Sites.{logs}
 use Rattle.eqaso.proofs.Closure.{all-closed, from-closed}
+use Rattle.eqaso.proofs.Rising.{tags-rise}
+use Rattle.eqaso.proofs.Between.{Between, between-place}
 use Rattle.eqaso.proofs.Linked.{linked}
+use Rattle.eqaso.proofs.Origin.{origin}
+use Rattle.eqaso.proofs.Act.{begin-course}
+use Rattle.eqaso.proofs.Spent.{spent-last}
 use Rattle.eqaso.proofs.Told.{told-in}
 use Rattle.eqaso.proofs.History.{Certified}
 use Rattle.eqaso.proofs.Views.{comparable-views}
@@ -52,6 +60,12 @@ module _ (n f : ℕ) (half : f + f < n) where
   pub has-earlier : (es : List Event) → HasEarlier (trace n f es)
   has-earlier es = view-has-earlier (run-good n f half es .kept)
 
+  pub spent-only : SpentLast n f
+  spent-only = spent-last n f
+
+  pub begins-open : BeginsOpen n f
+  begins-open i op ν = begin-course n f i half op ν .0
+
   pub bounded : RunBounded n f
   bounded = run-bounded n f half
 
@@ -64,13 +78,39 @@ module _ (n f : ℕ) (half : f + f < n) where
   pub high : OpensHigh n f
   high = opens-high n f
 
-  pub closed : RunClosed n f
-  closed es c b u v i up =
+  -- What a writer has let out stands in its log.
+  out-sent : (es : List Event) (v : Value) → LetOut (trace n f es) v
+      → value v ∈ logs (run-good n f half es .sites) (v .writer)
+  out-sent es v (b, i) =
       let g = run-good n f half es in
-      let sent : value u ∈ logs (g .sites) (u .writer) = mem-up (g .fits .gone-in (u .writer) b)
-      (told-in (g .told) (u .writer) b (value u) (linked n f es .reach (u .writer) b (value u) i .1) i .0) in
-      subst (λ ν. (v ∈ ν .all → u ∈ ν .all) × ((k : ℕ) → v ∈ ν .from k → u ∈ ν .from k))
+      mem-up (g .fits .gone-in (v .writer) b)
+      (told-in (g .told) (v .writer) b (value v) (linked n f es .reach (v .writer) b (value v) i .1) i .0)
+
+  pub closed : RunClosed n f
+  closed es c =
+      let g = run-good n f half es in
+      let from-writer = origin n f es .held c in
+      subst (λ ν. InitialSegment (trace n f es) (ν .all) × ((k : ℕ) → InitialSegment (trace n f es) (ν .from k)))
       (ap (λ ν. ν c) (sym (g .same))) (
-        λ m. all-closed n f (logs (g .sites)) (λ k. g .inv k .due) (g .inv c) m sent up,
-        λ k m. from-closed n f (logs (g .sites)) (λ k. g .inv k .due) (g .inv c) k m sent up,
+        record {
+          sent = λ v m. from-writer v (held v m);
+          earlier = λ u v m out up. all-closed n f (logs (g .sites)) (λ k. g .inv k .due) (g .inv c) m (out-sent es u out) up;
+        },
+        λ k. record {
+          sent = λ v m. from-writer v (held v (g .orderly .bounded c .known k v m));
+          earlier = λ u v m out up. from-closed n f (logs (g .sites)) (λ k. g .inv k .due) (g .inv c) k m (out-sent es u out) up;
+        },
       )
+    where
+      held : (v : Value) → v ∈ run-good n f half es .sites c .node .all → v ∈ after n f start es .nodes c .all
+      held v m = subst (λ ν. v ∈ ν c .all) (sym (run-good n f half es .same)) m
+
+  pub rising : RunRising n f
+  rising es a b u v l rest is i e =
+      let g = run-good n f half es in
+      let m : value v ∈ letOutTo (trace n f es) a b = subst (λ z. value v ∈ z) (sym is)
+      (Memᴰ·append-right l (List·Memᴰ·head refl)) in
+      let (p, up, at, before) = between-place l (value v) rest (subst (λ z. Between b [] z (g .gone a b)) is
+      (g .told .lets a b (linked n f es .reach a b (value v) m .1))) in
+      tags-rise n f (logs (g .sites)) (λ k. g .inv k .due) (λ k. g .orderly .rising k .order) a
+      (⊑-trans at (g .fits .gone-in a b)) (before (value u) i) e

@@ -7,8 +7,9 @@ use mathlib.Core.Path.{_≡_, refl, sym, _∙_, ap, subst}
 use mathlib.Core.Logic.{_⊎_, inl, inr, _↔_}
 use mathlib.Core.Bool.{true}
 use mathlib.Core.List.{List, _∷_, List·Memᴰ·tail}
-use Rattle.theory.specs.Count.{meet}
-use Rattle.theory.specs.Log.{_∈_, _⊑_, here, ⊑-trans, mem-up, comparable, cons-or, place, placed, Each, each-at}
+use Rattle.theory.proofs.Count.{meet}
+use Rattle.theory.specs.Log.{_∈_, _⊑_, here, Each}
+use Rattle.theory.proofs.Log.{⊑-trans, mem-up, comparable, cons-or, place, placed, each-at}
 use Rattle.eqaso.specs.Message.{Value, absent, value}
 use Rattle.eqaso.specs.Algorithm.{Operation, update, scan, round0, Wait, writing, Node, newest}
 use Rattle.eqaso.specs.Bounded.{UpTo}

@@ -8,9 +8,12 @@ use mathlib.Core.Path.{_≡_, refl, subst}
 use mathlib.Core.Logic.{_⊎_, inl, inr}
 use mathlib.Core.Bool.{true}
 use mathlib.Core.List.{List, [], _∷_}
-use Rattle.theory.specs.Count.{count, meet, choose}
-use Rattle.theory.specs.Update.{upd, upd-all}
-use Rattle.theory.specs.Log.{_∈_, _⊑_, here, ⊑-trans, mem-up}
+use Rattle.theory.specs.Count.{count}
+use Rattle.theory.proofs.Count.{meet, choose}
+use Rattle.theory.specs.Update.{upd}
+use Rattle.theory.proofs.Update.{upd-all}
+use Rattle.theory.specs.Log.{_∈_, _⊑_, here}
+use Rattle.theory.proofs.Log.{⊑-trans, mem-up}
 use Rattle.eqaso.specs.Message.{Value, of, echo, value, good}
 use Rattle.eqaso.specs.Algorithm.{Operation, update, Round, Wait, idle, comparing, Node, waiting, agrees}
 use Rattle.eqaso.specs.Algorithm.{viewUpto}

@@ -1,13 +1,15 @@
 -- Two things that follow for a reader: with no update every scan shows absences, and the view that an operation ends
 -- with has every update that ended before it began.
 use Prim.Native.Nat.{ℕ, _≤_, _<_}
+use native.Mathlib.Decide.{ℕ-discrete}
 use native.Mathlib.Omega.{arith}
 use mathlib.Core.Path.{_≡_, _∙_, subst}
+use Rattle.order.specs.Sequence.{before}
 use Rattle.eqaso.specs.Message.{absent}
 use Rattle.eqaso.specs.Algorithm.{done, spent}
 use Rattle.eqaso.specs.Trace.{Trace, Begun, updating, scanning, begun, Fate, unfinished, ended, fate, tagAt}
 use Rattle.eqaso.specs.Trace.{viewOf, entryAt}
-use Rattle.eqaso.specs.Order.{OneTo, Finished, IsScan, PlacedBy, before, EndedBefore, SingleOrder}
+use Rattle.eqaso.specs.Order.{OneTo, Finished, IsScan, PlacedBy, EndedBefore, SingleOrder}
 use Rattle.eqaso.specs.Claims.{HasView, viewIn}
 use Rattle.eqaso.proofs.Book.{tagOf, bookOf}
 use Rattle.eqaso.proofs.Facts.{Fit}
@@ -23,7 +25,7 @@ pub scan-without-updates : {n : ℕ} {tr : Trace} → SingleOrder n tr
     → (w : ℕ) → OneTo n w → entryAt (viewOf (fate tr s)) w ≡ absent
 scan-without-updates {n} {tr} o no-update s scan end w one =
     o .legal s (o .members s .1 (scan-placed tr s (begun tr s) (fate tr s) scan end)) scan w one
-    ∙ written-none tr w (before s (o .line)) absent (λ u i (p, e). no-update u w p e)
+    ∙ written-none tr w (before ℕ-discrete s (o .line)) absent (λ u i (p, e). no-update u w p e)
 
 -- An update with a tag, so one that is not spent.
 pub view-has-earlier : {n : ℕ} {tr : Trace} → Kept n tr → (u c p t : ℕ) → begun tr u ≡ updating c p → 0 < tagAt tr u c

@@ -5,8 +5,10 @@ use native.Mathlib.Omega.{arith}
 use mathlib.Core.Path.{_≡_, refl, ap, subst}
 use mathlib.Core.Logic.{_⊎_, inl, inr, ite}
 use mathlib.Core.List.{List, [], _∷_, List·Memᴰ·head, List·Memᴰ·tail}
-use Rattle.theory.specs.Count.{count, count-none}
-use Rattle.theory.specs.Log.{_∈_, push, push-new}
+use Rattle.theory.specs.Count.{count}
+use Rattle.theory.proofs.Count.{count-none}
+use Rattle.theory.specs.Log.{_∈_, push}
+use Rattle.theory.proofs.Log.{push-new}
 use Rattle.eqaso.specs.Message.{Value, of, View, Message, write, value, good}
 use Rattle.eqaso.specs.Algorithm.{Operation, update, scan, Rule, direct, borrowed, Round, round0, round1, round3}
 use Rattle.eqaso.specs.Algorithm.{Nodes, nobody, Wait, idle, reading, writing, comparing, borrowing, Node, Ending}
@@ -106,7 +108,7 @@ module _ (K : Value → Type 0) where
       (λ e ν l. ⊥)
   rest-moves n f i = record {
     stays = λ ν l h. h;
-    spends = λ ν l p u s q h. h .0;
+    spends = λ ν l p u s q z h. h .0;
     updates = λ ν l p u s q h. absurd (h .0);
     scans = λ ν l u s q h. absurd (h .0);
     compares = λ ν l o r t s q h. absurd (h .0);
@@ -127,7 +129,7 @@ module _ (K : Value → Type 0) where
       (λ e ν l. EndsBy K e (ν .wait) l)
   staged-moves n f i = record {
     stays = λ ν l h. h;
-    spends = λ ν l p u s q h. h .0;
+    spends = λ ν l p u s q z h. h .0;
     updates = λ ν l p u s q h. absurd (h .0);
     scans = λ ν l u s q h. absurd (h .0);
     compares = λ ν l o r t s q h. (tt, h .1);
@@ -207,7 +209,7 @@ module _ (K : Value → Type 0) where
     pub ask-moves : Moves n f i Asks Asks (λ e ν l. SpentBy K e (ν .wait) l)
     ask-moves = record {
       stays = λ ν l h. h;
-      spends = λ ν l p u s q h. spends ν l (update p) s u h;
+      spends = λ ν l p u s q z h. spends ν l (update p) s u h;
       updates = λ ν l p u s q h. inr (updates ν l p u s q h);
       scans = λ ν l u s q h. inr (scans ν l u s q h);
       compares = λ ν l o rnd t s q h. absurd (opened ν l o rnd t s q h);

@@ -7,8 +7,10 @@ use mathlib.Core.Logic.{inl, inr, _≢_}
 use mathlib.Core.Bool.{Bool, true, false, cond, decide, _||_, or-false, or-true, true≢false}
 use mathlib.Core.List.{List, [], _∷_, _++_, append-nil, append-assoc}
 use lib.ListN.{length}
-use Rattle.theory.specs.Count.{bit, count, count-mono}
-use Rattle.theory.specs.Update.{upd, upd2, upd-by, upd-other, upd2-same, upd2-other}
+use Rattle.theory.specs.Count.{bit, count}
+use Rattle.theory.proofs.Count.{count-mono}
+use Rattle.theory.specs.Update.{upd, upd2, upd-by}
+use Rattle.theory.proofs.Update.{upd-other, upd2-same, upd2-other}
 use Rattle.theory.specs.Log.{_∈_}
 use Rattle.eqaso.specs.Message.{Message}
 use Rattle.eqaso.specs.Algorithm.{Node, beginStep, messageStep}

@@ -4,7 +4,8 @@ use native.Mathlib.Omega.{arith}
 use mathlib.Core.Path.{_≡_, ap, sym, subst, _∙_}
 use mathlib.Core.Bool.{Bool, false, not}
 use mathlib.Core.List.{[]}
-use Rattle.theory.specs.Count.{count, count-not}
+use Rattle.theory.specs.Count.{count}
+use Rattle.theory.proofs.Count.{count-not}
 use Rattle.theory.specs.Log.{_∈_}
 use Rattle.eqaso.specs.Message.{Message, good}
 use Rattle.eqaso.specs.Algorithm.{Wait, idle, reading, writing, comparing, borrowing}

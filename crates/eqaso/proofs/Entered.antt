@@ -8,7 +8,7 @@ use mathlib.Core.Logic.{_≢_, inl, inr}
 use mathlib.Core.List.{[], _∷_, _++_}
 use lib.ListN.{length, take, length-append}
 use Rattle.theory.specs.Log.{_∈_}
-use Rattle.theory.specs.Update.{upd-all}
+use Rattle.theory.proofs.Update.{upd-all}
 use Rattle.eqaso.specs.Algorithm.{Ending, none, done, shown, spent}
 use Rattle.eqaso.specs.Trace.{Seen, Trace, handler, Begun, nothing, updating, scanning, begun, endingAt}
 use Rattle.eqaso.specs.Trace.{unfinished, ended, fateBy, fateAt, fateOf, fate, upToEnd, ownTags, largest, tagAt}

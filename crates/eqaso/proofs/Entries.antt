@@ -9,29 +9,15 @@ use mathlib.Core.Bool.{cond, decide}
 use mathlib.Core.List.{List, [], _∷_, _++_}
 use lib.ListN.{length, take, length-append}
 use lib.Seq.{take-nil, take-all, take-append-le}
-use Rattle.eqaso.specs.Message.{Message, read, readAnswer, write, writeAnswer, echo, value, good}
+use Rattle.eqaso.specs.Message.{Message}
 use Rattle.eqaso.specs.Algorithm.{table}
-use Rattle.eqaso.specs.Cluster.{Sent, addressed, sentTo}
+use Rattle.eqaso.specs.Cluster.{Sent, Address, one, all, address, entriesTo, addressed, sentTo}
 use Rattle.eqaso.specs.Order.{OneTo}
-use Rattle.eqaso.proofs.Meant.{Address, one, all, address, by-number, whose-by, keep-by, pick}
+use Rattle.eqaso.proofs.Meant.{by-number, whose-by, keep-by, pick}
 
 -- Message m to node b.
 abbrev pub entry : ℕ → Message → Sent
 entry b m = record { to = b; message = m }
-
--- The entries of a message by its address.
-abbrev pub addressed-by : ℕ → Message → Address → List Sent
-addressed-by n m (one to) = entry to m ∷ []
-addressed-by n m all = table (λ j. entry j m) n
-
-pub addressed-is : (n : ℕ) (m : Message) → addressed n m ≡ addressed-by n m (address m)
-addressed-is n (readAnswer to q t) = refl
-addressed-is n (writeAnswer to q t) = refl
-addressed-is n (read q) = refl
-addressed-is n (write q t) = refl
-addressed-is n (echo t) = refl
-addressed-is n (value v) = refl
-addressed-is n (good t v) = refl
 
 -- How many entries there are, and how many of them are enough for node b.
 abbrev pub size : ℕ → Address → ℕ
@@ -148,16 +134,16 @@ answer-front b (suc k) s l e = rw (take-nil k) (e ∙ sym (if-pos (decLe 1 (suc 
 pub one-front : (m : Message) (b k n : ℕ) → OneTo n b
     → sentTo b (take k (addressed n m)) ≡ ite (decLe (enough b (address m)) k) (pick b (m ∷ [])) []
 unfolding pick sentTo
-one-front m b k n h = rw (addressed-is n m) (go (address m))
+one-front m b k n h = go (address m)
   where
     go : (d : Address)
-        → sentTo b (take k (addressed-by n m d)) ≡ ite (decLe (enough b d) k) (keep-by (whose-by b d) m []) []
+        → sentTo b (take k (entriesTo n m d)) ≡ ite (decLe (enough b d) k) (keep-by (whose-by b d) m []) []
     go (one to) = answer-front b k (entry to m) _ (answer-to (ℕ-discrete to b) m)
     go all = turns-front m b k n h
 
 pub length-addressed : (m : Message) (n : ℕ) → length (addressed n m) ≡ size n (address m)
-length-addressed m n = rw (addressed-is n m) (go (address m))
+length-addressed m n = go (address m)
   where
-    go : (d : Address) → length (addressed-by n m d) ≡ size n d
+    go : (d : Address) → length (entriesTo n m d) ≡ size n d
     go (one to) = refl
     go all = length-table (λ j. entry j m) n

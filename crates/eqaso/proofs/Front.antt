@@ -10,11 +10,12 @@ use mathlib.Core.List.{List, [], _∷_, _++_, append-nil, append-assoc, List·Me
 use mathlib.Core.List.{Memᴰ·append-right}
 use lib.ListN.{length, take, length-append}
 use lib.Seq.{take-nil, take-length}
-use Rattle.theory.specs.Log.{_∈_, _⊑_, here, push, push-append, push-up}
+use Rattle.theory.specs.Log.{_∈_, _⊑_, here, push}
+use Rattle.theory.proofs.Log.{push-append, push-up}
 use Rattle.eqaso.specs.Message.{Message}
-use Rattle.eqaso.specs.Cluster.{Extent, whole, cut, addressed, entries, letOut, sentTo}
+use Rattle.eqaso.specs.Cluster.{Extent, whole, cut, address, addressed, entries, letOut, sentTo}
 use Rattle.eqaso.specs.Order.{OneTo}
-use Rattle.eqaso.proofs.Meant.{address, pick, pick-append}
+use Rattle.eqaso.proofs.Meant.{pick, pick-append}
 use Rattle.eqaso.proofs.Entries.{size, enough, enough-some, one-front, length-addressed, take-append}
 use Rattle.eqaso.proofs.Entries.{sentTo-append}
 

@@ -4,8 +4,10 @@ use Prim.Native.Nat.{ℕ, _+_, _<_}
 use mathlib.Core.Path.{_≡_, sym, _∙_, ap, subst}
 use mathlib.Core.Bool.{Bool, false}
 use mathlib.Core.List.{List, [], _∷_, _++_}
-use Rattle.theory.specs.Update.{upd, upd-map}
-use Rattle.theory.specs.Log.{⊑-trans, push}
+use Rattle.theory.specs.Update.{upd}
+use Rattle.theory.proofs.Update.{upd-map}
+use Rattle.theory.specs.Log.{push}
+use Rattle.theory.proofs.Log.{⊑-trans}
 use Rattle.eqaso.specs.Message.{Message}
 use Rattle.eqaso.specs.Cluster.{Extent, Cluster, halted, channels, entries, letOut}
 use Rattle.eqaso.specs.Trace.{Seen, Trace}

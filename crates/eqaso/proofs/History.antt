@@ -6,7 +6,8 @@ use mathlib.Core.Path.{_≡_, refl, sym, subst}
 use mathlib.Core.Logic.{_⊎_, inl, inr, _↔_}
 use mathlib.Core.Bool.{Bool, false}
 use mathlib.Core.List.{_∷_}
-use Rattle.theory.specs.Log.{_∈_, _⊑_, here, more, ⊑-trans, mem-up, place, comparable}
+use Rattle.theory.specs.Log.{_∈_, _⊑_, here, more}
+use Rattle.theory.proofs.Log.{⊑-trans, mem-up, place, comparable}
 use Rattle.eqaso.specs.Message.{Value, of, View, value}
 use Rattle.eqaso.specs.Algorithm.{Operation, update, scan, Wait, idle, reading, writing, comparing, borrowing}
 use Rattle.eqaso.specs.Algorithm.{none, done, shown, spent}

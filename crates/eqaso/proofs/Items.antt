@@ -79,6 +79,7 @@ module _ (n : ℕ) (tr : Trace) (F : Facts n (length tr) (plain tr)) where
   update-by t (scanning c) x h g k = absurd (subst IsScanKind k tt)
   update-by t (updating c p) unfinished h g k = (c, p, refl, g, h .1 .tagged)
   update-by t (updating c p) (ended i (done r v)) h g k = (c, p, refl, g .0, g .1)
+  update-by t (updating c p) (ended i spent) h g k = absurd h
 
   -- A placed scan ended with its view.
   pub record Scan (t : ℕ) : Type 0 where

@@ -5,7 +5,8 @@ use native.Mathlib.Decide.{decLt}
 use native.Mathlib.Omega.{arith}
 use mathlib.Core.Path.{_≡_, refl, sym, _∙_, subst, subst₂}
 use mathlib.Core.Logic.{inl, inr}
-use Rattle.theory.specs.Update.{upd, upd-other, upd-all}
+use Rattle.theory.specs.Update.{upd}
+use Rattle.theory.proofs.Update.{upd-other, upd-all}
 use Rattle.eqaso.specs.Message.{Entry}
 use Rattle.eqaso.specs.Algorithm.{done, shown, spent}
 use Rattle.eqaso.specs.Trace.{Begun, updating, scanning, Fate, unfinished, ended}

@@ -3,7 +3,8 @@ use Prim.Native.Nat.{ℕ, suc, _<_}
 use native.Mathlib.Omega.{arith}
 use mathlib.Core.Path.{_≡_}
 use mathlib.Core.Logic.{inl, inr}
-use Rattle.theory.specs.Update.{upd, upd-all}
+use Rattle.theory.specs.Update.{upd}
+use Rattle.theory.proofs.Update.{upd-all}
 use Rattle.eqaso.specs.Message.{View}
 use Rattle.eqaso.specs.Algorithm.{Ending}
 use Rattle.eqaso.specs.Trace.{updating, Fate, ended, entryAt}

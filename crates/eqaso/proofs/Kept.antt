@@ -6,7 +6,7 @@ use mathlib.Core.Logic.{⊎-elim}
 use mathlib.Core.List.{[], _∷_, _++_, List·Memᴰ·append-cases, List·Memᴰ·not-nil}
 use lib.ListN.{length, length-append}
 use Rattle.theory.specs.Log.{_∈_}
-use Rattle.theory.specs.Update.{upd-same, upd-other}
+use Rattle.theory.proofs.Update.{upd-same, upd-other}
 use Rattle.eqaso.specs.Message.{View}
 use Rattle.eqaso.specs.Algorithm.{Ending, none, done, shown, spent, Rule}
 use Rattle.eqaso.specs.Trace.{Seen, Trace, handler, Begun, nothing, updating, scanning, begun, ended, ownTags}

@@ -3,7 +3,7 @@ use Prim.Native.Nat.{ℕ, _≤_, _<_}
 use native.Mathlib.Omega.{arith}
 use mathlib.Core.Path.{_≡_, refl, sym, _∙_, subst}
 use mathlib.Core.Logic.{_≢_}
-use Rattle.theory.specs.Update.{upd-other, upd-all}
+use Rattle.theory.proofs.Update.{upd-other, upd-all}
 use Rattle.eqaso.specs.Message.{Value, of}
 use Rattle.eqaso.specs.Algorithm.{Operation, Wait, idle, reading, writing, comparing, borrowing, Ending}
 use Rattle.eqaso.specs.Trace.{Begun, nothing, updating, scanning, unfinished, ended}

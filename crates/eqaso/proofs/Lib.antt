@@ -74,6 +74,8 @@ pub mod Words
 -- What the nodes know of the book.
 pub mod Course
 pub mod Act
+pub mod Origin
+pub mod Spent
 pub mod History
 pub mod Later
 pub mod Views

@@ -7,7 +7,8 @@ use mathlib.Core.Bool.{false, _||_}
 use mathlib.Core.List.{List, [], _∷_, _++_, append-assoc, List·Memᴰ·append-cases}
 use lib.ListN.{length, length-append}
 use lib.Seq.{drop-at}
-use Rattle.theory.specs.Count.{count, count-none}
+use Rattle.theory.specs.Count.{count}
+use Rattle.theory.proofs.Count.{count-none}
 use Rattle.theory.specs.Log.{_∈_}
 use Rattle.eqaso.specs.Message.{Message}
 use Rattle.eqaso.specs.Algorithm.{fresh}

@@ -7,15 +7,17 @@ use mathlib.Core.Path.{_≡_, refl, sym, subst}
 use mathlib.Core.Logic.{_⊎_, inl, inr, ite}
 use mathlib.Core.Bool.{Bool, true}
 use mathlib.Core.List.{List, [], _∷_, List·Memᴰ·head, List·Memᴰ·tail}
-use Rattle.theory.specs.Update.{upd, upd-same, upd-all}
-use Rattle.theory.specs.Log.{_∈_, _⊑_, here, more, mem-up, push}
+use Rattle.theory.specs.Update.{upd}
+use Rattle.theory.proofs.Update.{upd-same, upd-all}
+use Rattle.theory.specs.Log.{_∈_, _⊑_, here, more, push}
+use Rattle.theory.proofs.Log.{mem-up}
 use Rattle.eqaso.specs.Message.{Value, Message, read, readAnswer, write, writeAnswer, echo, value, good}
 use Rattle.eqaso.specs.Algorithm.{Operation, update, scan, round0, round1, nobody, Wait, idle, reading, writing}
 use Rattle.eqaso.specs.Algorithm.{comparing, borrowing, Good, Node, sending, _then_, waiting, asking, kept, keep}
 use Rattle.eqaso.specs.Algorithm.{react, messageStep, beginStep}
 use Rattle.eqaso.proofs.Cert.{Log, Logs}
 use Rattle.eqaso.proofs.Meant.{Meant, Others}
-use Rattle.eqaso.proofs.Change.{topping, holding}
+use Rattle.eqaso.specs.Node.{topping, holding}
 use Rattle.eqaso.proofs.Cases.{raise-cases, receive-cases, ReadCounted, WriteCounted, read-cases, write-cases}
 use Rattle.eqaso.proofs.Passes.{left}
 use Rattle.eqaso.proofs.MoveOn.{Moves, message-leaves, begin-leaves}
@@ -179,7 +181,7 @@ module _ (n : ℕ) where
     live-moves : Moves n f i (Live i got) (Live i got) (λ e. Live i got)
     live-moves = record {
       stays = λ ν l c. c;
-      spends = λ ν l p u s x c. silent c idle l here (λ k. tt) (λ k t. tt) tt;
+      spends = λ ν l p u s x z c. silent c idle l here (λ k. tt) (λ k t. tt) tt;
       updates = λ ν l p u s x c. asked c (writing (update p) round0 _ nobody) _ (more (more here))
           (List·Memᴰ·head refl);
       scans = λ ν l u s x c. asked c (writing scan round1 _ nobody) _ (more here) (List·Memᴰ·head refl);

@@ -14,7 +14,7 @@ use Rattle.eqaso.specs.Algorithm.{Operation, update, scan, round0, round
 use Rattle.eqaso.specs.Algorithm.{comparing, borrowing, Node, sending, _then_, waiting, viewUpto, react}
 use Rattle.eqaso.specs.Algorithm.{messageStep, beginStep}
 use Rattle.eqaso.proofs.Cert.{Log}
-use Rattle.eqaso.proofs.Change.{turned, topping}
+use Rattle.eqaso.specs.Node.{turned, topping}
 use Rattle.eqaso.proofs.Cases.{raise-cases, receive-cases, read-cases, write-cases}
 use Rattle.eqaso.proofs.Passes.{left}
 use Rattle.eqaso.proofs.MoveOn.{Moves, writes, message-leaves, begin-leaves}
@@ -120,7 +120,7 @@ module _ (M : ℕ) where
   mark-moves : (n f i : ℕ) → Moves n f i (Marked M) Left (λ e. Left)
   mark-moves n f i = record {
     stays = λ ν l c. inl c;
-    spends = λ ν l p u s x c. inl (turn idle (ν .request) tt c);
+    spends = λ ν l p u s x z c. inl (turn idle (ν .request) tt c);
     updates = λ ν l p u s x c. let le : max u (ν .maxtag) ≤ M = omega (arith, c .low, c .top) in
         post (write (suc (ν .request)) (max u (ν .maxtag))) le (post (value (of (suc (max u (ν .maxtag))) i p)) tt
         (turn (writing (update p) round0 (max u (ν .maxtag)) nobody) (suc (ν .request)) le c));

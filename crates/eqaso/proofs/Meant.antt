@@ -5,20 +5,8 @@ use mathlib.Core.Path.{_≡_, refl, ap, subst, sym}
 use mathlib.Core.Logic.{_⊎_, inl, inr, _≢_}
 use mathlib.Core.List.{List, [], _∷_, _++_, List·Memᴰ·head, List·Memᴰ·tail}
 use Rattle.theory.specs.Log.{_∈_}
-use Rattle.eqaso.specs.Message.{Message, read, readAnswer, write, writeAnswer, echo, value, good}
-
-pub data Address : Type 0 where
-  one : (node : ℕ) → Address
-  all : Address
-
-abbrev pub address : Message → Address
-address (readAnswer to q t) = one to
-address (writeAnswer to q t) = one to
-address (read q) = all
-address (write q t) = all
-address (echo t) = all
-address (value v) = all
-address (good t v) = all
+use Rattle.eqaso.specs.Message.{Message}
+use Rattle.eqaso.specs.Cluster.{Address, one, all, address}
 
 abbrev pub MeantBy : ℕ → Address → Type 0
 MeantBy b (one to) = to ≡ b

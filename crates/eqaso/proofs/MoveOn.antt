@@ -31,7 +31,7 @@ Last round3 = Unit {0}
 pub record Moves (n f i : ℕ) (P Q : Claim) (E : Final) : Type 0 where
   pub stays : (ν : Node) (l : Log) → P ν l → Q ν l
   -- No tag is left for the update.
-  pub spends : (ν : Node) (l : Log) (p u : ℕ) (s : Nodes) → n - f ≤ count s n
+  pub spends : (ν : Node) (l : Log) (p u : ℕ) (s : Nodes) → n - f ≤ count s n → max u (ν .maxtag) ≡ limit
       → P (waiting (reading (update p) s u) ν) l → E spent (waiting idle ν) l
   -- A quorum of read answers: round 0 of an update, round 1 of a scan.
   pub updates : (ν : Node) (l : Log) (p u : ℕ) (s : Nodes) → n - f ≤ count s n
@@ -88,7 +88,7 @@ module _ {n f i : ℕ} {P Q : Claim} {E : Final} (c : Moves n f i P Q E) where
       go : (d : Dec (n - f ≤ count s n)) (d′ : Dec (t ≡ limit)) → Before l (ite d (ite d′
           (ended spent [] (waiting idle ν′))
           (sending (value (of (suc t) i p) ∷ []) ν′ then opening (update p) round0 t)) (still ν′))
-      go (yes x) (yes y) = c .spends ν l p u s x h
+      go (yes x) (yes y) = c .spends ν l p u s x y h
       go (yes x) (no y) = c .updates ν l p u s x h
       go (no x) d′ = h
 

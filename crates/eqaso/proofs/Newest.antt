@@ -1,5 +1,5 @@
 -- The newest value of a writer in a list, up to a tag or of all: laws on lists alone.
-use Prim.Native.Nat.{ℕ, _≤_, _<_, max}
+use Prim.Native.Nat.{ℕ, _≤_, _<_}
 use native.Mathlib.Omega.{arith}
 use native.Mathlib.Decide.{ℕ-discrete, decLe, decLt}
 use mathlib.Core.Path.{_≡_, refl, sym, _∙_, ap, subst}
@@ -8,7 +8,7 @@ use mathlib.Core.Bool.{cond, decide, _&&_}
 use mathlib.Core.List.{List, [], _∷_, List·Memᴰ·head, List·Memᴰ·tail}
 use Rattle.theory.specs.Log.{_∈_}
 use Rattle.eqaso.specs.Message.{Value, Entry, absent}
-use Rattle.eqaso.specs.Algorithm.{newest}
+use Rattle.eqaso.specs.Node.{newest, highest, latest}
 
 -- What a view has of a value.
 abbrev pub entry : Value → Entry
@@ -113,19 +113,10 @@ newest-same w t u (x ∷ l) h = go (newest-cases w t l x) (newest-same w t u l (
     go (inr (e, b)) ih = e ∙ ih ∙ sym (newest-old w u l x
         (λ p q. subst (λ z. x .tag ≤ z .tag) ih (b p (h x (List·Memᴰ·head refl) p .1 q))))
 
--- The largest tag of a list.
-unfoldable pub highest : List Value → ℕ
-highest [] = 0
-highest (v ∷ l) = max (v .tag) (highest l)
-
 pub highest-above : {l : List Value} {v : Value} → v ∈ l → v .tag ≤ highest l
 unfolding highest
 highest-above (List·Memᴰ·head d) = rw d (omega arith)
 highest-above (List·Memᴰ·tail m) = let h = highest-above m in omega arith
-
--- The newest value of writer w, whatever its tag.
-abbrev pub latest : ℕ → List Value → Entry
-latest w l = newest w (highest l) l
 
 pub latest-above : (w : ℕ) {l : List Value} {v : Value} → v ∈ l → v .writer ≡ w → v .tag ≤ latest w l .tag
 latest-above w m e = newest-above w _ m e (highest-above m)

@@ -11,7 +11,8 @@ use Rattle.eqaso.specs.Algorithm.{Operation, update, scan, Round, round0
 use Rattle.eqaso.specs.Algorithm.{writing, comparing, Node, waiting, opening}
 use Rattle.eqaso.proofs.Cert.{Log, Logs}
 use Rattle.eqaso.proofs.Local.{Past, Held, Rise, Have, Before, Stage, Local}
-use Rattle.eqaso.proofs.Change.{turned, stage-post}
+use Rattle.eqaso.specs.Node.{turned}
+use Rattle.eqaso.proofs.Change.{stage-post}
 use Rattle.eqaso.proofs.Turn.{have-turned, unused, moved}
 use Rattle.eqaso.proofs.Outcome.{Fine}
 

@@ -3,7 +3,8 @@ use Prim.Native.Nat.{ℕ, suc, _≤_, max}
 use native.Mathlib.Omega.{arith}
 use mathlib.Core.Path.{sym, subst}
 use mathlib.Core.List.{[], _∷_, List·Memᴰ·head, List·Memᴰ·tail}
-use Rattle.theory.specs.Log.{_∈_, push, push-new}
+use Rattle.theory.specs.Log.{_∈_, push}
+use Rattle.theory.proofs.Log.{push-new}
 use Rattle.eqaso.specs.Message.{of, Message, read, readAnswer, write, writeAnswer, echo, value, good}
 use Rattle.eqaso.specs.Algorithm.{Operation, Node, sending, _then_, react, messageStep, beginStep}
 use Rattle.eqaso.proofs.Cert.{Log}
@@ -32,7 +33,7 @@ one-more top m h hs x (List·Memᴰ·tail i) = hs x i
 highs-kept : (n f i : ℕ) → Moves n f i Highs Highs (λ e. Highs)
 highs-kept n f i = record {
   stays = λ ν l x. x;
-  spends = λ ν l p u s q x. x;
+  spends = λ ν l p u s q z x. x;
   updates = λ ν l p u s q x. one-more (ν .maxtag) (write (suc (ν .request)) (max u (ν .maxtag))) (omega arith)
       (one-more (ν .maxtag) (value (of (suc (max u (ν .maxtag))) i p)) tt x);
   scans = λ ν l u s q x. one-more (ν .maxtag) (write (suc (ν .request)) (max u (ν .maxtag))) (omega arith) x;

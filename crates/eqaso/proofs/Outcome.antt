@@ -3,7 +3,8 @@ use Prim.Native.Nat.{ℕ, suc, _≤_}
 use mathlib.Core.Path.{_≡_}
 use mathlib.Core.List.{List}
 use Rattle.theory.specs.Update.{upd}
-use Rattle.theory.specs.Log.{_∈_, push, push-append}
+use Rattle.theory.specs.Log.{_∈_, push}
+use Rattle.theory.proofs.Log.{push-append}
 use Rattle.eqaso.specs.Message.{Value, of, View}
 use Rattle.eqaso.specs.Algorithm.{Operation, update, scan, Node, Ending, none, done, shown, spent, Step, still}
 use Rattle.eqaso.specs.Algorithm.{then-by, _then_, viewUpto}

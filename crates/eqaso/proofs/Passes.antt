@@ -2,7 +2,8 @@
 use Prim.Native.Nat.{ℕ}
 use mathlib.Core.Path.{_≡_, refl, sym, subst}
 use mathlib.Core.List.{[], _∷_}
-use Rattle.theory.specs.Log.{push, push-append}
+use Rattle.theory.specs.Log.{push}
+use Rattle.theory.proofs.Log.{push-append}
 use Rattle.eqaso.specs.Message.{View, Message, read, readAnswer, write, writeAnswer, echo, value, good}
 use Rattle.eqaso.specs.Algorithm.{Operation, update, scan, Rule, Wait, Node, Ending, none, done, shown, spent}
 use Rattle.eqaso.specs.Algorithm.{Step, sending, then-by, _then_, waiting, finish, react, readPass, writePass}

@@ -11,10 +11,10 @@ use lib.ListN.{drop, take-append-drop}
 use Rattle.theory.specs.Log.{_∈_}
 use Rattle.eqaso.specs.Message.{Message}
 use Rattle.eqaso.specs.Algorithm.{table}
-use Rattle.eqaso.specs.Cluster.{Extent, whole, cut, Sent, addressed, entries, letOut, sentTo}
+use Rattle.eqaso.specs.Cluster.{Extent, whole, cut, Sent, Address, one, all, address, entriesTo, addressed}
+use Rattle.eqaso.specs.Cluster.{entries, letOut, sentTo}
 use Rattle.eqaso.specs.Order.{OneTo}
-use Rattle.eqaso.proofs.Meant.{Address, one, all, address}
-use Rattle.eqaso.proofs.Entries.{entry, addressed-by, addressed-is}
+use Rattle.eqaso.proofs.Entries.{entry}
 
 -- A message may go to node b.
 abbrev ReachesBy : ℕ → ℕ → Address → Type 0
@@ -35,21 +35,30 @@ table-in g (suc n) i = elim (List·Memᴰ·append-cases (table g n) i) [
   | inr last ↦ (suc n, (omega arith, omega arith), List·Memᴰ·eq-of-singleton last)
 ]
 
+addressed-in : {s : Sent} (n : ℕ) (m : Message) (d : Address) → s ∈ entriesTo n m d
+    → (s .message ≡ m) × ReachesBy n (s .to) d
+addressed-in n m (one to) i = let e = List·Memᴰ·eq-of-singleton i in (ap (λ z. z .message) e, ap (λ z. z .to) (sym e))
+addressed-in n m all i = let (k, h, e) = table-in (λ j. entry j m) n i in
+    (ap (λ z. z .message) e, subst (λ z. OneTo n (z .to)) (sym e) h)
+
 addressed-reach : {s : Sent} (n : ℕ) (m : Message) → s ∈ addressed n m → Entered n s
-addressed-reach {s} n m i =
-    let (e, h) = go (address m) (subst (λ z. s ∈ z) (addressed-is n m) i) in
+addressed-reach {s} n m i = let (e, h) = addressed-in n m (address m) i in
     subst (λ z. ReachesBy n (s .to) (address z)) (sym e) h
-  where
-    go : (d : Address) → s ∈ addressed-by n m d → (s .message ≡ m) × ReachesBy n (s .to) d
-    go (one to) j = let e = List·Memᴰ·eq-of-singleton j in (ap (λ z. z .message) e, ap (λ z. z .to) (sym e))
-    go all j = let (k, h, e) = table-in (λ j. entry j m) n j in
-        (ap (λ z. z .message) e, subst (λ z. OneTo n (z .to)) (sym e) h)
 
 entries-reach : {s : Sent} (n : ℕ) (l : List Message) → s ∈ entries n l → Entered n s
 unfolding entries
 entries-reach n [] i = elim i [ ]
 entries-reach n (m ∷ l) i = elim (List·Memᴰ·append-cases (addressed n m) i)
     [ inl h ↦ addressed-reach n m h | inr h ↦ entries-reach n l h ]
+
+-- An entry is one of a message of the list.
+entries-among : {s : Sent} (n : ℕ) (l : List Message) → s ∈ entries n l → s .message ∈ l
+unfolding entries
+entries-among n [] i = elim i [ ]
+entries-among n (m ∷ l) i = elim (List·Memᴰ·append-cases (addressed n m) i) [
+  | inl h ↦ List·Memᴰ·head (addressed-in n m (address m) h .0)
+  | inr h ↦ List·Memᴰ·tail (entries-among n l h)
+]
 
 letOut-in : {s : Sent} (x : Extent) (l : List Sent) → s ∈ letOut x l → s ∈ l
 letOut-in whole l i = i
@@ -84,3 +93,7 @@ sentTo-of {s} (List·Memᴰ·tail {x} {xs} i) = go (ℕ-discrete (x .to) (s .to)
 pub sent-reach : {m : Message} (n b : ℕ) (x : Extent) (l : List Message) → m ∈ sentTo b (letOut x (entries n l))
     → Reaches n b m
 sent-reach n b x l i = entries-reach n l (letOut-in x (entries n l) (sentTo-in b _ i))
+
+-- It is a message of the list.
+pub sent-among : {m : Message} (n b : ℕ) (x : Extent) (l : List Message) → m ∈ sentTo b (letOut x (entries n l)) → m ∈ l
+sent-among n b x l i = entries-among n l (letOut-in x (entries n l) (sentTo-in b _ i))

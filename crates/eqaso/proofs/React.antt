@@ -5,8 +5,10 @@ use mathlib.Core.Path.{_≡_, refl, sym, subst}
 use mathlib.Core.Logic.{_⊎_, inl, inr}
 use mathlib.Core.Bool.{true}
 use mathlib.Core.List.{_∷_}
-use Rattle.theory.specs.Update.{upd, upd-all}
-use Rattle.theory.specs.Log.{_∈_, _⊑_, here, ⊑-trans, placed, comparable, cons-or, before-it, push, Each, each-at}
+use Rattle.theory.specs.Update.{upd}
+use Rattle.theory.proofs.Update.{upd-all}
+use Rattle.theory.specs.Log.{_∈_, _⊑_, here, push, Each}
+use Rattle.theory.proofs.Log.{⊑-trans, placed, comparable, cons-or, before-it, each-at}
 use Rattle.eqaso.specs.Message.{Value, of, read, readAnswer, write, writeAnswer, echo, value}
 use Rattle.eqaso.specs.Algorithm.{Nodes, Operation, update, scan, Round, round0, round1, round2, round3, Wait}
 use Rattle.eqaso.specs.Algorithm.{reading, writing, Node, none, Step, waiting, has, raise, readAnswered}

@@ -7,8 +7,10 @@ use mathlib.Core.Path.{_≡_, refl, sym, subst}
 use mathlib.Core.Logic.{_⊎_, inl, inr, ite}
 use mathlib.Core.Bool.{true, false≢true}
 use mathlib.Core.List.{[], _∷_, List·Memᴰ·head, List·Memᴰ·tail}
-use Rattle.theory.specs.Count.{count, meet}
-use Rattle.theory.specs.Log.{_∈_, _⊑_, here, more, ⊑-trans, mem-up, placed, cons-or}
+use Rattle.theory.specs.Count.{count}
+use Rattle.theory.proofs.Count.{meet}
+use Rattle.theory.specs.Log.{_∈_, _⊑_, here, more}
+use Rattle.theory.proofs.Log.{⊑-trans, mem-up, placed, cons-or}
 use Rattle.eqaso.specs.Message.{Value, of, Message, write, echo, value}
 use Rattle.eqaso.specs.Algorithm.{limit, Operation, update, scan, round0, round1, Nodes, nobody, Wait, idle}
 use Rattle.eqaso.specs.Algorithm.{reading, writing, comparing, borrowing, Node, spent, still, ended, waiting}
@@ -16,7 +18,8 @@ use Rattle.eqaso.specs.Algorithm.{sending, _then_, opening, afterRead, q
 use Rattle.eqaso.proofs.Cert.{Log, Logs, value≢write}
 use Rattle.eqaso.proofs.Local.{Past, Under, ValueDue, Settled, Have, ReadBy, Local}
 use Rattle.eqaso.proofs.Grow.{settled-up}
-use Rattle.eqaso.proofs.Change.{turned, known-value}
+use Rattle.eqaso.specs.Node.{turned}
+use Rattle.eqaso.proofs.Change.{known-value}
 use Rattle.eqaso.proofs.Turn.{have-turned, unused, moved}
 use Rattle.eqaso.proofs.Outcome.{Fine, fine-still}
 

@@ -5,8 +5,9 @@ use native.Mathlib.Decide.{ℕ-discrete}
 use mathlib.Core.Path.{_≡_, refl, sym, _∙_, ap, subst}
 use mathlib.Core.Logic.{_⊎_, inl, inr}
 use mathlib.Core.List.{List, [], _∷_, List·Memᴰ·head, List·Memᴰ·tail}
-use Rattle.theory.specs.Update.{upd-all, upd-same}
-use Rattle.theory.specs.Log.{_∈_, _⊑_, ⊑-cons, mem-up, placed, push-append, Each, each-at}
+use Rattle.theory.proofs.Update.{upd-all, upd-same}
+use Rattle.theory.specs.Log.{_∈_, _⊑_, Each}
+use Rattle.theory.proofs.Log.{⊑-cons, mem-up, placed, push-append, each-at}
 use Rattle.eqaso.specs.Message.{Value, Message, read, readAnswer, write, writeAnswer, echo, value, good}
 use Rattle.eqaso.specs.Algorithm.{Operation, update, scan, round0, Wait, writing, Node, Step, sending, then-by}
 use Rattle.eqaso.specs.Algorithm.{_then_, raise, receive, react}
@@ -14,7 +15,8 @@ use Rattle.eqaso.proofs.Cert.{Log, Logs, carry}
 use Rattle.eqaso.proofs.Meant.{Meant}
 use Rattle.eqaso.proofs.Local.{Past, ValueDue, Pending, Due, Olds, Local}
 use Rattle.eqaso.proofs.Grow.{upd-shorter}
-use Rattle.eqaso.proofs.Change.{holding, handing, handed-by, handed-more, learnt, kept-on}
+use Rattle.eqaso.specs.Node.{holding}
+use Rattle.eqaso.proofs.Change.{handing, handed-by, handed-more, learnt, kept-on}
 use Rattle.eqaso.proofs.Turn.{taken-with, taken}
 use Rattle.eqaso.proofs.Cases.{from-by, receive-by}
 use Rattle.eqaso.proofs.React.{Keeps, read-counted, write-counted, raise-keeps, write-answered, read-answered}

@@ -6,8 +6,10 @@ use mathlib.Core.Path.{_≡_, sym, _∙_, ap, subst}
 use mathlib.Core.Logic.{inl, inr, _≢_}
 use mathlib.Core.Bool.{Bool, false}
 use mathlib.Core.List.{List}
-use Rattle.theory.specs.Update.{upd, upd-all}
-use Rattle.theory.specs.Log.{_∈_, _⊑_, here, push, push-or, push-up}
+use Rattle.theory.specs.Update.{upd}
+use Rattle.theory.proofs.Update.{upd-all}
+use Rattle.theory.specs.Log.{_∈_, _⊑_, here, push}
+use Rattle.theory.proofs.Log.{push-or, push-up}
 use Rattle.eqaso.specs.Message.{Value, of, Message, value}
 use Rattle.eqaso.specs.Cluster.{Extent, entries, letOut, halted}
 use Rattle.eqaso.specs.Trace.{updating, tagsSent}

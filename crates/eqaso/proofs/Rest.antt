@@ -5,7 +5,8 @@ use native.Mathlib.Decide.{ℕ-discrete, decLe}
 use mathlib.Core.Logic.{ite}
 use mathlib.Core.Bool.{Bool, true, false}
 use mathlib.Core.List.{[], _∷_}
-use Rattle.theory.specs.Count.{count, count-none}
+use Rattle.theory.specs.Count.{count}
+use Rattle.theory.proofs.Count.{count-none}
 use Rattle.eqaso.specs.Message.{of, View, Message, read, value}
 use Rattle.eqaso.specs.Algorithm.{limit, Operation, update, scan, direct, borrowed, Round, round0, round1, round2}
 use Rattle.eqaso.specs.Algorithm.{round3, nobody, Wait, idle, reading, writing, comparing, borrowing, Node, spent}

@@ -81,7 +81,7 @@ module _ (i : ℕ) where
   rising-moves : (n f : ℕ) → Moves n f i Rises Rises (λ e. Rises)
   rising-moves n f = record {
     stays = λ ν l x. x;
-    spends = λ ν l p u s q x. rising-turn x idle (λ v y. absurd y);
+    spends = λ ν l p u s q z x. rising-turn x idle (λ v y. absurd y);
     updates = λ ν l p u s q x. rising-post (made p s u (max u (ν .maxtag)) x) (write (suc (ν .request)) _) (λ z. z);
     scans = λ ν l u s q x. opened x (writing scan round1 _ nobody) (suc (ν .request)) _ (λ v y. absurd y);
     compares = λ ν l o r t s q x. rising-turn x (comparing o r t) (λ v y. inr (comparing-young r o t s v y));

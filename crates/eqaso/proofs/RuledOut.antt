@@ -9,12 +9,13 @@ use mathlib.Core.Bool.{decide, cond}
 use mathlib.Core.Logic.{_⊎_, inl, inr, ⊎-elim}
 use mathlib.Core.List.{List, [], _∷_, List·Memᴰ·head, List·Memᴰ·tail, List·Memᴰ·not-nil, List·Memᴰ·cases-cons}
 use Rattle.theory.specs.Log.{_∈_}
+use Rattle.order.specs.Sequence.{before}
 use Rattle.eqaso.specs.Message.{Entry, absent, value}
 use Rattle.eqaso.specs.Algorithm.{update, scan, none, done, shown, direct, round1}
 use Rattle.eqaso.specs.Cluster.{begin, deliver, whole, accepted}
 use Rattle.eqaso.specs.Trace.{Trace, Begun, nothing, updating, scanning, begun, tagAt, writesBy, firstEnding}
 use Rattle.eqaso.specs.Trace.{tagsSent, ownTags, largest, firstAbove}
-use Rattle.eqaso.specs.Order.{Shows, before, written, SingleOrder}
+use Rattle.eqaso.specs.Order.{Shows, written, SingleOrder}
 use Rattle.eqaso.proofs.Written.{written-none}
 use Rattle.eqaso.proofs.Single.{before-trans}
 
@@ -92,7 +93,7 @@ unfolding firstEnding tagsSent ownTags largest firstAbove ℕ-discrete decLt dec
 missed-out o =
     let here = o .timely 0 2 (o .members 0 .1 tt) (o .members 2 .1 tt) (omega arith) in
     let shown = o .legal 2 (o .members 2 .1 tt) tt 1 (omega arith, omega arith) in
-    let some = update-written missed 1 missed-tagged 7 refl (before 2 (o .line)) absent here in
+    let some = update-written missed 1 missed-tagged 7 refl (before ℕ-discrete 2 (o .line)) absent here in
     omega (arith, some, ap (λ e. e .tag) shown)
 
 abbrev skipped : Trace
@@ -149,19 +150,19 @@ skipped-out o =
     let sees = o .legal 0 (o .members 0 .1 tt) tt in
     let shows : Shows skipped 0 2 2 8 = record { scan = tt; finished = tt; tagged = omega arith; entry = refl } in
     let early = o .timely 1 3 (o .members 1 .1 tt) (o .members 3 .1 (0, shows)) (omega arith) in
-    by (in? 3 (before 0 (o .line))) early (sees 1 (omega arith, omega arith)) (sees 2 (omega arith, omega arith))
+    by (in? 3 (before ℕ-discrete 0 (o .line))) early (sees 1 (omega arith, omega arith)) (sees 2 (omega arith, omega arith))
   where
-    by : Dec (3 ∈ before 0 (o .line)) → 1 ∈ before 3 (o .line)
-        → absent ≡ written skipped 1 (before 0 (o .line)) absent
-        → record { tag = 2; report = 8 } ≡ written skipped 2 (before 0 (o .line)) absent → ⊥
+    by : Dec (3 ∈ before ℕ-discrete 0 (o .line)) → 1 ∈ before ℕ-discrete 3 (o .line)
+        → absent ≡ written skipped 1 (before ℕ-discrete 0 (o .line)) absent
+        → record { tag = 2; report = 8 } ≡ written skipped 2 (before ℕ-discrete 0 (o .line)) absent → ⊥
     by (yes late) early one two = omega (
       arith,
       ap (λ (e : Entry). e .tag) one,
-      update-written skipped 1 skipped-tagged 7 refl (before 0 (o .line)) absent (before-trans 0 (o .line) early late),
+      update-written skipped 1 skipped-tagged 7 refl (before ℕ-discrete 0 (o .line)) absent (before-trans 0 (o .line) early late),
     )
     by (no late) early one two = omega (arith, ap (λ (e : Entry). e .tag) (two ∙ none))
       where
-        none : written skipped 2 (before 0 (o .line)) absent ≡ absent
-        none = written-none skipped 2 (before 0 (o .line)) absent λ u i (p, e).
+        none : written skipped 2 (before ℕ-discrete 0 (o .line)) absent ≡ absent
+        none = written-none skipped 2 (before ℕ-discrete 0 (o .line)) absent λ u i (p, e).
             late (elim (skipped-updates u 2 p e (omega arith))
-            [ inl h ↦ absurd (omega (arith, h .1)) | inr h ↦ subst (λ k. k ∈ before 0 (o .line)) (h .0) i ])
+            [ inl h ↦ absurd (omega (arith, h .1)) | inr h ↦ subst (λ k. k ∈ before ℕ-discrete 0 (o .line)) (h .0) i ])

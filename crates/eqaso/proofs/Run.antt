@@ -4,9 +4,11 @@ use native.Mathlib.Omega.{arith}
 use mathlib.Core.Path.{_≡_, refl, sym, subst}
 use mathlib.Core.Bool.{Bool, true, false}
 use mathlib.Core.List.{List, [], _∷_, _++_}
-use Rattle.theory.specs.Count.{count-not}
-use Rattle.theory.specs.Update.{upd, upd2, upd-self}
-use Rattle.theory.specs.Log.{_∈_, placed}
+use Rattle.theory.proofs.Count.{count-not}
+use Rattle.theory.specs.Update.{upd, upd2}
+use Rattle.theory.proofs.Update.{upd-self}
+use Rattle.theory.specs.Log.{_∈_}
+use Rattle.theory.proofs.Log.{placed}
 use Rattle.eqaso.specs.Message.{Message}
 use Rattle.eqaso.specs.Algorithm.{Operation, idle, still, beginStep, messageStep}
 use Rattle.eqaso.specs.Cluster.{Extent, cut, Event, stop, Cluster, Result, refuse, commit, start, after, halted}

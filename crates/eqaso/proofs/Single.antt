@@ -3,11 +3,11 @@ use Prim.Native.Nat.{ℕ, _≤_, _<_}
 use native.Mathlib.Decide.{ℕ-discrete, decLt}
 use native.Mathlib.Omega.{arith}
 use mathlib.Core.Path.{_≡_, refl, sym, _∙_, ap, subst}
-use mathlib.Core.Logic.{ite, _⊎_, inl, inr}
-use mathlib.Core.List.{List, [], _∷_}
+use mathlib.Core.Logic.{_⊎_, inl, inr}
+use mathlib.Core.List.{List}
 use lib.ListN.{length}
 use Rattle.theory.specs.Log.{_∈_}
-use Rattle.order.specs.Sequence.{before as part, Once as Apart}
+use Rattle.order.specs.Sequence.{before}
 use Rattle.order.specs.Line.{update, scan, Line}
 use Rattle.order.proofs.Line.{line, latest}
 use Rattle.order.proofs.Sequence.{before-in, before-within}
@@ -15,7 +15,7 @@ use Rattle.eqaso.specs.Message.{absent}
 use Rattle.eqaso.specs.Algorithm.{none, done, spent}
 use Rattle.eqaso.specs.Trace.{Trace, Begun, updating, scanning, begun, Fate, unfinished, ended, fate, tagAt}
 use Rattle.eqaso.specs.Trace.{entryAt}
-use Rattle.eqaso.specs.Order.{IsScan, Shows, PlacedBy, Placed, Once, before, written, SingleOrder}
+use Rattle.eqaso.specs.Order.{IsScan, Shows, PlacedBy, Placed, written, SingleOrder}
 use Rattle.eqaso.proofs.Book.{tagOf, plain, bookOf, At}
 use Rattle.eqaso.proofs.Facts.{Fit, Facts, Place}
 use Rattle.eqaso.proofs.Items.{kindOf, view, tag, Scan, update-at, scan-at, all, placed-of, all-of, holds-to}
@@ -23,23 +23,10 @@ use Rattle.eqaso.proofs.Items.{holds-of, items, Precedes, sound}
 use Rattle.eqaso.proofs.Written.{UpdateOf, written-none, written-last}
 use Rattle.eqaso.proofs.Kept.{Kept}
 
--- The two ways to say it of lists are one.
-once-is : (l : List ℕ) → Apart l → Once l
-unfolding Once
-once-is [] h = tt
-once-is (x ∷ l) (new, h) = (new, once-is l h)
-
-before-is : (x : ℕ) (l : List ℕ) → before x l ≡ part ℕ-discrete x l
-unfolding before part
-before-is x [] = refl
-before-is x (t ∷ l) = ap (λ r. ite (ℕ-discrete t x) [] (t ∷ r)) (before-is x l)
-
 -- Standing before is transitive.
-pub before-trans : {a u : ℕ} (s : ℕ) (l : List ℕ) → a ∈ before u l → u ∈ before s l → a ∈ before s l
-before-trans {a} {u} s l m n =
-    let far = subst (λ r. u ∈ r) (before-is s l) n in
-    subst (λ r. a ∈ r) (sym (before-is s l)) (before-in ℕ-discrete u (part ℕ-discrete s l)
-    (before-within ℕ-discrete s l far (subst (λ r. a ∈ r) (before-is u l) m)))
+pub before-trans : {a u : ℕ} (s : ℕ) (l : List ℕ) → a ∈ before ℕ-discrete u l → u ∈ before ℕ-discrete s l
+    → a ∈ before ℕ-discrete s l
+before-trans {a} {u} s l m n = before-in ℕ-discrete u (before ℕ-discrete s l) (before-within ℕ-discrete s l n m)
 
 scan-kind : (b : Begun) → IsScan b → kindOf b ≡ scan
 scan-kind (scanning c) h = refl
@@ -74,8 +61,8 @@ module _ (n : ℕ) (tr : Trace) (F : Facts n (length tr) (plain tr)) where
 
   legal-by : (s : ℕ) → s ∈ all n tr F → (S : Scan n tr F s) → kindOf (begun tr s) ≡ scan → (w : ℕ)
       → Place (plain tr) w (entryAt (view n tr F s) w)
-      → entryAt (view n tr F s) w ≡ written tr w (part ℕ-discrete s (order .line)) absent
-  legal-by s i S k w (inl e) = e ∙ sym (written-none tr w (part ℕ-discrete s (order .line)) absent
+      → entryAt (view n tr F s) w ≡ written tr w (before ℕ-discrete s (order .line)) absent
+  legal-by s i S k w (inl e) = e ∙ sym (written-none tr w (before ℕ-discrete s (order .line)) absent
       (latest order .none (UpdateOf tr w) (update-kind w) s i k λ v m (q, is) h.
       let x = update-at n tr F v (placed-of n tr F v m) (update-kind w v (q, is)) in
       omega (arith, x .tagged, holds-of n tr F s v w q is h, ap (λ a. a .tag) e)))
@@ -93,7 +80,7 @@ module _ (n : ℕ) (tr : Trace) (F : Facts n (length tr) (plain tr)) where
       (shown-placed (fate tr u) u w p s
       (subst (λ b. Fit n b (fate tr u) (tagOf tr u b)) is (F .fit u)) shows) in
       let top : entryAt (view n tr F s) w .tag ≡ tag n tr F u = ap (λ a. a .tag) e in
-      entry ∙ sym (written-last tr w p is (part ℕ-discrete s (order .line)) absent
+      entry ∙ sym (written-last tr w p is (before ℕ-discrete s (order .line)) absent
       (latest order .last (UpdateOf tr w) (update-kind w) s u i (all-of n tr F u placed) k (p, is)
       (holds-to n tr F s u w p is (omega arith))
       λ v m (q, was) h.
@@ -103,7 +90,7 @@ module _ (n : ℕ) (tr : Trace) (F : Facts n (length tr) (plain tr)) where
   single : SingleOrder n tr
   single = record {
     line = order .line;
-    once = once-is (order .line) (order .once);
+    once = order .once;
     members = λ t. (λ i. placed-of n tr F t (order .whole t .0 i), λ h. order .whole t .1 (all-of n tr F t h));
     tagged = λ t c p i is.
         let x = update-at n tr F t (placed-of n tr F t (order .whole t .0 i)) (update-kind c t (p, is)) in
@@ -112,10 +99,8 @@ module _ (n : ℕ) (tr : Trace) (F : Facts n (length tr) (plain tr)) where
         let k = scan-kind (begun tr s) is in
         let j = order .whole s .0 i in
         let S = scan-at n tr F s (placed-of n tr F s j) k in
-        ap (λ v. entryAt v w) (sym (S .same)) ∙ legal-by s j S k w (F .places s (S .viewed) w one)
-        ∙ ap (λ l. written tr w l absent) (sym (before-is s (order .line)));
-    timely = λ a b i j h. subst (λ l. a ∈ l) (sym (before-is b (order .line)))
-        (order .kept a b (order .whole a .0 i) (order .whole b .0 j) h);
+        ap (λ v. entryAt v w) (sym (S .same)) ∙ legal-by s j S k w (F .places s (S .viewed) w one);
+    timely = λ a b i j h. order .kept a b (order .whole a .0 i) (order .whole b .0 j) h;
   }
 
 -- The trace of which all this is kept has one single order.

@@ -5,7 +5,8 @@ use native.Mathlib.Omega.{arith}
 use native.Mathlib.Decide.{ℕ-discrete}
 use mathlib.Core.Path.{_≡_, refl}
 use mathlib.Core.Bool.{Bool, true, decide}
-use Rattle.theory.specs.Count.{count, count-mono}
+use Rattle.theory.specs.Count.{count}
+use Rattle.theory.proofs.Count.{count-mono}
 use Rattle.theory.specs.Log.{_∈_}
 use Rattle.eqaso.specs.Message.{Value, View, Message, read, readAnswer, write, writeAnswer, value, good}
 use Rattle.eqaso.specs.Algorithm.{Wait, idle, reading, writing, comparing, borrowing, Node, waiting, agrees}

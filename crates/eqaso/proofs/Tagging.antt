@@ -7,8 +7,10 @@ use mathlib.Core.Logic.{_⊎_, inl, inr}
 use mathlib.Core.Bool.{Bool, true, false, true≢false}
 use mathlib.Core.List.{List, [], _∷_, List·Memᴰ·head, List·Memᴰ·tail}
 use lib.ListN.{length}
-use Rattle.theory.specs.Update.{upd, upd-same, upd-other}
-use Rattle.theory.specs.Log.{_∈_, push-new, placed}
+use Rattle.theory.specs.Update.{upd}
+use Rattle.theory.proofs.Update.{upd-same, upd-other}
+use Rattle.theory.specs.Log.{_∈_}
+use Rattle.theory.proofs.Log.{push-new, placed}
 use Rattle.eqaso.specs.Message.{Value, of, Message, value}
 use Rattle.eqaso.specs.Algorithm.{Operation, update, Round, round3, Wait, reading, writing, comparing, borrowing}
 use Rattle.eqaso.specs.Algorithm.{none}

@@ -3,7 +3,8 @@ use Prim.Native.Nat.{ℕ}
 use mathlib.Core.Path.{_≡_}
 use mathlib.Core.Logic.{inl, inr}
 use mathlib.Core.List.{List, [], _∷_, _++_, append-nil}
-use Rattle.theory.specs.Update.{upd, upd-all}
+use Rattle.theory.specs.Update.{upd}
+use Rattle.theory.proofs.Update.{upd-all}
 use Rattle.theory.specs.Log.{_∈_, push}
 use Rattle.eqaso.specs.Message.{Message}
 use Rattle.eqaso.specs.Cluster.{Extent, entries, letOut}

@@ -4,14 +4,17 @@ use native.Mathlib.Omega.{arith}
 use mathlib.Core.Path.{sym, subst}
 use mathlib.Core.Logic.{_⊎_, inl, inr}
 use mathlib.Core.List.{List, _∷_, List·Memᴰ·head, List·Memᴰ·tail}
-use Rattle.theory.specs.Update.{upd, upd-all}
-use Rattle.theory.specs.Log.{_∈_, _⊑_, here, ⊑-trans, mem-up, Each}
+use Rattle.theory.specs.Update.{upd}
+use Rattle.theory.proofs.Update.{upd-all}
+use Rattle.theory.specs.Log.{_∈_, _⊑_, here, Each}
+use Rattle.theory.proofs.Log.{⊑-trans, mem-up}
 use Rattle.eqaso.specs.Message.{Value, Message, read, readAnswer, write, writeAnswer, echo, value, good}
 use Rattle.eqaso.specs.Algorithm.{Operation, Round, Wait, idle, reading, writing, comparing, borrowing, Node}
 use Rattle.eqaso.proofs.Cert.{Log, Logs, _≼_}
 use Rattle.eqaso.proofs.Meant.{Others}
 use Rattle.eqaso.proofs.Local.{Past, Under, Took, Due, Have, Stage, WroteBy, Phase, Local}
-use Rattle.eqaso.proofs.Change.{turned, holding, handing, handed-by, handed-more, took-up, have-more}
+use Rattle.eqaso.specs.Node.{turned, holding}
+use Rattle.eqaso.proofs.Change.{handing, handed-by, handed-more, took-up, have-more}
 
 wrote-handed : {γ : Past} {i r : ℕ} {op : Operation} {t k : ℕ} (got : Logs) → γ .got ≼ got
     → WroteBy γ i r op t k → WroteBy (handing got γ) i r op t k

@@ -7,8 +7,10 @@ use mathlib.Core.Logic.{_⊎_, inl, inr}
 use mathlib.Core.Bool.{Bool, true}
 use mathlib.Core.List.{List, [], _∷_, _++_}
 use lib.ListN.{length, getD, List·getD-append}
-use Rattle.theory.specs.Count.{count, meet}
-use Rattle.theory.specs.Log.{_∈_, _⊑_, ⊑-trans, ⊑-cons, mem-up, place, Each, each-at}
+use Rattle.theory.specs.Count.{count}
+use Rattle.theory.proofs.Count.{meet}
+use Rattle.theory.specs.Log.{_∈_, _⊑_, Each}
+use Rattle.theory.proofs.Log.{⊑-trans, ⊑-cons, mem-up, place, each-at}
 use Rattle.eqaso.specs.Message.{Value, of, absent, View, value}
 use Rattle.eqaso.specs.Algorithm.{Operation, Round, done, shown, spent, newest, table, viewUpto}
 use Rattle.eqaso.specs.Trace.{Begun, nothing, updating, scanning, Fate, unfinished, ended, entryAt}

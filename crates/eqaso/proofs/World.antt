@@ -4,8 +4,10 @@ use native.Mathlib.Omega.{arith}
 use mathlib.Core.Path.{_≡_, refl, sym, subst}
 use mathlib.Core.Bool.{false≢true}
 use mathlib.Core.List.{[], _∷_, List·Memᴰ·head, List·Memᴰ·tail}
-use Rattle.theory.specs.Update.{upd, upd-same, upd-other, upd-all, upd-twice}
-use Rattle.theory.specs.Log.{_∈_, _⊑_, here, more, ⊑-cons, place, placed, push, push-append, push-up, each-at}
+use Rattle.theory.specs.Update.{upd}
+use Rattle.theory.proofs.Update.{upd-same, upd-other, upd-all, upd-twice}
+use Rattle.theory.specs.Log.{_∈_, _⊑_, here, more, push}
+use Rattle.theory.proofs.Log.{⊑-cons, place, placed, push-append, push-up, each-at}
 use Rattle.eqaso.specs.Message.{Message, read, readAnswer, write, writeAnswer, echo, value, good}
 use Rattle.eqaso.specs.Algorithm.{Operation, update, scan, nobody, Wait, idle, reading, Node, Ending, none, done}
 use Rattle.eqaso.specs.Algorithm.{shown, spent, Step, sending, then-by, _then_, waiting, asking, readPass}

@@ -4,8 +4,10 @@ use Prim.Native.Nat.{ℕ, _+_, _-_, _≤_, _<_}
 use native.Mathlib.Omega.{arith}
 use mathlib.Core.Path.{sym, subst}
 use mathlib.Core.Logic.{_⊎_, inl, inr, ite}
-use Rattle.theory.specs.Count.{count, meet}
-use Rattle.theory.specs.Log.{_∈_, here, mem-up, ⊑-cons}
+use Rattle.theory.specs.Count.{count}
+use Rattle.theory.proofs.Count.{meet}
+use Rattle.theory.specs.Log.{_∈_, here}
+use Rattle.theory.proofs.Log.{mem-up, ⊑-cons}
 use Rattle.eqaso.specs.Message.{Value, value}
 use Rattle.eqaso.specs.Algorithm.{Operation, update, Round, round0, Nodes, Wait, idle, reading, writing}
 use Rattle.eqaso.specs.Algorithm.{comparing, borrowing, Node, still, waiting, quorum?, writePass}

@@ -1,15 +1,14 @@
 -- Why a few tags and reports per writer can stand for the sets of a node: what holds of the sets of every node in a
--- run,
--- and of every value that a node is handed.
+-- run, and of every value that a node is handed.
 use Prim.Native.Nat.{ℕ, _≤_, _<_}
 use mathlib.Core.Path.{_≡_}
 use mathlib.Core.Bool.{false}
-use mathlib.Core.List.{List, _∷_}
+use mathlib.Core.List.{List, _∷_, _++_}
 use Rattle.theory.specs.Log.{_∈_}
 use Rattle.eqaso.specs.Message.{Value, Message, read, readAnswer, write, writeAnswer, echo, value, good}
 use Rattle.eqaso.specs.Algorithm.{Operation, Round, comparing, Node, messageStep}
 use Rattle.eqaso.specs.Cluster.{Event, start, after}
-use Rattle.eqaso.specs.Trace.{trace, letOutTo}
+use Rattle.eqaso.specs.Trace.{Trace, trace, letOutTo}
 use Rattle.eqaso.specs.Order.{OneTo}
 
 -- u is an earlier value of the writer of v, or v itself.
@@ -74,10 +73,23 @@ abbrev pub OpensHigh : (n f : ℕ) → Type 0
 OpensHigh n f = (i k : ℕ) (m : Message) (ν : Node) (q t : ℕ) → write q t ∈ messageStep n f i k m ν .sent
     → messageStep n f i k m ν .node .maxtag ≤ t
 
--- Closure: what a node has received, from anybody or from one node, is an initial segment, writer by writer, of what
--- the
--- writer has let out.
+-- Closure. The writer of v has let it out, to some node.
+abbrev pub LetOut : Trace → Value → Type 0
+LetOut tr v = (b : ℕ) × (value v ∈ letOutTo tr (v .writer) b)
+
+-- The values are an initial segment, writer by writer, of what the writers have let out: each was let out by its writer,
+-- and with it stand all earlier ones that this writer has let out.
+pub record InitialSegment (tr : Trace) (l : List Value) : Type 0 where
+  pub sent : (v : Value) → v ∈ l → LetOut tr v
+  pub earlier : (u v : Value) → v ∈ l → LetOut tr u → UpTo u v → u ∈ l
+
+-- What a node has received, from anybody and from one node, is an initial segment of what the writers have let out.
 abbrev pub RunClosed : (n f : ℕ) → Type 0
-RunClosed n f = (es : List Event) (c b : ℕ) (u v : Value) → value u ∈ letOutTo (trace n f es) (u .writer) b → UpTo u v
-    → let ν = after n f start es .nodes c in
-    (v ∈ ν .all → u ∈ ν .all) × ((k : ℕ) → v ∈ ν .from k → u ∈ ν .from k)
+RunClosed n f = (es : List Event) (c : ℕ) → let ν = after n f start es .nodes c in
+    InitialSegment (trace n f es) (ν .all) × ((k : ℕ) → InitialSegment (trace n f es) (ν .from k))
+
+-- Earlier by tag is earlier in time: a node, the writer or another, lets the values of a writer out to each node in the
+-- order of their tags.
+abbrev pub RunRising : (n f : ℕ) → Type 0
+RunRising n f = (es : List Event) (a b : ℕ) (u v : Value) (l rest : List Message)
+    → letOutTo (trace n f es) a b ≡ l ++ (value v ∷ rest) → value u ∈ l → u .writer ≡ v .writer → u .tag ≤ v .tag

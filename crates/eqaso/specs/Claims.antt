@@ -1,13 +1,15 @@
 -- What is claimed of every run of the algorithm: demand 3 for the sizes of document 01, and what else a reader may want
 -- to know of views and of the sets of a node.
-use Prim.Native.Nat.{ℕ, suc, _+_, _≤_, _<_}
+use Prim.Native.Nat.{ℕ, suc, _+_, _-_, _≤_, _<_, max}
 use mathlib.Core.Path.{_≡_}
-use mathlib.Core.Logic.{_⊎_}
+use mathlib.Core.Logic.{_⊎_, _↔_}
 use mathlib.Core.List.{[]}
 use lib.ListN.{take}
+use Rattle.theory.specs.Count.{count}
 use Rattle.theory.specs.Log.{_∈_}
-use Rattle.eqaso.specs.Message.{absent, View, good}
-use Rattle.eqaso.specs.Algorithm.{none, done, shown, spent}
+use Rattle.eqaso.specs.Message.{absent, View, Message, good}
+use Rattle.eqaso.specs.Algorithm.{limit, Operation, update, scan, Wait, idle, reading, writing, comparing}
+use Rattle.eqaso.specs.Algorithm.{borrowing, Node, none, done, shown, spent, react, messageStep, beginStep}
 use Rattle.eqaso.specs.Trace.{Trace, updating, begun, Fate, unfinished, ended, fate, tagAt, viewOf, entryAt}
 use Rattle.eqaso.specs.Trace.{letOutTo}
 use Rattle.eqaso.specs.Trace.{fateAt, upToEnd, ownTags}
@@ -35,6 +37,27 @@ pub record TagsAsWorded (tr : Trace) : Type 0 where
   pub none : (t c : ℕ) → ((s : ℕ) → ¬ IsTag tr t c s) → tagAt tr t c ≡ 0
   pub rise : (t u c p q : ℕ) → begun tr t ≡ updating c p → begun tr u ≡ updating c q → t < u → 0 < tagAt tr u c
       → tagAt tr t c < tagAt tr u c
+
+-- An update has read: a quorum has answered, and the tag that it uses (amendment 3) is the largest.
+abbrev pub ReadLast : (n f : ℕ) → Node → Wait → Type 0
+ReadLast n f ν (reading (update p) s u) = (n - f ≤ count s n) × (max u (ν .maxtag) ≡ limit)
+ReadLast n f ν (reading scan s u) = ⊥
+ReadLast n f ν idle = ⊥
+ReadLast n f ν (writing op r t s) = ⊥
+ReadLast n f ν (comparing op r t) = ⊥
+ReadLast n f ν (borrowing op t) = ⊥
+
+-- Amendment 5: a message ends an operation as spent just if that is an update which has now read the largest tag, and
+-- then nothing more is sent.
+pub record SpentLast (n f : ℕ) : Type 0 where
+  pub just : (i k : ℕ) (m : Message) (ν : Node)
+      → (messageStep n f i k m ν .ending ≡ spent) ↔ ReadLast n f (react k m ν .node) (react k m ν .node .wait)
+  pub silent : (i k : ℕ) (m : Message) (ν : Node) → messageStep n f i k m ν .ending ≡ spent
+      → messageStep n f i k m ν .sent ≡ react k m ν .sent
+
+-- No operation ends in its begin step.
+abbrev pub BeginsOpen : (n f : ℕ) → Type 0
+BeginsOpen n f = (i : ℕ) (op : Operation) (ν : Node) → beginStep n f i op ν .ending ≡ none
 
 -- The first view has of no node a larger tag than the second.
 abbrev pub Below : ℕ → View → View → Type 0

@@ -1,6 +1,7 @@
 -- A cluster: n nodes and a first-in first-out channel from each to each, itself included. Document 01 calls it a house,
--- with cabinets and trunks. An event is accepted or refused, and a refused one leaves all as it was.
-use Prim.Native.Nat.{ℕ, zero, suc, _-_, _≤_, _<_}
+-- with cabinets and trunks. An event is accepted or refused, and a refused one leaves all as it was. Refusals 2, 7, 9 and 12
+-- are of bytes and records: a cluster of sets does not know them.
+use Prim.Native.Nat.{ℕ, zero, suc, _-_}
 use native.Mathlib.Decide.{ℕ-discrete, decLe, decLt}
 use mathlib.Core.Path.{_≡_}
 use mathlib.Core.Logic.{ite}
@@ -10,7 +11,8 @@ use lib.ListN.{length, take}
 use Rattle.theory.specs.Count.{count}
 use Rattle.theory.specs.Update.{upd, upd2}
 use Rattle.eqaso.specs.Message.{Message, read, readAnswer, write, writeAnswer, echo, value, good}
-use Rattle.eqaso.specs.Algorithm.{limit, table, Operation, Wait, idle, reading, writing, comparing, borrowing, Node, fresh, Ending, none, Step, still, beginStep, messageStep}
+use Rattle.eqaso.specs.Algorithm.{limit, table, Operation, Wait, idle, reading, writing, comparing, borrowing}
+use Rattle.eqaso.specs.Algorithm.{Node, fresh, Ending, none, Step, still, beginStep, messageStep}
 
 -- How much of a step's list an event lets out: all of it, or its first m entries, after which the node stops.
 pub data Extent : Type 0 where
@@ -55,16 +57,29 @@ refuse k σ = record { cluster = σ; answer = refused k; sent = [] }
 abbrev pub demand : {P : Type 0} → Dec P → ℕ → Cluster → Result → Result
 demand d k σ next = ite d next (refuse k σ)
 
--- The entries of a list of messages: an answer goes to the node that asked, any other message to 1 to n in turn.
-abbrev pub addressed : ℕ → Message → List Sent
-addressed n (readAnswer to q t) = record { to = to; message = readAnswer to q t } ∷ []
-addressed n (writeAnswer to q t) = record { to = to; message = writeAnswer to q t } ∷ []
-addressed n (read q) = table (λ b. record { to = b; message = read q }) n
-addressed n (write q t) = table (λ b. record { to = b; message = write q t }) n
-addressed n (echo t) = table (λ b. record { to = b; message = echo t }) n
-addressed n (value v) = table (λ b. record { to = b; message = value v }) n
-addressed n (good t v) = table (λ b. record { to = b; message = good t v }) n
+-- Where a message goes: an answer to the node that asked, any other message to all.
+pub data Address : Type 0 where
+  one : (node : ℕ) → Address
+  all : Address
 
+abbrev pub address : Message → Address
+address (readAnswer to q t) = one to
+address (writeAnswer to q t) = one to
+address (read q) = all
+address (write q t) = all
+address (echo t) = all
+address (value v) = all
+address (good t v) = all
+
+-- The entries of a message: all are 1 to n in turn.
+abbrev pub entriesTo : ℕ → Message → Address → List Sent
+entriesTo n m (one b) = record { to = b; message = m } ∷ []
+entriesTo n m all = table (λ b. record { to = b; message = m }) n
+
+abbrev pub addressed : ℕ → Message → List Sent
+addressed n m = entriesTo n m (address m)
+
+-- The entries of a list of messages, in order.
 unfoldable pub entries : ℕ → List Message → List Sent
 entries n [] = []
 entries n (m ∷ ms) = addressed n m ++ entries n ms

@@ -1,4 +1,5 @@
 pub mod Message
+pub mod Node
 pub mod Algorithm
 pub mod Cluster
 pub mod Trace

@@ -1,16 +1,18 @@
 -- Demand 3 of document 01, as two claims about the trace of a whole list of events: there is one single order of its
 -- operations, and where no message waits for a standing node, no operation is open.
-use Prim.Native.Nat.{ℕ, zero, suc, _*_, _<_, _≤_}
+use Prim.Native.Nat.{ℕ, _<_, _≤_}
 use native.Mathlib.Decide.{ℕ-discrete}
 use mathlib.Core.Path.{_≡_}
-use mathlib.Core.Logic.{_↔_, ite}
+use mathlib.Core.Logic.{_↔_}
 use mathlib.Core.Bool.{false}
 use mathlib.Core.List.{List, [], _∷_}
 use Rattle.theory.specs.Log.{_∈_}
+use Rattle.order.specs.Sequence.{Once, before}
 use Rattle.eqaso.specs.Message.{Entry, absent}
-use Rattle.eqaso.specs.Algorithm.{Ending, none, done, shown, spent}
+use Rattle.eqaso.specs.Algorithm.{none, done, shown, spent}
 use Rattle.eqaso.specs.Cluster.{Event}
-use Rattle.eqaso.specs.Trace.{Trace, trace, Begun, nothing, updating, scanning, begun, Fate, unfinished, ended, fate, tagAt, writesBy, viewOf, entryAt, stopped, waits}
+use Rattle.eqaso.specs.Trace.{Trace, trace, Begun, nothing, updating, scanning, begun, Fate, unfinished, ended}
+use Rattle.eqaso.specs.Trace.{fate, tagAt, writesBy, viewOf, entryAt, stopped, waits}
 
 -- w is the number of a node.
 abbrev pub OneTo : ℕ → ℕ → Type 0
@@ -48,16 +50,6 @@ PlacedBy tr t (updating c p) (ended k spent) = ⊥
 abbrev pub Placed : Trace → ℕ → Type 0
 Placed tr t = PlacedBy tr t (begun tr t) (fate tr t)
 
--- No operation stands twice.
-unfoldable pub Once : List ℕ → Type 0
-Once [] = Unit {0}
-Once (t ∷ l) = ¬ (t ∈ l) × Once l
-
--- The part of a line before x.
-unfoldable pub before : ℕ → List ℕ → List ℕ
-before x [] = []
-before x (t ∷ l) = ite (ℕ-discrete t x) [] (t ∷ before x l)
-
 -- What node w has written last when the operations of a line have been done one after the other.
 unfoldable pub written : Trace → ℕ → List ℕ → Entry → Entry
 written tr w [] old = old
@@ -79,9 +71,9 @@ pub record SingleOrder (n : ℕ) (tr : Trace) : Type 0 where
   pub tagged : (t c p : ℕ) → t ∈ line → begun tr t ≡ updating c p → 0 < tagAt tr t c
   -- each scan shows of every node the last update before it, and no report where there is none,
   pub legal : (s : ℕ) → s ∈ line → IsScan (begun tr s) → (w : ℕ) → OneTo n w
-      → entryAt (viewOf (fate tr s)) w ≡ written tr w (before s line) absent
+      → entryAt (viewOf (fate tr s)) w ≡ written tr w (before ℕ-discrete s line) absent
   -- and what ended before another began stands before it.
-  pub timely : (a b : ℕ) → a ∈ line → b ∈ line → EndedBefore (fate tr a) b → a ∈ before b line
+  pub timely : (a b : ℕ) → a ∈ line → b ∈ line → EndedBefore (fate tr a) b → a ∈ before ℕ-discrete b line
 
 -- The operation at index t is not open: it has finished, or its node has stopped.
 abbrev pub ClosedBy : Trace → ℕ → Begun → Type 0

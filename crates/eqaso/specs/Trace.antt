@@ -1,16 +1,17 @@
 -- What can be seen of a cluster from outside: for each event of a list its answer and the messages let out. All of document
 -- 01's terms for demand 3 are read off this, with no look into a node. An operation is named by the index of its accepted
 -- begin. Past its end a trace goes on with refused events, so that every number is an index.
-use Prim.Native.Nat.{ℕ, zero, suc, _+_, _-_, _<_, _≤_, max}
+use Prim.Native.Nat.{ℕ, suc, _+_, _-_, max}
 use native.Mathlib.Decide.{ℕ-discrete, decLt}
-use mathlib.Core.Path.{_≡_}
 use mathlib.Core.Logic.{ite}
-use mathlib.Core.Bool.{Bool, true, false, cond, decide, not, _||_}
+use mathlib.Core.Bool.{Bool, false, cond, decide, _||_}
 use mathlib.Core.List.{List, [], _∷_, _++_}
-use lib.ListN.{length, take, drop, getD}
-use Rattle.eqaso.specs.Message.{Value, Entry, absent, View, Message, read, readAnswer, write, writeAnswer, echo, value, good}
-use Rattle.eqaso.specs.Algorithm.{Operation, update, scan, Ending, none, done, shown, spent}
-use Rattle.eqaso.specs.Cluster.{Extent, whole, cut, Event, begin, deliver, stop, Answer, refused, accepted, Sent, sentTo, Cluster, Result, start, event}
+use lib.ListN.{take, drop, getD}
+use Rattle.eqaso.specs.Message.{Entry, absent, View, Message, read, readAnswer, write, writeAnswer, echo, value}
+use Rattle.eqaso.specs.Message.{good}
+use Rattle.eqaso.specs.Algorithm.{update, scan, Ending, none, done, shown, spent}
+use Rattle.eqaso.specs.Cluster.{whole, cut, Event, begin, deliver, stop, Answer, refused, accepted, Sent, sentTo}
+use Rattle.eqaso.specs.Cluster.{Cluster, Result, start, event}
 
 -- One event of a list as seen from outside.
 pub record Seen : Type 0 where

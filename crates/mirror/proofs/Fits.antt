@@ -7,9 +7,11 @@ use mathlib.Core.Logic.{inl, inr}
 use mathlib.Core.Bool.{Bool, true, false}
 use mathlib.Core.List.{List, [], _∷_, _++_, List·Memᴰ·head, List·Memᴰ·tail, List·Memᴰ·append-cases}
 use lib.ListN.{take}
-use Rattle.theory.specs.Count.{count, count-mono}
+use Rattle.theory.specs.Count.{count}
+use Rattle.theory.proofs.Count.{count-mono}
 use Rattle.theory.specs.Log.{_∈_}
-use Rattle.theory.specs.Update.{upd, upd-same, upd-other}
+use Rattle.theory.specs.Update.{upd}
+use Rattle.theory.proofs.Update.{upd-same, upd-other}
 use Rattle.octets.specs.Test.{pick}
 use Rattle.table.specs.Loop.{tab}
 use Rattle.view.specs.View.{viewBytes}

@@ -6,7 +6,8 @@ use mathlib.Core.Bool.{Bool, true, false, cond}
 use mathlib.Core.List.{List, []}
 use lib.ListN.{length}
 use Rattle.theory.specs.Count as C
-use Rattle.theory.specs.Update.{upd, upd-self}
+use Rattle.theory.specs.Update.{upd}
+use Rattle.theory.proofs.Update.{upd-self}
 use Rattle.table.specs.Quorum.{faults}
 use Rattle.region.specs.Channel.{capacity}
 use Rattle.block.specs.Block.{halt}

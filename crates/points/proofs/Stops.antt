@@ -9,8 +9,8 @@ use lib.ListN.{length}
 use borrow.Author.Tests.{lt-ltb, le-ltb}
 use Rattle.octets.specs.Answer.{result}
 use Rattle.octets.specs.Test.{pick}
-use Rattle.theory.specs.Count as C
-use Rattle.theory.specs.Update.{upd-same, upd-other}
+use Rattle.theory.proofs.Count.{count-none}
+use Rattle.theory.proofs.Update.{upd-same, upd-other}
 use Rattle.view.specs.View.{noView}
 use Rattle.table.specs.Loop.{count}
 use Rattle.table.specs.Quorum.{faults}
@@ -72,7 +72,7 @@ module _ {n : ℕ} (low : 1 ≤ n) (small : n ≤ 16) {b : List ℕ} {σ : K.Clu
 
 -- At the start nobody has stopped.
 none-stopped : {n : ℕ} (low : 1 ≤ n) (small : n ≤ 16) {b : List ℕ} → Mirrors n b K.start → count n (stopped b) ≡ 0
-none-stopped {n} low small M = same-stopped low small M ∙ C.count-none n
+none-stopped {n} low small M = same-stopped low small M ∙ count-none n
 
 -- A fresh cluster of three nodes, of which a stops.
 module _ (b : List ℕ) (long : length b ≡ clusterSize 3) (a : ℕ) (at : OneTo 3 a) where
@@ -92,7 +92,7 @@ module _ (b : List ℕ) (long : length b ≡ clusterSize 3) (a : ℕ) (at : OneT
   one-stopped : Mirrors 3 left (K.commit a (K.cut 0) (A.still A.fresh) [] (λ c d. []) K.start .cluster)
   one-stopped = subst (λ (r : Result). Mirrors 3 (r .bytes)
       (K.commit a (K.cut 0) (A.still A.fresh) [] (λ c d. []) K.start .cluster)) (sym first-stop)
-      (stop-mirrors (omega arith) start a at (omega (arith, C.count-none 3)))
+      (stop-mirrors (omega arith) start a at (omega (arith, count-none 3)))
 
   second-stop : (c : ℕ) → OneTo 3 c → (c ≡ a → ⊥) → stop c left ≡ refuse 10 left
   second-stop c o e = many-stopped (omega arith) (omega arith) one-stopped c o (upd-other (λ k. false) a true c e)

@@ -12,7 +12,7 @@ use Rattle.octets.specs.Test.{pick}
 use Rattle.record.specs.declared.Node.{Node}
 use Rattle.node.specs.React.{raised, keep}
 use Rattle.eqaso.specs.Algorithm as A
-use Rattle.eqaso.proofs.Change.{topping}
+use Rattle.eqaso.specs.Node.{topping}
 use Rattle.eqaso.specs.Bounded.{BoundedNode}
 use Rattle.refine.specs.Meaning.{viewOf}
 use Rattle.refine.specs.Follows.{Sized, Follows}

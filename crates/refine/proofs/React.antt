@@ -24,7 +24,7 @@ use Rattle.eqaso.specs.Message as M
 use Rattle.eqaso.specs.Algorithm as A
 use Rattle.eqaso.specs.Algorithm.{_then_}
 use Rattle.eqaso.specs.Order.{OneTo}
-use Rattle.eqaso.proofs.Change.{topping, holding}
+use Rattle.eqaso.specs.Node.{topping, holding}
 use Rattle.eqaso.proofs.Sets.{has-to, has-of}
 use Rattle.eqaso.specs.Bounded.{BoundedNode}
 use Rattle.eqaso.specs.Bounded.{Expected}

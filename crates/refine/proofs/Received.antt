@@ -9,7 +9,8 @@ use mathlib.Core.List.{List, _∷_}
 use lib.Dec.{leb}
 use lib.ListN.{length, set, length-set}
 use borrow.Author.Tests.{lt-ltb, le-ltb}
-use Rattle.theory.specs.Update.{upd, upd-all}
+use Rattle.theory.specs.Update.{upd}
+use Rattle.theory.proofs.Update.{upd-all}
 use Rattle.theory.specs.Log.{_∈_}
 use Rattle.view.specs.declared.Report.{Report}
 use Rattle.view.specs.declared.View.{View}
@@ -22,8 +23,9 @@ use Rattle.node.specs.React.{received, isNew, roundHolds}
 use Rattle.eqaso.specs.Message as M
 use Rattle.eqaso.specs.Algorithm as A
 use Rattle.eqaso.specs.Order.{OneTo}
-use Rattle.eqaso.proofs.Change.{holding}
-use Rattle.eqaso.proofs.Newest.{latest, newest-other, latest-other}
+use Rattle.eqaso.specs.Node.{holding}
+use Rattle.eqaso.specs.Node.{latest}
+use Rattle.eqaso.proofs.Newest.{newest-other, latest-other}
 use Rattle.eqaso.proofs.Bounded.{Arrives, seen-by-tag, not-below, not-ahead, heard-then, last-then, held-then}
 use Rattle.refine.specs.Meaning.{code, entryOf}
 use Rattle.refine.specs.Follows.{SameWait, Sized, Holds, HoldsRound, Follows}

@@ -13,7 +13,7 @@ use Rattle.record.specs.declared.Wait.the-variants.{Idle, Reading, Writing, Com
 use Rattle.eqaso.specs.Message as M
 use Rattle.eqaso.specs.Algorithm as A
 use Rattle.eqaso.specs.Order.{OneTo}
-use Rattle.eqaso.proofs.Newest.{latest}
+use Rattle.eqaso.specs.Node.{latest}
 use Rattle.refine.specs.Meaning.{entryOf, viewOf, operationOf, kindOf, number}
 
 -- The senders counted, as a test and as a number.

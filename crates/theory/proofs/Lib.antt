@@ -1,0 +1,3 @@
+pub mod Count
+pub mod Update
+pub mod Log
