@@ -1,0 +1,260 @@
+//! The differential run: both sides get the same events on their own copy of a cluster, and every answer, every lent
+//! view and every byte must be the same. Some clusters are damaged on the way.
+use crate::dice::Dice;
+use crate::side::{Event, Numbers, Plain, Proved, Side, View};
+use crate::workload::waiting;
+
+/// Numbers near the limits.
+fn odd_number(dice: &mut Dice) -> u64 {
+    const TOP: u64 = i64::MAX as u64;
+    let near = [0, 1, 2, 3, 4, 5, 16, 17, 255, 256, TOP - 5, TOP - 4, TOP - 1, TOP, TOP + 1, u64::MAX];
+    match dice.below(3) {
+        0 => dice.next() >> dice.below(64),
+        _ => near[dice.below(near.len())],
+    }
+}
+
+/// What a session prefers: a node that sends and one that hears slowly, and how often operations begin and nodes stop.
+struct Habits {
+    sender: usize,
+    receiver: usize,
+    begins: usize,
+    stops: usize,
+}
+
+fn some_event(dice: &mut Dice, n: usize, habits: &Habits, b: &[u8]) -> Event {
+    let odd = dice.chance(10);
+    let node = |dice: &mut Dice| if odd { odd_number(dice) as usize } else { dice.below(n) + 1 };
+    let cut = dice.chance(habits.stops).then(|| if odd { odd_number(dice) as usize } else { dice.below(40) });
+    if dice.chance(habits.begins) {
+        return match dice.below(2) {
+            0 => Event::Update { node: node(dice), report: dice.next() >> dice.below(64), cut },
+            _ => Event::Scan { node: node(dice), cut },
+        };
+    }
+    if dice.chance(habits.stops) {
+        return Event::Stop { node: node(dice) };
+    }
+    for _ in 0..2 * n * n {
+        let (from, to) = (dice.below(n) + 1, dice.below(n) + 1);
+        let slow = from == habits.sender || to == habits.receiver;
+        if !odd && waiting(b, from, to) > 0 && (!slow || dice.chance(50)) {
+            return Event::Deliver { from, to, cut };
+        }
+    }
+    Event::Deliver { from: node(dice), to: node(dice), cut }
+}
+
+/// Damages a few places: words of a record, the head of a channel, bytes of the oldest message, or any bytes.
+fn damage(dice: &mut Dice, n: usize, b: &mut [u8]) {
+    let block = 1 + 73345 * dice.below(n);
+    let channel = block + 3169 + 4386 * dice.below(n);
+    let put = |b: &mut [u8], at: usize, x: u64| b[at..at + 8].copy_from_slice(&x.to_be_bytes());
+    match dice.below(12) {
+        0..=2 => {
+            let at = block + 1 + 8 * dice.below(12);
+            put(b, at, odd_number(dice));
+        }
+        3 => {
+            let at = block + 1 + 96 + 8 * dice.below(384);
+            put(b, at, odd_number(dice));
+        }
+        4 => b[block] = dice.below(3) as u8,
+        5 => b[channel] = dice.below(18) as u8,
+        6 => b[channel + 1] = dice.next() as u8,
+        7 => {
+            let slot = channel + 2 + 274 * (b[channel + 1] as usize % 16);
+            b[slot + dice.below(34)] = dice.below(9) as u8;
+        }
+        8..=10 => {
+            // The request number near its limit, and the wait's code, kind and round.
+            put(b, block + 25, i64::MAX as u64 - dice.below(7) as u64);
+            for word in 5..8 {
+                if dice.chance(300) {
+                    put(b, block + 1 + 8 * word, dice.below(6) as u64);
+                }
+            }
+        }
+        _ => {
+            let at = dice.below(b.len());
+            b[at] = dice.next() as u8;
+        }
+    }
+}
+
+struct Pair {
+    proved: Vec<u8>,
+    plain: Vec<u8>,
+    views: (View, View),
+}
+
+impl Pair {
+    fn new(bytes: Vec<u8>) -> Pair {
+        Pair { plain: bytes.clone(), proved: bytes, views: ([7; 256], [7; 256]) }
+    }
+
+    fn same(&self, told: (u8, u8), what: &dyn std::fmt::Debug) -> u8 {
+        assert_eq!(told.0, told.1, "another answer to {what:?}");
+        assert!(self.views.0 == self.views.1, "another view after {what:?}");
+        assert!(self.proved == self.plain, "other bytes after {what:?}");
+        told.0
+    }
+
+    fn fresh(&mut self, n: usize) -> u8 {
+        let told = (Proved::fresh(n, &mut self.proved), Plain::fresh(n, &mut self.plain));
+        self.same(told, &("fresh", n))
+    }
+
+    fn apply(&mut self, event: &Event) -> u8 {
+        let told = (
+            Proved::apply(&mut self.proved, event, &mut self.views.0),
+            Plain::apply(&mut self.plain, event, &mut self.views.1),
+        );
+        self.same(told, event)
+    }
+
+    fn damage(&mut self, dice: &mut Dice, n: usize) {
+        damage(dice, n, &mut self.proved);
+        self.plain.copy_from_slice(&self.proved);
+    }
+}
+
+/// How often each answer was given.
+type Tally = [u64; 256];
+
+/// The top tag and the last request number of each node, near their limit.
+fn age(dice: &mut Dice, n: usize, b: &mut [u8]) {
+    for block in (0..n).map(|i| 1 + 73345 * i) {
+        for at in [block + 17, block + 25] {
+            b[at..at + 8].copy_from_slice(&(i64::MAX as u64 - dice.below(30) as u64).to_be_bytes());
+        }
+    }
+}
+
+/// One cluster from fresh; some are made old at once. Where `damaged`, some events come upon a damaged cluster, which is
+/// put right again after a few of them.
+fn session(n: usize, seed: u64, events: usize, damaged: bool, tally: &mut Tally) {
+    let mut dice = Dice::new(seed);
+    let habits = Habits {
+        sender: dice.below(2 * n),
+        receiver: dice.below(2 * n),
+        begins: 20 + dice.below(200),
+        stops: dice.below(3),
+    };
+    let mut pair = Pair::new((0..Proved::size(n)).map(|_| dice.next() as u8).collect());
+    tally[pair.fresh(n) as usize] += 1;
+    if dice.chance(250) {
+        age(&mut dice, n, &mut pair.proved);
+        pair.plain.copy_from_slice(&pair.proved);
+    }
+    let mut spare = pair.proved.clone();
+    for _ in 0..events {
+        if damaged && dice.chance(50) {
+            spare.copy_from_slice(&pair.proved);
+            for _ in 0..=dice.below(3) {
+                pair.damage(&mut dice, n);
+            }
+            for _ in 0..=dice.below(12) {
+                let code = pair.apply(&some_event(&mut dice, n, &habits, &pair.proved));
+                tally[code as usize] += 1;
+            }
+            pair.proved.copy_from_slice(&spare);
+            pair.plain.copy_from_slice(&spare);
+        }
+        tally[pair.apply(&some_event(&mut dice, n, &habits, &pair.proved)) as usize] += 1;
+    }
+}
+
+/// Lent bytes of a wrong length, or with any n stated in them.
+fn strange_bytes(seed: u64, tally: &mut Tally) {
+    let mut dice = Dice::new(seed);
+    let habits = Habits { sender: 0, receiver: 0, begins: 300, stops: 100 };
+    for n in 0..=18 {
+        for len in [0, 1, 2, 100, 73345, 73346, 73347, Proved::size(n)] {
+            let mut pair = Pair::new((0..len).map(|_| dice.next() as u8).collect());
+            if len > 0 {
+                pair.proved[0] = n as u8;
+                pair.plain[0] = n as u8;
+            }
+            for _ in 0..4 {
+                tally[pair.apply(&some_event(&mut dice, 3, &habits, &[])) as usize] += 1;
+            }
+            tally[pair.fresh(n) as usize] += 1;
+        }
+    }
+}
+
+fn some_view(dice: &mut Dice, n: usize) -> Vec<u8> {
+    let mut view = Vec::new();
+    for _ in 0..n {
+        let tag = if dice.chance(300) {
+            0
+        } else if dice.chance(900) {
+            dice.next() >> 20
+        } else {
+            odd_number(dice)
+        };
+        let report = if tag == 0 && dice.chance(970) { 0 } else { dice.next() };
+        view.extend(tag.to_be_bytes());
+        view.extend(report.to_be_bytes());
+    }
+    if dice.chance(50) {
+        view.resize(dice.below(300), 0);
+    }
+    view
+}
+
+/// Messages of all kinds, written, then read whole, damaged or shortened; and figures of views.
+fn codec(seed: u64, rounds: usize, tally: &mut Tally) {
+    let mut dice = Dice::new(seed);
+    for _ in 0..rounds {
+        let n = if dice.chance(950) { dice.below(16) + 1 } else { odd_number(&mut dice) as usize };
+        let view = some_view(&mut dice, n.min(18));
+        let kind = if dice.chance(950) { dice.below(7) as u64 + 1 } else { odd_number(&mut dice) };
+        let number = |dice: &mut Dice| if dice.chance(800) { dice.next() >> 2 } else { odd_number(dice) };
+        let writer = if dice.chance(900) { dice.below(17) as u64 } else { odd_number(&mut dice) };
+        let numbers: Numbers = [kind, number(&mut dice), number(&mut dice), writer, dice.next()];
+        let room = if dice.chance(900) { 274 } else { dice.below(300) };
+        let (mut one, mut two) = (vec![9; room], vec![9; room]);
+        let told = (Proved::write(n, &numbers, &view, &mut one), Plain::write(n, &numbers, &view, &mut two));
+        assert_eq!(told.0, told.1, "writing {numbers:?}");
+        assert_eq!(one, two, "written {numbers:?}");
+        tally[told.0.min(15)] += 1;
+        let mut bytes = one;
+        bytes.truncate(if told.0 > 12 && dice.chance(900) { told.0 } else { dice.below(300) });
+        if dice.chance(300) && !bytes.is_empty() {
+            let at = dice.below(bytes.len());
+            bytes[at] = dice.next() as u8;
+        }
+        let (mut one, mut two) = ([5; 5], [5; 5]);
+        let told = (Proved::read(n, &bytes, &mut one), Plain::read(n, &bytes, &mut two));
+        assert_eq!((told.0, one), (told.1, two), "reading {bytes:?}");
+        tally[told.0 as usize] += 1;
+        let (mut one, mut two) = ([5; 4], [5; 4]);
+        let told = (Proved::figures(n, &view, &mut one), Plain::figures(n, &view, &mut two));
+        assert_eq!((told.0, one), (told.1, two), "figures of {view:?}");
+        tally[told.0 as usize] += 1;
+    }
+}
+
+/// Runs everything; panics at the first difference.
+pub fn check(seeds: u64) {
+    for n in 0..=20 {
+        assert_eq!(Proved::size(n), Plain::size(n));
+    }
+    let mut events: Tally = [0; 256];
+    for seed in 0..seeds {
+        for n in 1..=16 {
+            session(n, 1000 * seed + n as u64, 1000 + 6000 / n, seed % 2 == 1, &mut events);
+        }
+        strange_bytes(seed, &mut events);
+    }
+    let mut messages: Tally = [0; 256];
+    codec(1, 200_000, &mut messages);
+    for (what, tally) in [("cluster events", events), ("messages and figures", messages)] {
+        println!("{what}: {} answers, all the same", tally.iter().sum::<u64>());
+        for (code, count) in tally.iter().enumerate().filter(|(_, &count)| count > 0) {
+            println!("  answer {code:2}: {count}");
+        }
+    }
+}

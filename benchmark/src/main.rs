@@ -1,0 +1,22 @@
+//! The proved cluster beside a plain one: whether they do the same, and how fast each is.
+mod check;
+mod clock;
+mod dice;
+mod measure;
+mod plain;
+mod side;
+mod workload;
+
+fn main() {
+    let words: Vec<String> = std::env::args().skip(1).collect();
+    match words.iter().map(String::as_str).collect::<Vec<_>>()[..] {
+        [] => measure::all(1_000_000),
+        ["--long"] => measure::all(10_000_000),
+        ["--check"] => check::check(20),
+        ["--replay", side, n, events] => measure::replay(side, n.parse().unwrap(), events.parse().unwrap()),
+        _ => {
+            eprintln!("benchmark [--long | --check | --replay proved|plain NODES EVENTS]");
+            std::process::exit(2);
+        }
+    }
+}

@@ -1,0 +1,54 @@
+//! The measurements: both sides in turn on the same input, the best of several runs of each.
+mod codec;
+mod events;
+
+/// How often each side runs; the best time counts.
+const RUNS: usize = 15;
+
+/// What the proved code may take, as a multiple of plain Rust's time.
+const TARGET: f64 = 1.2;
+
+/// Seconds that each side takes, the best of the runs.
+struct Times {
+    proved: f64,
+    plain: f64,
+}
+
+impl Times {
+    fn of(mut proved: impl FnMut() -> f64, mut plain: impl FnMut() -> f64) -> Times {
+        let mut best = Times { proved: f64::MAX, plain: f64::MAX };
+        for _ in 0..RUNS {
+            best.proved = best.proved.min(proved());
+            best.plain = best.plain.min(plain());
+        }
+        best
+    }
+
+    fn ratio(&self) -> f64 {
+        self.proved / self.plain
+    }
+}
+
+/// Everything, with a session of `longest` events at the end.
+pub fn all(longest: usize) {
+    println!(
+        "processor time of the thread, best of {RUNS} runs of each side, the two in turn; ratio = proved / plain\n"
+    );
+    let events = events::by_nodes();
+    println!();
+    events::growth_with_nodes();
+    println!();
+    let codec = codec::messages();
+    println!();
+    let figures = codec::figures();
+    println!();
+    events::growth_with_length(longest);
+    println!(
+        "\nlargest ratios: events {events:.2}, messages {codec:.2}, figures {figures:.2}; the target is {TARGET:.2}"
+    );
+}
+
+/// Runs one side alone, for a profiler.
+pub fn replay(side: &str, n: usize, count: usize) {
+    events::replay(side, n, count);
+}

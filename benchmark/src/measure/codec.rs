@@ -1,0 +1,107 @@
+//! Messages read and written, by kind, and figures.
+use super::Times;
+use crate::clock::seconds;
+use crate::dice::Dice;
+use crate::side::{Numbers, Plain, Proved, Side};
+use std::hint::black_box;
+
+/// How often the same inputs are gone through in one run.
+const ROUNDS: usize = 300;
+
+/// The nodes that messages are for.
+const NODES: usize = 16;
+
+struct Case {
+    numbers: Numbers,
+    view: Vec<u8>,
+    bytes: Vec<u8>,
+}
+
+/// A view whose tags are at most `top`.
+fn some_view(dice: &mut Dice, n: usize, top: u64) -> Vec<u8> {
+    (0..n).flat_map(|_| [dice.next() % top + 1, dice.next()]).flat_map(u64::to_be_bytes).collect()
+}
+
+fn some_message(dice: &mut Dice, kind: u64) -> Case {
+    let tag = dice.next() >> 2 | 1 << 62;
+    let numbers = [kind, dice.next() >> 2 | 1, tag, dice.next() % 16 + 1, dice.next()];
+    let view = some_view(dice, NODES, tag);
+    let mut bytes = vec![0; 274];
+    let size = Plain::write(NODES, &numbers, &view, &mut bytes);
+    bytes.truncate(size);
+    Case { numbers, view, bytes }
+}
+
+/// Prints bytes per second by kind, and answers the largest ratio.
+pub fn messages() -> f64 {
+    println!("messages of sixteen nodes, megabytes per second");
+    println!("{:>14} {:>6} {:>12} {:>12} {:>8}", "kind", "", "proved", "plain", "ratio");
+    let kinds = ["read", "read answer", "write", "write answer", "echo", "value", "good"];
+    let mut dice = Dice::new(3);
+    let mut largest: f64 = 0.0;
+    for (kind, name) in (1..).zip(kinds) {
+        let cases: Vec<Case> = (0..64).map(|_| some_message(&mut dice, kind)).collect();
+        let bytes = (ROUNDS * cases.iter().map(|c| c.bytes.len()).sum::<usize>()) as f64;
+        for (what, t) in [
+            ("read", Times::of(|| read_all::<Proved>(&cases), || read_all::<Plain>(&cases))),
+            ("write", Times::of(|| write_all::<Proved>(&cases), || write_all::<Plain>(&cases))),
+        ] {
+            let (proved, plain) = (bytes / t.proved / 1e6, bytes / t.plain / 1e6);
+            println!("{name:>14} {what:>6} {proved:>12.0} {plain:>12.0} {:>8.2}", t.ratio());
+            largest = largest.max(t.ratio());
+        }
+    }
+    largest
+}
+
+fn read_all<S: Side>(cases: &[Case]) -> f64 {
+    let mut numbers = [0; 5];
+    seconds(|| {
+        for _ in 0..ROUNDS {
+            for case in cases {
+                black_box(S::read(NODES, black_box(&case.bytes), &mut numbers));
+                black_box(&numbers);
+            }
+        }
+    })
+}
+
+fn write_all<S: Side>(cases: &[Case]) -> f64 {
+    let mut out = [0; 274];
+    seconds(|| {
+        for _ in 0..ROUNDS {
+            for case in cases {
+                black_box(S::write(NODES, black_box(&case.numbers), black_box(&case.view), &mut out));
+                black_box(&out);
+            }
+        }
+    })
+}
+
+/// Prints figures per second, and answers the largest ratio.
+pub fn figures() -> f64 {
+    println!("figures, views per second");
+    println!("{:>6} {:>12} {:>12} {:>8}", "nodes", "proved", "plain", "ratio");
+    let mut dice = Dice::new(4);
+    let mut largest: f64 = 0.0;
+    for n in [1, 3, 5, 16] {
+        let views: Vec<Vec<u8>> = (0..64).map(|_| some_view(&mut dice, n, u64::MAX / 2)).collect();
+        let t = Times::of(|| sum_all::<Proved>(n, &views), || sum_all::<Plain>(n, &views));
+        let count = (ROUNDS * views.len()) as f64;
+        println!("{n:>6} {:>12.0} {:>12.0} {:>8.2}", count / t.proved, count / t.plain, t.ratio());
+        largest = largest.max(t.ratio());
+    }
+    largest
+}
+
+fn sum_all<S: Side>(n: usize, views: &[Vec<u8>]) -> f64 {
+    let mut sums = [0; 4];
+    seconds(|| {
+        for _ in 0..ROUNDS {
+            for view in views {
+                black_box(S::figures(n, black_box(view), &mut sums));
+                black_box(&sums);
+            }
+        }
+    })
+}

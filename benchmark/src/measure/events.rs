@@ -1,0 +1,135 @@
+//! Events of a cluster: by the number of nodes, and by the length of the session.
+use super::Times;
+use crate::clock::seconds;
+use crate::side::{Event, Plain, Proved, Side, View};
+use crate::workload::{Order, Workload};
+use std::hint::black_box;
+
+const NONE: Event = Event::Stop { node: 0 };
+
+fn run<S: Side>(bytes: &mut [u8], events: &[Event]) -> f64 {
+    let mut view: View = [0; 256];
+    seconds(|| {
+        for event in events {
+            black_box(S::apply(bytes, event, &mut view));
+        }
+    })
+}
+
+/// The time per event, in nanoseconds, of the same events from the same bytes on both sides.
+fn time_events(n: usize, order: Order, seed: u64, count: usize) -> Times {
+    let mut workload = Workload::new(n, order, seed);
+    let mut events = vec![NONE; count];
+    workload.fill(&mut events);
+    let start = workload.bytes().to_vec();
+    workload.fill(&mut events);
+    let (mut one, mut two) = (start.clone(), start.clone());
+    let times = Times::of(
+        || {
+            one.copy_from_slice(&start);
+            run::<Proved>(&mut one, &events)
+        },
+        || {
+            two.copy_from_slice(&start);
+            run::<Plain>(&mut two, &events)
+        },
+    );
+    assert!(one == two, "the sides differ");
+    let each = 1e9 / count as f64;
+    Times { proved: times.proved * each, plain: times.plain * each }
+}
+
+/// Prints events per second, and answers the largest ratio.
+pub fn by_nodes() -> f64 {
+    println!("events per second, by nodes and order of delivery");
+    println!("{:>6} {:>12} {:>12} {:>12} {:>8}", "nodes", "order", "proved", "plain", "ratio");
+    let mut largest: f64 = 0.0;
+    for n in [1, 3, 5, 16] {
+        for (order, name) in [(Order::Random, "random"), (Order::RoundRobin, "round robin")] {
+            let t = time_events(n, order, 7, 2000);
+            println!("{n:>6} {name:>12} {:>12.0} {:>12.0} {:>8.2}", 1e9 / t.proved, 1e9 / t.plain, t.ratio());
+            largest = largest.max(t.ratio());
+        }
+    }
+    largest
+}
+
+pub fn growth_with_nodes() {
+    println!("nanoseconds per event as the nodes grow, random order");
+    println!("{:>6} {:>12} {:>12} {:>8}", "nodes", "proved", "plain", "ratio");
+    for n in 1..=16 {
+        let t = time_events(n, Order::Random, 11, 1000);
+        println!("{n:>6} {:>12.0} {:>12.0} {:>8.2}", t.proved, t.plain, t.ratio());
+    }
+}
+
+/// Resident memory of this process, in KiB.
+fn resident() -> u64 {
+    let status = std::fs::read_to_string("/proc/self/status").unwrap_or_default();
+    let line = status.lines().find(|l| l.starts_with("VmRSS:")).unwrap_or("");
+    line.split_whitespace().nth(1).and_then(|w| w.parse().ok()).unwrap_or(0)
+}
+
+/// The lots of a session whose times are kept.
+const LOTS: usize = 1000;
+
+/// The times of the last lots.
+struct Lots {
+    times: Vec<f64>,
+    count: usize,
+}
+
+impl Lots {
+    fn new() -> Lots {
+        Lots { times: vec![1.0; LOTS], count: 0 }
+    }
+
+    fn add(&mut self, time: f64) {
+        self.times[self.count % LOTS] = time;
+        self.count += 1;
+    }
+
+    fn median(&mut self) -> f64 {
+        let kept = &mut self.times[..self.count.min(LOTS)];
+        kept.sort_unstable_by(f64::total_cmp);
+        kept[kept.len() / 2]
+    }
+}
+
+/// One session of three nodes. Its events are chosen in lots, and each lot runs on both sides before the next. All
+/// memory of the benchmark itself is in use from the start.
+pub fn growth_with_length(longest: usize) {
+    println!("one session of three nodes, random order: nanoseconds per event (median of the last lots), memory");
+    println!("{:>10} {:>12} {:>12} {:>8} {:>14}", "events", "proved", "plain", "ratio", "resident KiB");
+    let mut workload = Workload::new(3, Order::Random, 5);
+    let (mut one, mut two) = (workload.bytes().to_vec(), workload.bytes().to_vec());
+    let mut events = vec![NONE; 1000];
+    let (mut proved, mut plain) = (Lots::new(), Lots::new());
+    let (mut done, mut mark) = (0, 1000);
+    while done < longest {
+        while done < mark {
+            workload.fill(&mut events);
+            proved.add(run::<Proved>(&mut one, &events));
+            plain.add(run::<Plain>(&mut two, &events));
+            assert!(one == two, "the sides differ");
+            done += events.len();
+        }
+        let each = 1e9 / events.len() as f64;
+        let t = Times { proved: proved.median() * each, plain: plain.median() * each };
+        println!("{done:>10} {:>12.0} {:>12.0} {:>8.2} {:>14}", t.proved, t.plain, t.ratio(), resident());
+        mark *= 10;
+    }
+}
+
+/// Runs one side alone.
+pub fn replay(side: &str, n: usize, count: usize) {
+    let mut workload = Workload::new(n, Order::Random, 7);
+    let mut bytes = workload.bytes().to_vec();
+    let mut events = vec![NONE; count];
+    workload.fill(&mut events);
+    let time = match side {
+        "proved" => run::<Proved>(&mut bytes, &events),
+        _ => run::<Plain>(&mut bytes, &events),
+    };
+    println!("{:.0} ns per event", time * 1e9 / count as f64);
+}

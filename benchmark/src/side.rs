@@ -1,0 +1,202 @@
+//! The two sides behind one interface: the calls of the crate `exports`, as numbers and lent memory.
+use crate::plain::cluster;
+use crate::plain::figures::figures;
+use crate::plain::message::{read, write, Message};
+use crate::plain::record::Operation;
+use crate::plain::step::{Ending, Rule};
+use crate::plain::Refusal;
+
+/// What a client asks of a cluster. A cut lets out its first entries, then the node stops.
+#[derive(Clone, Copy, Debug)]
+pub enum Event {
+    Update { node: usize, report: u64, cut: Option<usize> },
+    Scan { node: usize, cut: Option<usize> },
+    Deliver { from: usize, to: usize, cut: Option<usize> },
+    Stop { node: usize },
+}
+
+/// The numbers of a message: kind, request, tag, writer, report.
+pub type Numbers = [u64; 5];
+
+pub type View = [u8; 256];
+
+/// An answer is a code: 0, a refusal from 1 to 12, 13 for spent, 20 and more for done, 30 and more for a scan.
+pub trait Side {
+    fn size(n: usize) -> usize;
+    fn fresh(n: usize, b: &mut [u8]) -> u8;
+    fn apply(b: &mut [u8], event: &Event, view: &mut View) -> u8;
+    fn read(n: usize, b: &[u8], numbers: &mut Numbers) -> u8;
+    fn write(n: usize, numbers: &Numbers, view: &[u8], out: &mut [u8]) -> usize;
+    fn figures(n: usize, view: &[u8], sums: &mut [u32; 4]) -> u8;
+}
+
+/// The proved code. Its declarations repeat those of `crates/exports/src/lib.rt`: a slice is a pointer and a length.
+pub struct Proved;
+
+extern "C" {
+    fn snapshot_size(n: usize) -> usize;
+    fn snapshot_fresh(n: usize, b: *mut u8, len: usize) -> u8;
+    fn snapshot_begin_update(b: *mut u8, len: usize, c: usize, report: u64, cut: bool, m: usize) -> u8;
+    fn snapshot_begin_scan(b: *mut u8, len: usize, c: usize, cut: bool, m: usize) -> u8;
+    fn snapshot_deliver(b: *mut u8, len: usize, a: usize, c: usize, cut: bool, m: usize, view: *mut View) -> u8;
+    fn snapshot_stop(b: *mut u8, len: usize, c: usize) -> u8;
+    fn snapshot_read(n: usize, b: *const u8, len: usize, numbers: *mut Numbers) -> u8;
+    fn snapshot_write(
+        n: usize,
+        kind: u64,
+        request: u64,
+        tag: u64,
+        writer: usize,
+        report: u64,
+        view: *const u8,
+        view_len: usize,
+        out: *mut u8,
+        out_len: usize,
+    ) -> usize;
+    fn snapshot_figures(n: usize, view: *const u8, len: usize, sums: *mut [u32; 4]) -> u8;
+}
+
+// Every call below lends whole slices and arrays that do not overlap, which is all that the proved code asks.
+impl Side for Proved {
+    fn size(n: usize) -> usize {
+        unsafe { snapshot_size(n) }
+    }
+
+    fn fresh(n: usize, b: &mut [u8]) -> u8 {
+        unsafe { snapshot_fresh(n, b.as_mut_ptr(), b.len()) }
+    }
+
+    fn apply(b: &mut [u8], event: &Event, view: &mut View) -> u8 {
+        let (p, len) = (b.as_mut_ptr(), b.len());
+        let extent = |cut: Option<usize>| (cut.is_some(), cut.unwrap_or(0));
+        match *event {
+            Event::Update { node, report, cut } => {
+                let (cut, m) = extent(cut);
+                unsafe { snapshot_begin_update(p, len, node, report, cut, m) }
+            }
+            Event::Scan { node, cut } => {
+                let (cut, m) = extent(cut);
+                unsafe { snapshot_begin_scan(p, len, node, cut, m) }
+            }
+            Event::Deliver { from, to, cut } => {
+                let (cut, m) = extent(cut);
+                unsafe { snapshot_deliver(p, len, from, to, cut, m, view) }
+            }
+            Event::Stop { node } => unsafe { snapshot_stop(p, len, node) },
+        }
+    }
+
+    fn read(n: usize, b: &[u8], numbers: &mut Numbers) -> u8 {
+        unsafe { snapshot_read(n, b.as_ptr(), b.len(), numbers) }
+    }
+
+    fn write(n: usize, numbers: &Numbers, view: &[u8], out: &mut [u8]) -> usize {
+        let [kind, request, tag, writer, report] = *numbers;
+        unsafe {
+            snapshot_write(
+                n,
+                kind,
+                request,
+                tag,
+                writer as usize,
+                report,
+                view.as_ptr(),
+                view.len(),
+                out.as_mut_ptr(),
+                out.len(),
+            )
+        }
+    }
+
+    fn figures(n: usize, view: &[u8], sums: &mut [u32; 4]) -> u8 {
+        unsafe { snapshot_figures(n, view.as_ptr(), view.len(), sums) }
+    }
+}
+
+/// The plain code.
+pub struct Plain;
+
+fn code(answer: Result<Ending, Refusal>) -> u8 {
+    let rule = |r| match r {
+        Rule::Direct(round) => round as u8,
+        Rule::Borrowed => 0,
+    };
+    match answer {
+        Err(refusal) => refusal,
+        Ok(Ending::None) => 0,
+        Ok(Ending::Spent) => 13,
+        Ok(Ending::Done(r)) => 20 + rule(r),
+        Ok(Ending::Scan(r)) => 30 + rule(r),
+    }
+}
+
+// Called and not inlined, as a static library's functions are.
+impl Side for Plain {
+    #[inline(never)]
+    fn size(n: usize) -> usize {
+        cluster::size(n)
+    }
+
+    #[inline(never)]
+    fn fresh(n: usize, b: &mut [u8]) -> u8 {
+        code(cluster::fresh(n, b))
+    }
+
+    #[inline(never)]
+    fn apply(b: &mut [u8], event: &Event, view: &mut View) -> u8 {
+        code(match *event {
+            Event::Update { node, report, cut } => {
+                cluster::begin(b, node, Operation::Update(report.to_be_bytes()), cut)
+            }
+            Event::Scan { node, cut } => cluster::begin(b, node, Operation::Scan, cut),
+            Event::Deliver { from, to, cut } => cluster::deliver(b, from, to, cut, view),
+            Event::Stop { node } => cluster::stop(b, node),
+        })
+    }
+
+    #[inline(never)]
+    fn read(n: usize, b: &[u8], numbers: &mut Numbers) -> u8 {
+        let m = match read(n, b) {
+            Ok(m) => m,
+            Err(refusal) => return refusal,
+        };
+        *numbers = match m {
+            Message::Read { request } => [1, request, 0, 0, 0],
+            Message::ReadAnswer { request, tag } => [2, request, tag, 0, 0],
+            Message::Write { request, tag } => [3, request, tag, 0, 0],
+            Message::WriteAnswer { request, tag } => [4, request, tag, 0, 0],
+            Message::Echo { tag } => [5, 0, tag, 0, 0],
+            Message::Value { tag, writer, report } => [6, 0, tag, u64::from(writer), u64::from_be_bytes(report)],
+            Message::Good { tag } => [7, 0, tag, 0, 0],
+        };
+        0
+    }
+
+    #[inline(never)]
+    fn write(n: usize, numbers: &Numbers, view: &[u8], out: &mut [u8]) -> usize {
+        let [kind, request, tag, writer, report] = *numbers;
+        let m = match kind {
+            1 => Message::Read { request },
+            2 => Message::ReadAnswer { request, tag },
+            3 => Message::Write { request, tag },
+            4 => Message::WriteAnswer { request, tag },
+            5 => Message::Echo { tag },
+            // A writer past 255 is none of 1 to n, and 0 is none either.
+            6 => Message::Value { tag, writer: writer.try_into().unwrap_or(0), report: report.to_be_bytes() },
+            7 => Message::Good { tag },
+            _ => return if (1..=16).contains(&n) { 7 } else { 1 },
+        };
+        write(n, &m, view, out).unwrap_or_else(usize::from)
+    }
+
+    #[inline(never)]
+    fn figures(n: usize, view: &[u8], sums: &mut [u32; 4]) -> u8 {
+        match figures(n, view) {
+            Ok(s) => {
+                *sums = s;
+                0
+            }
+            Err(refusal) => refusal,
+        }
+    }
+}

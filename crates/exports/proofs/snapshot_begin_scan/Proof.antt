@@ -1,0 +1,17 @@
+-- `exports::snapshot_begin_scan` meets its contract.
+use borrow.Author.Needs.{needs}
+use mathlib.Core.Path.{sym, ap, _∙_}
+use Rattle.exports.specs.Code.{eventCode}
+use Rattle.exports.proofs.snapshot_begin_scan.Statement.{statement}
+use Rattle.exports.proofs.snapshot_begin_scan.Tie as tie
+
+returns : tie.Need-returns
+returns c =
+    let d = c .before .before .before .begin in
+    rw (sym (c .before .before .before .before .extent-of .ensures))
+    (c .event-code .ensures ∙ ap eventCode (d .ensures .0), d .ensures .2)
+
+pub snapshot-begin-scan-spec : {M : Type 1} → statement M
+snapshot-begin-scan-spec =
+    tie.close
+    (tie.spec (λ c κs. search needs) (λ c κs. search needs) (λ c κs. search needs) (λ c. search needs) returns)

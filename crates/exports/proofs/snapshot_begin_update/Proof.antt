@@ -1,0 +1,19 @@
+-- `exports::snapshot_begin_update` meets its contract.
+use borrow.Author.Needs.{needs}
+use mathlib.Core.Path.{sym, ap, _∙_}
+use Rattle.exports.specs.Code.{eventCode}
+use Rattle.exports.proofs.snapshot_begin_update.Statement.{statement}
+use Rattle.exports.proofs.snapshot_begin_update.Tie as tie
+
+returns : tie.Need-returns
+returns c =
+    let d = c .before .before .before .begin in
+    let x = c .before .before .before .before in
+    rw (sym (x .extent-of .ensures), sym (x .before .report-from .ensures))
+    (c .event-code .ensures ∙ ap eventCode (d .ensures .0), d .ensures .2)
+
+pub snapshot-begin-update-spec : {M : Type 1} → statement M
+snapshot-begin-update-spec =
+    tie.close
+    (tie.spec (λ c κs. search needs) (λ c κs. search needs) (λ c κs. search needs) (λ c κs. search needs)
+    (λ c. search needs) returns)

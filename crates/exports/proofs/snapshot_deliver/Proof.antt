@@ -1,0 +1,21 @@
+-- `exports::snapshot_deliver` meets its contract.
+use borrow.Author.Needs.{needs}
+use mathlib.Core.Path.{sym, ap, _∙_}
+use Rattle.exports.specs.Code.{eventCode}
+use Rattle.exports.proofs.snapshot_deliver.Statement.{statement}
+use Rattle.exports.proofs.snapshot_deliver.Tie as tie
+
+returns : tie.Need-returns
+returns c =
+    let x = c .before .before .before .before .before in
+    let d = x .deliver in
+    rw (sym (x .before .extent-of .ensures)) (
+      (c .event-code .ensures ∙ ap eventCode (d .ensures .0), d .ensures .2),
+      rw (sym (d .ensures .0), sym (d .ensures .1)) (c .before .show .ensures),
+    )
+
+pub snapshot-deliver-spec : {M : Type 1} → statement M
+snapshot-deliver-spec =
+    tie.close
+    (tie.spec (λ c κs. search needs) (λ c κs. search needs) (λ c κs. search needs) (λ c κs. search needs)
+    (λ c. search needs) returns)

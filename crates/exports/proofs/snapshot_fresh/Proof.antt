@@ -1,0 +1,16 @@
+-- `exports::snapshot_fresh` meets its contract.
+use borrow.Author.Needs.{needs}
+use mathlib.Core.Path.{ap, _∙_}
+use Rattle.exports.specs.Code.{eventCode}
+use Rattle.exports.proofs.snapshot_fresh.Statement.{statement}
+use Rattle.exports.proofs.snapshot_fresh.Tie as tie
+
+returns : tie.Need-returns
+returns c =
+    let d = c .before .before .before .fresh in
+    (c .event-code .ensures ∙ ap eventCode (d .ensures .0), d .ensures .2)
+
+pub snapshot-fresh-spec : {M : Type 1} → statement M
+snapshot-fresh-spec =
+    tie.close
+    (tie.spec (λ c κs. search needs) (λ c κs. search needs) (λ c. search needs) returns)

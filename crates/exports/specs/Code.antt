@@ -1,0 +1,119 @@
+-- The numbers that stand for enums at the border to C, and what is written into lent memory there.
+use Prim.Native.Nat.{ℕ, _+_, min}
+use mathlib.Core.Path.{_≡_}
+use mathlib.Core.Bool.{Bool}
+use mathlib.Core.List.{List, [], _∷_}
+use lib.Dec.{eqb}
+use lib.ListN.{length}
+use Rattle.octets.specs.Answer.{Answer, result, refused}
+use Rattle.octets.specs.Test.{pick}
+use Rattle.octets.specs.Bytes.{num, be, put}
+use Rattle.view.specs.Report.{reportBytes, reportOf}
+use Rattle.view.specs.View.{viewBytes}
+use Rattle.view.specs.declared.Report.{Report}
+use Rattle.view.specs.declared.View.{View}
+use Rattle.wire.specs.Layout.{encode}
+use Rattle.wire.specs.Codec.{answer, after}
+use Rattle.wire.specs.declared.Message.{Message}
+use Rattle.wire.specs.declared.Message.the-variants.{Read, ReadAnswer, Write, WriteAnswer, Echo, Value, Good}
+use Rattle.figures.specs.declared.Totals.{Totals}
+use Rattle.node.specs.declared.Rule.{Rule}
+use Rattle.node.specs.declared.Rule.the-variants.{Direct, Borrowed}
+use Rattle.node.specs.declared.Ending.{Ending}
+use Rattle.node.specs.declared.Ending.the-variants.{None, Done, Scan, Spent}
+use Rattle.cluster.specs.declared.Extent.{Extent}
+use Rattle.cluster.specs.declared.Extent.the-variants.{Whole, Cut}
+use Rattle.cluster.specs.Event.{Result}
+
+-- A report as one number: that of its eight bytes.
+abbrev pub reportFrom : ℕ → Report
+reportFrom x = reportOf (be 8 x)
+
+abbrev pub reportNumber : Report → ℕ
+reportNumber p = num (reportBytes p)
+
+-- How much an event lets out: all, or the first m entries of a cut.
+abbrev pub extentOf : (cut : Bool) (m : ℕ) → Extent
+extentOf cut m = pick cut (Cut m) Whole
+
+-- The rule by which an operation ended: the round of its own, 1 to 3, or 0 for a kept good message.
+abbrev pub ruleCode : Rule → ℕ
+ruleCode (Direct i) = min i 3
+ruleCode Borrowed = 0
+
+-- An event's answer: 0 where nothing ended, a refusal's number (1 to 12), 13 for spent, 20 to 23 for done and 30 to 33
+-- for a scan, each with its rule.
+abbrev pub endingCode : Ending → ℕ
+endingCode None = 0
+endingCode (Done r) = 20 + ruleCode r
+endingCode (Scan r) = 30 + ruleCode r
+endingCode Spent = 13
+
+abbrev pub eventCode : Answer Ending → ℕ
+eventCode (result e) = endingCode e
+eventCode (refused k) = k
+
+-- The lent view after an event: sixteen entries where a scan ended, and else as it was.
+abbrev pub endingView : Ending → View → List ℕ → List ℕ
+endingView None v out = out
+endingView (Done r) v out = out
+endingView (Scan r) v out = put out 0 (viewBytes 16 v)
+endingView Spent v out = out
+
+abbrev pub eventView : Answer Ending → View → List ℕ → List ℕ
+eventView (result e) v out = endingView e v out
+eventView (refused k) v out = out
+
+-- The five numbers of a message: its kind, request number, tag, writer and report, 0 where the kind has none.
+abbrev pub numbers : Message → List ℕ
+numbers (Read q) = 1 ∷ q ∷ 0 ∷ 0 ∷ 0 ∷ []
+numbers (ReadAnswer q t) = 2 ∷ q ∷ t ∷ 0 ∷ 0 ∷ []
+numbers (Write q t) = 3 ∷ q ∷ t ∷ 0 ∷ 0 ∷ []
+numbers (WriteAnswer q t) = 4 ∷ q ∷ t ∷ 0 ∷ 0 ∷ []
+numbers (Echo t) = 5 ∷ 0 ∷ t ∷ 0 ∷ 0 ∷ []
+numbers (Value t w p) = 6 ∷ 0 ∷ t ∷ w ∷ reportNumber p ∷ []
+numbers (Good t) = 7 ∷ 0 ∷ t ∷ 0 ∷ 0 ∷ []
+
+-- The message of five numbers. A kind that is none of the seven gives one that the layout never allows.
+abbrev pub messageOf : (k q t w p : ℕ) → Message
+messageOf k q t w p =
+    pick (eqb k 1) (Read q)
+    (pick (eqb k 2) (ReadAnswer q t)
+    (pick (eqb k 3) (Write q t)
+    (pick (eqb k 4) (WriteAnswer q t)
+    (pick (eqb k 5) (Echo t)
+    (pick (eqb k 6) (Value t w (reportFrom p))
+    (pick (eqb k 7) (Good t)
+    (Read 0)))))))
+
+-- Reading: 0 and the numbers of the message, or the refusal.
+abbrev pub readCode : Answer Message → ℕ
+readCode (result m) = 0
+readCode (refused k) = k
+
+abbrev pub readNumbers : Answer Message → List ℕ → List ℕ
+readNumbers (result m) out = numbers m
+readNumbers (refused k) out = out
+
+-- Writing: the length, which is at least 15, or the refusal, which is at most 12.
+abbrev pub writeCode : Answer ℕ → ℕ
+writeCode (result k) = k
+writeCode (refused k) = k
+
+-- Figures: 0 and the four sums, or the refusal.
+abbrev pub figuresCode : Answer Totals → ℕ
+figuresCode (result t) = 0
+figuresCode (refused k) = k
+
+abbrev pub figuresSums : Answer Totals → List ℕ → List ℕ
+figuresSums (result t) out = t .extensions ∷ t .lines ∷ t .waiting ∷ t .wakeups ∷ []
+figuresSums (refused k) out = out
+
+-- What an event leaves: its answer's code and the lent bytes.
+abbrev pub leaves : ℕ → List ℕ → Result → Type 0
+leaves r b e = (r ≡ eventCode (e .answer)) × (b ≡ e .bytes)
+
+-- What writing a message leaves: its code, and the buffer that was `before`.
+abbrev pub wrote : ℕ → List ℕ → (n : ℕ) → Message → (view before : List ℕ) → Type 0
+wrote r out n m v before =
+    (r ≡ writeCode (answer n m v (length before))) × (out ≡ after (answer n m v (length before)) (encode m v) before)

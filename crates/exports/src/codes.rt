@@ -1,0 +1,126 @@
+// The numbers that stand for enums at the border to C.
+use cluster::Answer;
+use cluster::Extent;
+use cluster::Outcome;
+use node::Ending;
+use node::Rule;
+use view::Report;
+use wire::Message;
+ghost use mathlib.Core.Path.{_≡_};
+ghost use Prim.Native.Nat.{_≤_};
+ghost use Rattle.cluster.specs.Outcome.{said};
+ghost use Rattle.exports.specs.Code.{reportFrom, reportNumber, numbers, messageOf};
+ghost use Rattle.exports.specs.Code.{extentOf, ruleCode, endingCode, eventCode, eventView};
+
+pub(crate) fn report_from(x: u64) -> Report
+    ensures { λ r. ⌜ r ≡ reportFrom x ⌝ }
+{
+    let d = octets::digits8(x);
+    view::read_report(&d)
+}
+
+fn report_number(p: Report) -> u64
+    ensures { λ r. ⌜ r ≡ reportNumber p ⌝ }
+{
+    let d = view::report_bytes(p);
+    octets::number8(&d)
+}
+
+pub(crate) fn extent_of(cut: bool, m: usize) -> Extent
+    ensures { λ r. ⌜ r ≡ extentOf cut m ⌝ }
+{
+    if cut { Extent::Cut(m) } else { Extent::Whole }
+}
+
+fn rule_code(r: Rule) -> u8
+    ensures { λ k. ⌜ (k ≡ ruleCode r) × (k ≤ 3) ⌝ }
+{
+    match r {
+        Rule::Direct(i) => { if i <= 3 { i as u8 } else { 3 } }
+        Rule::Borrowed => 0,
+    }
+}
+
+fn ending_code(e: Ending) -> u8
+    ensures { λ k. ⌜ k ≡ endingCode e ⌝ }
+{
+    match e {
+        Ending::None => 0,
+        Ending::Done(r) => 20 + rule_code(r),
+        Ending::Scan(r) => 30 + rule_code(r),
+        Ending::Spent => 13,
+    }
+}
+
+// The code of an event's answer.
+pub(crate) fn event_code(r: Answer) -> u8
+    ensures { λ k. ⌜ k ≡ eventCode (said (r .outcome)) ⌝ }
+{
+    let outcome = r.outcome;
+    match outcome {
+        Outcome::Refused(k) => k,
+        Outcome::Accepted(e) => ending_code(e),
+    }
+}
+
+// Writes the view of a scan that ended.
+pub(crate) fn show(r: Answer, out: &mut [u8; 256])
+    ensures { λ _. ⌜ now (out .exit) ≡ eventView (said (r .outcome)) (r .view) (now (out .entry)) ⌝ }
+{
+    let outcome = r.outcome;
+    match outcome {
+        Outcome::Refused(_) => {}
+        Outcome::Accepted(e) => match e {
+            Ending::None => {}
+            Ending::Done(_) => {}
+            Ending::Scan(_) => view::write_view(16, r.view, out),
+            Ending::Spent => {}
+        },
+    }
+}
+
+pub(crate) fn message_numbers(m: Message) -> [u64; 5]
+    ensures { λ r. ⌜ r ≡ numbers m ⌝ }
+{
+    match m {
+        Message::Read { request } => [1, request, 0, 0, 0],
+        Message::ReadAnswer { request, tag } => [2, request, tag, 0, 0],
+        Message::Write { request, tag } => [3, request, tag, 0, 0],
+        Message::WriteAnswer { request, tag } => [4, request, tag, 0, 0],
+        Message::Echo { tag } => [5, 0, tag, 0, 0],
+        Message::Value {
+            tag,
+            writer,
+            report,
+        } => [6, 0, tag, writer as u64, report_number(report)],
+        Message::Good { tag } => [7, 0, tag, 0, 0],
+    }
+}
+
+pub(crate) fn message_of(kind: u64, request: u64, tag: u64, writer: usize, report: u64) -> Message
+    ensures { λ r. ⌜ r ≡ messageOf kind request tag writer report ⌝ }
+{
+    match kind {
+        1 => Message::Read { request: request },
+        2 => Message::ReadAnswer {
+            request: request,
+            tag: tag,
+        },
+        3 => Message::Write {
+            request: request,
+            tag: tag,
+        },
+        4 => Message::WriteAnswer {
+            request: request,
+            tag: tag,
+        },
+        5 => Message::Echo { tag: tag },
+        6 => Message::Value {
+            tag: tag,
+            writer: writer,
+            report: report_from(report),
+        },
+        7 => Message::Good { tag: tag },
+        _ => Message::Read { request: 0 },
+    }
+}
