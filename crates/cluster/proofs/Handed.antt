@@ -1,50 +1,35 @@
 -- What each return of a delivery says, by the refusals that did not apply before it.
-use Prim.Native.Nat.{ℕ, _<_, _≤_}
+use Prim.Native.Nat.{ℕ, _<_}
 use native.Mathlib.Omega.{arith}
 use native.Mathlib.Decide.{ℕ-discrete}
 use mathlib.Core.Path.{_≡_, refl, sym, ap, ap₂, _∙_}
 use mathlib.Core.Bool.{true, false}
 use mathlib.Core.List.{List}
-use lib.Dec.{leb, ltb, eqb}
-use borrow.Author.Tests.{leb-true, le-leb, eqb-true}
+use lib.Dec.{ltb, eqb}
+use borrow.Author.Tests.{eqb-true}
 use Rattle.octets.specs.Answer.{Answer, result, refused}
 use Rattle.octets.specs.Test.{both}
-use Rattle.octets.proofs.Test.{both-left, both-right, both-true}
+use Rattle.octets.proofs.Test.{both-left, both-right}
 use Rattle.table.specs.Quorum.{faults}
 use Rattle.view.specs.declared.View.{View}
 use Rattle.view.specs.View.{viewOf}
 use Rattle.wire.specs.Codec.{front, viewAt}
-use Rattle.wire.specs.Layout.{isTag}
 use Rattle.wire.specs.declared.Message.{Message}
-use Rattle.wire.specs.declared.Message.the-variants.{Read, ReadAnswer, Write, WriteAnswer, Echo, Value, Good}
 use Rattle.wire.proofs.RoundTrip.{front-only}
 use Rattle.record.specs.Usable.{usable}
 use Rattle.record.specs.declared.Node.{Node}
 use Rattle.node.specs.Allowed.{lawful}
 use Rattle.node.specs.Move.{messageStep}
+use Rattle.node.specs.Stale.{staleMessage}
 use Rattle.node.specs.declared.Step.{Step}
+use Rattle.node.proofs.Allowed.{allowed-lawful}
 use Rattle.region.specs.Channel.{countOf, first}
 use Rattle.region.specs.Record.{recordOf, waitKnown}
 use Rattle.block.specs.Block.{recordIn, recordSound, channelsSound, blockSound, takeOff}
-use Rattle.entries.specs.Stale.{staleMessage, writerWithin}
 use Rattle.layout.specs.Layout.{stated, block, stopped, node, channel, onBlock, fits, sound, isNode}
 use Rattle.layout.proofs.Check.{sound-block}
 use Rattle.cluster.specs.declared.Extent.{Extent}
 use Rattle.cluster.specs.Event.{refuse, mayCut, settle, handOver, deliverMessage, deliverIn, deliver}
-use Rattle.cluster.proofs.Lawful.{allowed-lawful}
-
--- the writer of a lawful message
-pub lawful-writer : (n : ℕ) (m : Message) (v : View) → n ≤ 16 → lawful n m v ≡ true → writerWithin 16 m ≡ true
-lawful-writer n (Read q) v l h = refl
-lawful-writer n (ReadAnswer q t) v l h = refl
-lawful-writer n (Write q t) v l h = refl
-lawful-writer n (WriteAnswer q t) v l h = refl
-lawful-writer n (Echo t) v l h = refl
-lawful-writer n (Value t w p) v l h =
-    let k : both (leb 1 w) (leb w n) ≡ true = both-right (both (leb 1 t) (isTag t)) (both (leb 1 w) (leb w n)) h in
-    let m : w ≤ n = leb-true w n (both-right (leb 1 w) (leb w n) k) in
-    both-true (both-left (leb 1 w) (leb w n) k) (le-leb w 16 (omega arith))
-lawful-writer n (Good t) v l h = refl
 
 -- a record of sound bytes is one of their n nodes
 pub sound-n : (b : List ℕ) → sound b ≡ true → (n c : ℕ) → n ≡ stated b → isNode n c ≡ true → node b c .n ≡ n

@@ -1,5 +1,4 @@
 pub mod Handed
-pub mod Lawful
 pub mod Out
 pub mod Room
 pub mod Settled

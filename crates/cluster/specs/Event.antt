@@ -19,13 +19,13 @@ use Rattle.record.specs.Record.{blank}
 use Rattle.record.specs.Usable.{isOpen, full}
 use Rattle.record.specs.declared.Operation.{Operation}
 use Rattle.node.specs.Move.{messageStep, beginStep}
+use Rattle.node.specs.Stale.{staleMessage}
 use Rattle.node.specs.declared.Step.{Step}
 use Rattle.node.specs.declared.Ending.{Ending}
 use Rattle.node.specs.declared.Ending.the-variants.{None}
 use Rattle.region.specs.Channel.{capacity, countOf, first}
 use Rattle.block.specs.Block.{keep, takeOff, receive, halt}
 use Rattle.entries.specs.Entries.{Entry, entries, goTo, slot}
-use Rattle.entries.specs.Stale.{staleMessage}
 use Rattle.layout.specs.Layout.{clusterSize, stated, stopped, node, channel, onBlock, fits, sound, isNode}
 use Rattle.cluster.specs.declared.Extent.{Extent}
 use Rattle.cluster.specs.declared.Extent.the-variants.{Whole, Cut}

@@ -3,7 +3,6 @@
 pub mod judge;
 pub mod outgoing;
 
-use entries::is_stale_message;
 use judge::has_room;
 use judge::may_cut;
 use layout::first_at;
@@ -19,6 +18,7 @@ use layout::waiting_at;
 use node::Ending;
 use node::Step;
 use node::begin_step;
+use node::is_stale_message;
 use node::message_step;
 use octets::and;
 use outgoing::let_out;

@@ -2,3 +2,4 @@ pub mod Refusals
 pub mod Rim
 pub mod Rooms
 pub mod Runs
+pub mod Tells

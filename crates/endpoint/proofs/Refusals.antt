@@ -15,7 +15,8 @@ use Rattle.record.specs.Usable.{usable, isOpen, full}
 use Rattle.record.specs.declared.Node.{Node}
 use Rattle.record.specs.declared.Operation.{Operation}
 use Rattle.node.specs.Move.{messageStep, beginStep}
-use Rattle.endpoint.specs.Entry.{refuse, letOut, begin, isStale, beside, taken, message}
+use Rattle.node.specs.Stale.{staleMessage}
+use Rattle.endpoint.specs.Entry.{refuse, letOut, begin, beside, taken, message}
 
 module _ (c : Node) (o : Operation) (out : List ℕ) where
   pub begin-12 : ltb (length out) 512 ≡ true → begin c o out ≡ refuse 12 c out
@@ -66,11 +67,11 @@ module _ (c : Node) (s : ℕ) (b out : List ℕ) where
 
 -- a message of the layout
 module _ (c : Node) (s : ℕ) (b out : List ℕ) (m : Message) where
-  pub taken-9 : isStale c s m ≡ true → taken c s b out (result m) ≡ refuse 9 c out
+  pub taken-9 : staleMessage c s m ≡ true → taken c s b out (result m) ≡ refuse 9 c out
   unfolding taken
   taken-9 e = rw e
 
-  pub taken-goes : isStale c s m ≡ false
+  pub taken-goes : staleMessage c s m ≡ false
       → taken c s b out (result m) ≡ letOut (messageStep (faults (c .n)) c s m (beside (c .n) b m)) out
   unfolding taken
   taken-goes e = rw e

@@ -3,7 +3,7 @@ use mathlib.Core.Path.{_≡_, refl, sym, ap, ap₂, _∙_, subst}
 use mathlib.Core.Bool.{true}
 use mathlib.Core.List.{List, [], _∷_, _++_, append-assoc, append-nil}
 use Prim.Native.Nat.{ℕ, _+_, _-_, _*_, _≤_}
-use native.Mathlib.Nat.{add-zero}
+use native.Mathlib.Nat.{add-zero, add-assoc}
 use native.Mathlib.Omega.{arith}
 use lib.ListN.{length, take, drop, length-append, length-take, length-drop}
 use lib.Seq.{length-take-le, take-at}
@@ -47,7 +47,8 @@ run-two v a b = ap (λ (t : List ℕ). encode a v ++ t) (append-nil (encode b v)
 pub run-append : (v : List ℕ) (a b : List Message) → run v (a ++ b) ≡ run v a ++ run v b
 unfolding run
 run-append v [] b = refl
-run-append v (m ∷ a) b = ap (λ (t : List ℕ). encode m v ++ t) (run-append v a b) ∙ sym (append-assoc (encode m v) (run v a) (run v b))
+run-append v (m ∷ a) b =
+    ap (λ (t : List ℕ). encode m v ++ t) (run-append v a b) ∙ sym (append-assoc (encode m v) (run v a) (run v b))
 
 pub run-length : (n : ℕ) (v : List ℕ) (ms : List Message) → AllAllowed n v ms → length (run v ms) ≡ sizes n ms
 unfolding run
@@ -80,11 +81,13 @@ module _ (n : ℕ) (m : Message) (v o : List ℕ) (at : ℕ) (s : isSize n ≡ t
   written-is = rw (s, h, rest-length, le-leb (length (encode m v)) (length o - at) (omega arith))
 
   pub emitted : (r : Written) (t : List ℕ) → written r ≡ answer n m v (length rest) → t ≡ after (written r) (encode m v) rest
-      → (written r ≡ result (length (encode m v))) × (take at o ++ (t ++ drop (length o - at) (drop at o)) ≡ put o at (encode m v))
+      → (written r ≡ result (length (encode m v)))
+      × (take at o ++ (t ++ drop (length o - at) (drop at o)) ≡ put o at (encode m v))
   emitted r t e q =
       let w : written r ≡ result (length (encode m v)) = e ∙ written-is in
       let p : t ≡ put rest 0 (encode m v) = q ∙ ap (λ (x : Answer ℕ). after x (encode m v) rest) w in
-      let l : length t ≡ length rest = ap (λ (x : List ℕ). length x) p ∙ length-put rest 0 (encode m v) (rw rest-length (omega arith)) in (
+      let l : length t ≡ length rest =
+      ap (λ (x : List ℕ). length x) p ∙ length-put rest 0 (encode m v) (rw rest-length (omega arith)) in (
         w,
         lent-back o at (length o - at) (λ (x : List ℕ). put x 0 (encode m v)) (omega arith) (omega arith) l p
             ∙ sym (put-inside o at (length o - at) 0 (encode m v) (omega arith) (omega arith))
@@ -114,14 +117,16 @@ module _ (v : List ℕ) (at : ℕ) (m : Sent) where
   pub sent-none : (o : List ℕ) → m ≡ Nothing → Sent-at at o o
   sent-none o e = rw (e, run-none v) (sym (add-zero at), sym (put-nil o at))
 
-  pub sent-one : (o t : List ℕ) (r : ℕ) {a : Message} → m ≡ One a → r ≡ at + length (encode a v) → t ≡ put o at (encode a v) → Sent-at r o t
+  pub sent-one : (o t : List ℕ) (r : ℕ) {a : Message} → m ≡ One a → r ≡ at + length (encode a v)
+      → t ≡ put o at (encode a v) → Sent-at r o t
   sent-one o t r {a} e p q = rw (e, run-one v a) (p, q)
 
   pub sent-two : (o t u : List ℕ) (r i : ℕ) {a b : Message} → m ≡ Two a b → at ≤ length o
-      → r ≡ at + length (encode a v) → t ≡ put o at (encode a v) → i ≡ r + length (encode b v) → u ≡ put t r (encode b v) → Sent-at i o u
+      → r ≡ at + length (encode a v) → t ≡ put o at (encode a v)
+      → i ≡ r + length (encode b v) → u ≡ put t r (encode b v) → Sent-at i o u
   sent-two o t u r i {a} {b} e h p q x y =
       rw (e, run-two v a b) (
-        x ∙ ap (λ (k : ℕ). k + length (encode b v)) p ∙ (let z : at + length (encode a v) + length (encode b v) ≡ at + (length (encode a v) + length (encode b v)) = omega arith in z)
+        x ∙ ap (λ (k : ℕ). k + length (encode b v)) p ∙ add-assoc at (length (encode a v)) (length (encode b v))
             ∙ ap (λ (k : ℕ). at + k) (sym (length-append (encode a v) (encode b v))),
         put-then o at (encode a v) (encode b v) r h (sym p) q y,
       )
@@ -134,10 +139,12 @@ module _ (v : List ℕ) (at : ℕ) (m : Sent) where
       (k .sized, k .fit .0, rw (run-one v a) at (k .enough))
 
   pub room-two : (n room : ℕ) {a b : Message} → Room n v (listed m) at room → m ≡ Two a b
-      → (isSize n ≡ true) × (allowed n a v ≡ true) × (allowed n b v ≡ true) × (at + length (encode a v) + length (encode b v) ≤ room)
+      → (isSize n ≡ true) × (allowed n a v ≡ true) × (allowed n b v ≡ true)
+      × (at + length (encode a v) + length (encode b v) ≤ room)
   room-two n room {a} {b} h e =
       let k : Room n v (a ∷ b ∷ []) at room = subst (λ (x : Sent). Room n v (listed x) at room) e h in
-      let l : at + (length (encode a v) + length (encode b v)) ≤ room = rw (run-two v a b, length-append (encode a v) (encode b v)) at (k .enough) in
+      let l : at + (length (encode a v) + length (encode b v)) ≤ room =
+      rw (run-two v a b, length-append (encode a v) (encode b v)) at (k .enough) in
       (k .sized, k .fit .0, k .fit .1 .0, omega arith)
 
 -- ---- three parts one after the other
@@ -156,15 +163,30 @@ module _ (n : ℕ) (v : List ℕ) (a b d : List Message) (room : ℕ) (h : Room 
       omega (arith, e, length-append (run v a ++ run v b) (run v d), length-append (run v a) (run v b))
 
   pub room-first : Room n v a 0 room
-  room-first = record { sized = h .sized; fit = allowed-left n v a b (allowed-left n v (a ++ b) d (h .fit)); enough = omega (arith, all-long) }
+  room-first =
+      record {
+        sized = h .sized;
+        fit = allowed-left n v a b (allowed-left n v (a ++ b) d (h .fit));
+        enough = omega (arith, all-long);
+      }
 
   module _ (i : ℕ) (p : i ≡ 0 + length (run v a)) where
     pub room-second : Room n v b i room
-    room-second = record { sized = h .sized; fit = allowed-right n v a b (allowed-left n v (a ++ b) d (h .fit)); enough = omega (arith, all-long) }
+    room-second =
+        record {
+          sized = h .sized;
+          fit = allowed-right n v a b (allowed-left n v (a ++ b) d (h .fit));
+          enough = omega (arith, all-long);
+        }
 
     module _ (j : ℕ) (q : j ≡ i + length (run v b)) where
       pub room-third : Room n v d j room
       room-third = record { sized = h .sized; fit = allowed-right n v (a ++ b) d (h .fit); enough = omega (arith, all-long) }
+
+      pub three-long : (k : ℕ) → k ≡ j + length (run v d) → k ≡ length (run v (a ++ b ++ d))
+      three-long k e =
+          rw all-run
+          (omega (arith, e, length-append (run v a ++ run v b) (run v d), length-append (run v a) (run v b)))
 
       pub three-put : (o t u w : List ℕ) → t ≡ put o 0 (run v a) → u ≡ put t i (run v b) → w ≡ put u j (run v d)
           → w ≡ put o 0 (run v (a ++ b ++ d))
@@ -193,8 +215,8 @@ module _ (n : ℕ) (z : List ℕ) (l : length z ≡ 256) (h : n ≤ 16) where
         ∙ e ∙ put-over (take (16 * n) z) (viewBytes n v) (length-viewBytes n v ∙ front-length)
 
 -- there is room for what is lawful
-pub room-of : (n : ℕ) (v : View) (w : List ℕ) (ms : List Message) (room : ℕ) → w ≡ viewBytes n v → 1 ≤ n → n ≤ 16 → AllLawful n v ms
-    → sizes n ms ≤ room → Room n w ms 0 room
+pub room-of : (n : ℕ) (v : View) (w : List ℕ) (ms : List Message) (room : ℕ) → w ≡ viewBytes n v → 1 ≤ n → n ≤ 16
+    → AllLawful n v ms → sizes n ms ≤ room → Room n w ms 0 room
 room-of n v w ms room e a b h k =
     let f : AllAllowed n (viewBytes n v) ms = all-allowed n v ms b h in
     subst (λ (x : List ℕ). Room n x ms 0 room) (sym e)

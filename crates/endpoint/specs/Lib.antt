@@ -1,3 +1,4 @@
 pub mod Bytes
 pub mod Entry
+pub mod Outcome
 pub mod Room

@@ -7,7 +7,6 @@ use lib.ListN.{length}
 use Rattle.view.specs.Size.{isSize}
 use Rattle.wire.specs.Layout.{allowed}
 use Rattle.wire.specs.declared.Message.{Message}
-use Rattle.wire.specs.declared.Message.the-variants.{Read, ReadAnswer, Write, WriteAnswer, Echo, Value, Good}
 use Rattle.endpoint.specs.Bytes.{run}
 
 -- v is the bytes of the view that the good ones carry
@@ -19,13 +18,3 @@ pub record Room (n : ℕ) (v : List ℕ) (ms : List Message) (at room : ℕ) : T
   pub sized : isSize n ≡ true
   pub fit : AllAllowed n v ms
   pub enough : at + length (run v ms) ≤ room
-
--- a value message names a writer from 1 to n
-abbrev pub WriterIn : ℕ → Message → Type 0
-WriterIn n (Read q) = Unit {0}
-WriterIn n (ReadAnswer q t) = Unit {0}
-WriterIn n (Write q t) = Unit {0}
-WriterIn n (WriteAnswer q t) = Unit {0}
-WriterIn n (Echo t) = Unit {0}
-WriterIn n (Value t w p) = (1 ≤ w) × (w ≤ n)
-WriterIn n (Good t) = Unit {0}

@@ -1,11 +1,12 @@
 // The calls at one node, on any input: fresh, begin and message. Bytes are read before the step and written after it; a
 // refusal is judged before anything is written.
-pub mod emit;
+mod emit;
 
 use emit::emit_all;
 use node::Ending;
 use node::Step;
 use node::begin_step;
+use node::is_stale_message;
 use node::message_step;
 use octets::and;
 use record::Node;
@@ -13,7 +14,6 @@ use record::Operation;
 use record::blank_node;
 use record::usable::has_open;
 use record::usable::is_full;
-use record::usable::is_stale;
 use record::usable::is_usable;
 use table::quorum::most_faults;
 use view::View;
@@ -24,15 +24,18 @@ use wire::Parsed;
 use wire::view_part;
 ghost use mathlib.Core.Path.{_≡_};
 ghost use mathlib.Core.Bool.{true};
-ghost use Prim.Native.Nat.{_≤_};
+ghost use mathlib.Core.List.{List, []};
+ghost use Prim.Native.Nat.{ℕ, _≤_};
 ghost use lib.ListN.{length};
 ghost use Rattle.octets.specs.Answer.{result};
+ghost use Rattle.view.specs.declared.View.{View};
 ghost use Rattle.record.specs.Usable.{usable};
 ghost use Rattle.wire.specs.Codec.{decode};
 ghost use Rattle.node.specs.Claims.{AllLawful, sizes};
 ghost use Rattle.node.specs.Step.{messages};
-ghost use Rattle.endpoint.specs.Room.{WriterIn};
-ghost use Rattle.endpoint.specs.Entry.{saidOf, viewShown, refusing, letOut, freshReply, begin, isStale, beside, taken, message};
+ghost use Rattle.node.specs.Told.{told, shown};
+ghost use Rattle.endpoint.specs.Outcome.{toldBy, tells};
+ghost use Rattle.endpoint.specs.Entry.{refuse, letOut, fresh, begin, beside, taken, message};
 
 // The least length of an output buffer.
 pub const OUTPUT: usize = 512;
@@ -47,25 +50,28 @@ pub enum Said {
     Exhausted,
 }
 
-// What is said, the record after the call, and the view of a scan that has ended.
+// What is said, the record after the call, the view of a scan that has ended, and how many bytes of messages stand at the
+// start of the output buffer.
 pub struct Reply {
     pub said: Said,
     pub node: Node,
     pub view: View,
+    pub length: usize,
 }
 
 fn refused_reply(k: u8, c: Node) -> Reply
-    ensures { λ r. ⌜ r ≡ refusing k c ⌝ }
+    ensures { λ r. ⌜ ((out : List ℕ) → tells r out (refuse k c out)) ⌝ }
 {
     Reply {
         said: Said::Refused(k),
         node: c,
         view: absent(),
+        length: 0,
     }
 }
 
 fn said_of(e: Ending) -> Said
-    ensures { λ r. ⌜ r ≡ saidOf e ⌝ }
+    ensures { λ r. ⌜ ((v : View) → toldBy r v ≡ told (result e) v) ⌝ }
 {
     match e {
         Ending::None => Said::Going,
@@ -76,7 +82,7 @@ fn said_of(e: Ending) -> Said
 }
 
 fn view_shown(e: Ending, v: View) -> View
-    ensures { λ r. ⌜ r ≡ viewShown e v ⌝ }
+    ensures { λ r. ⌜ r ≡ shown (told (result e) v) ⌝ }
 {
     match e {
         Ending::None => absent(),
@@ -88,7 +94,7 @@ fn view_shown(e: Ending, v: View) -> View
 
 // A fresh record of node `own` of n.
 pub fn fresh(n: usize, own: usize) -> Reply
-    ensures { λ r. ⌜ r ≡ freshReply n own ⌝ }
+    ensures { λ r. ⌜ tells r [] (fresh n own) ⌝ }
 {
     if wire::is_size(n) {
         if and(1 <= own, own <= n) {
@@ -96,6 +102,7 @@ pub fn fresh(n: usize, own: usize) -> Reply
                 said: Said::Going,
                 node: blank_node(n, own),
                 view: absent(),
+                length: 0,
             };
         }
         return refused_reply(1, blank_node(0, 0));
@@ -105,23 +112,26 @@ pub fn fresh(n: usize, own: usize) -> Reply
 
 // Writes what a step sends and answers with the rest of it.
 fn let_out(s: Step, out: &mut [u8]) -> Reply
-    requires { ⌜ (1 ≤ s .node .n) × (s .node .n ≤ 16) × AllLawful (s .node .n) (s .outbox .view) (messages (s .outbox)) × (sizes (s .node .n) (messages (s .outbox)) ≤ length (now out)) ⌝ }
-    ensures { λ r. ⌜ (r ≡ letOut s (now (out .entry)) .reply) × (now (out .exit) ≡ letOut s (now (out .entry)) .out) ⌝ }
+    requires { ⌜ (1 ≤ s .node .n) × (s .node .n ≤ 16)
+        × AllLawful (s .node .n) (s .outbox .view) (messages (s .outbox))
+        × (sizes (s .node .n) (messages (s .outbox)) ≤ length (now out)) ⌝ }
+    ensures { λ r. ⌜ tells r (now (out .exit)) (letOut s (now (out .entry))) ⌝ }
 {
     let c = s.node;
     let o = s.outbox;
-    emit_all(c.n, o, out);
+    let written = emit_all(c.n, o, out);
     let e = s.ending;
     Reply {
         said: said_of(e),
         node: c,
         view: view_shown(e, s.view),
+        length: written,
     }
 }
 
 // Begins an operation; the messages go to `out`.
 pub fn begin(c: Node, o: Operation, out: &mut [u8]) -> Reply
-    ensures { λ r. ⌜ (r ≡ begin c o (now (out .entry)) .reply) × (now (out .exit) ≡ begin c o (now (out .entry)) .out) ⌝ }
+    ensures { λ r. ⌜ tells r (now (out .exit)) (begin c o (now (out .entry))) ⌝ }
 {
     if out.len() < OUTPUT {
         return refused_reply(12, c);
@@ -137,26 +147,6 @@ pub fn begin(c: Node, o: Operation, out: &mut [u8]) -> Reply
         return let_out(begin_step(most_faults(c.n), c, o), out);
     }
     refused_reply(2, c)
-}
-
-// Whether the record does not take the message (9).
-fn stale_message(c: Node, s: usize, m: Message) -> bool
-    requires { ⌜ (1 ≤ s) × (s ≤ c .n) × (c .n ≤ 16) × WriterIn (c .n) m ⌝ }
-    ensures { λ r. ⌜ r ≡ isStale c s m ⌝ }
-{
-    match m {
-        Message::Read { request: _ } => false,
-        Message::ReadAnswer { request: _, tag: _ } => false,
-        Message::Write { request: _, tag: _ } => false,
-        Message::WriteAnswer { request: _, tag: _ } => false,
-        Message::Echo { tag: _ } => false,
-        Message::Value {
-            tag,
-            writer,
-            report: _,
-        } => is_stale(c, s, writer, tag),
-        Message::Good { tag: _ } => false,
-    }
 }
 
 // The view that a good message carries.
@@ -181,10 +171,11 @@ fn view_beside(n: usize, b: &[u8], m: Message) -> View
 
 // A message that was read.
 fn taken_message(c: Node, s: usize, b: &[u8], m: Message, out: &mut [u8]) -> Reply
-    requires { ⌜ (usable c ≡ true) × (1 ≤ s) × (s ≤ c .n) × (decode (c .n) (now b) ≡ result m) × (512 ≤ length (now out)) ⌝ }
-    ensures { λ r. ⌜ (r ≡ taken c s (now (b .entry)) (now (out .entry)) (result m) .reply) × (now (out .exit) ≡ taken c s (now (b .entry)) (now (out .entry)) (result m) .out) ⌝ }
+    requires { ⌜ (usable c ≡ true) × (1 ≤ s) × (s ≤ c .n)
+        × (decode (c .n) (now b) ≡ result m) × (512 ≤ length (now out)) ⌝ }
+    ensures { λ r. ⌜ tells r (now (out .exit)) (taken c s (now (b .entry)) (now (out .entry)) (result m)) ⌝ }
 {
-    if stale_message(c, s, m) {
+    if is_stale_message(c, s, m) {
         return refused_reply(9, c);
     }
     let v = view_beside(c.n, b, m);
@@ -193,7 +184,7 @@ fn taken_message(c: Node, s: usize, b: &[u8], m: Message, out: &mut [u8]) -> Rep
 
 // Handles a message from node s; the messages that it gives rise to go to `out`.
 pub fn message(c: Node, s: usize, b: &[u8], out: &mut [u8]) -> Reply
-    ensures { λ r. ⌜ (r ≡ message c s (now (b .entry)) (now (out .entry)) .reply) × (now (out .exit) ≡ message c s (now (b .entry)) (now (out .entry)) .out) ⌝ }
+    ensures { λ r. ⌜ tells r (now (out .exit)) (message c s (now (b .entry)) (now (out .entry))) ⌝ }
 {
     if out.len() < OUTPUT {
         return refused_reply(12, c);

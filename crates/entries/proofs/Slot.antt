@@ -1,17 +1,12 @@
--- The bytes of a slot, and the range of a writer's number.
-use Prim.Native.Nat.{ℕ, _+_, _*_, _≤_}
+-- The bytes of a slot.
+use Prim.Native.Nat.{ℕ}
 use native.Mathlib.Omega.{arith}
-use mathlib.Core.Path.{_≡_, refl, sym, ap, ap₂, _∙_}
-use mathlib.Core.Bool.{true}
+use mathlib.Core.Path.{_≡_, ap, ap₂, _∙_}
 use mathlib.Core.List.{List}
 use lib.ListN.{length, take}
-use lib.Dec.{leb}
-use borrow.Author.Tests.{leb-true}
 use Rattle.octets.specs.Answer.{Answer}
 use Rattle.octets.specs.Bytes.{part, put}
 use Rattle.octets.proofs.Put.{part-same}
-use Rattle.octets.proofs.Test.{both-left, both-right}
-use Rattle.octets.specs.Test.{both}
 use Rattle.wire.specs.Layout.{encode}
 use Rattle.wire.specs.Codec.{answer, after}
 use Rattle.wire.specs.declared.Message.{Message}
@@ -27,7 +22,3 @@ pub written-is : (n : ℕ) (m : Message) (v w s : List ℕ) {r : Answer ℕ} {ou
 written-is n m v w s e h p q =
     q ∙ ap (λ (x : Answer ℕ). after x (encode m w) s) p
     ∙ ap₂ (λ (t : List ℕ) (k : ℕ). after (answer n m t k) (encode m t) s) e h
-
-pub writer-from : (w : ℕ) → both (leb 1 w) (leb w 16) ≡ true → (1 ≤ w) × (w ≤ 16)
-writer-from w h =
-    (leb-true 1 w (both-left (leb 1 w) (leb w 16) h), leb-true w 16 (both-right (leb 1 w) (leb w 16) h))

@@ -2,13 +2,11 @@
 use node::Outbox;
 use node::Sent;
 use octets::least;
-use record::Node;
 use view::View;
 use wire::Message;
 ghost use mathlib.Core.Path.{_≡_};
 ghost use Prim.Native.Nat.{ℕ, _-_, _≤_};
 ghost use lib.ListN.{length, take};
-ghost use mathlib.Core.Bool.{true};
 ghost use Rattle.view.specs.declared.View.{View};
 ghost use Rattle.node.specs.Step.{listed};
 ghost use Rattle.view.specs.View.{viewBytes};
@@ -16,7 +14,6 @@ ghost use Rattle.wire.specs.Layout.{encode};
 ghost use Rattle.wire.specs.Codec.{answer, after};
 ghost use Rattle.region.specs.Channel.{slotSize};
 ghost use Rattle.entries.specs.Entries.{isAnswer, addressed, entriesOf, entries, goTo, slot};
-ghost use Rattle.entries.specs.Stale.{staleMessage, writerWithin};
 
 // Writes a message, with the view that a good message carries, at the front of s. The view's bytes go to w first.
 fn write_slot<'a>(n: usize, m: Message, v: View, w: &'a mut [u8], s: &'a mut [u8])
@@ -126,24 +123,4 @@ pub fn entries_to(b: usize, n: usize, a: usize, o: Outbox, left: usize) -> usize
     sent_to(b, n, a, handler, left)
         + sent_to(b, n, a, reading, second)
         + sent_to(b, n, a, comparing, third)
-}
-
-// Whether a message from s is refused with 9.
-pub fn is_stale_message(c: Node, s: usize, m: Message) -> bool
-    requires { ⌜ (1 ≤ s) × (s ≤ 16) × (writerWithin 16 m ≡ true) ⌝ }
-    ensures { λ r. ⌜ r ≡ staleMessage c s m ⌝ }
-{
-    match m {
-        Message::Read { request: _ } => false,
-        Message::ReadAnswer { request: _, tag: _ } => false,
-        Message::Write { request: _, tag: _ } => false,
-        Message::WriteAnswer { request: _, tag: _ } => false,
-        Message::Echo { tag: _ } => false,
-        Message::Value {
-            tag,
-            writer,
-            report: _,
-        } => record::usable::is_stale(c, s, writer, tag),
-        Message::Good { tag: _ } => false,
-    }
 }

@@ -1,24 +1,22 @@
 -- An event's own line is read back as that event, so that different events have different lines.
-use Prim.Native.Nat.{ℕ, zero, suc, _<_, _^_, _≤_}
+use Prim.Native.Nat.{ℕ}
 use mathlib.Core.Path.{_≡_, refl, sym, ap, ap₂, subst, _∙_}
 use mathlib.Core.Bool.{true}
 use mathlib.Core.List.{List, [], _∷_, _++_}
 use native.Mathlib.Omega.{arith}
 use lib.ListN.{length}
 use borrow.Author.Tests.{le-leb, eq-eqb}
-use Rattle.octets.specs.Bytes.{Bytes, be}
 use Rattle.octets.proofs.Test.{both-true}
-use Rattle.octets.proofs.Number.{be-bytes}
-use Rattle.view.specs.Report.{reportBytes, reportOf}
+use Rattle.view.specs.Report.{Counts, reportBytes, reportOf}
 use Rattle.view.specs.declared.Report.{Report}
-use Rattle.view.proofs.ReportBytes.{report-back}
+use Rattle.view.proofs.ReportBytes.{report-back, report-bytes}
 use Rattle.digits.specs.Decimal.{value, decimal}
 use Rattle.digits.specs.Hex.{hexBytes, hexText}
 use Rattle.digits.proofs.DecimalBack.{value-decimal, digits-fewest, fewest-some, fewest-most}
 use Rattle.digits.proofs.HexBack.{bytes-back, text-hex, length-text}
 use Rattle.lines.specs.Grammar.{isNumber, isReport, eventOf}
 use Rattle.lines.specs.Legal.{End, whole, cut, Legal, update, scan, deliver, stop}
-use Rattle.lines.specs.Show.{showExtent, show, Counts, Small, SmallCut, HasLine}
+use Rattle.lines.specs.Show.{showExtent, show, Small, SmallCut, HasLine}
 use Rattle.lines.specs.declared.Extent.{Extent}
 use Rattle.lines.specs.declared.Extent.the-variants.{Whole, Cut}
 use Rattle.lines.specs.declared.Line.{Line}
@@ -34,23 +32,6 @@ number-shown x h =
 
 number-same : (x : ℕ) → Small x → value (decimal x) ≡ x
 number-same x h = value-decimal x (omega arith)
-
-bytes-append : (a b : List ℕ) → Bytes a → Bytes b → Bytes (a ++ b)
-bytes-append [] b h k i = k i
-bytes-append (x ∷ a) b h k zero = h zero
-bytes-append (x ∷ a) b h k (suc i) = bytes-append a b (λ j. h (suc j)) k i
-
-report-bytes : (p : Report) → Counts p → Bytes (reportBytes p)
-report-bytes p h =
-    let a : List ℕ = be 2 (p .extensions) in
-    let b : List ℕ = be 2 (p .lines) in
-    let c : List ℕ = be 2 (p .waiting) in
-    let d : List ℕ = be 2 (p .wakeups) in
-    bytes-append (a ++ b ++ c) d
-    (bytes-append (a ++ b) c
-    (bytes-append a b (be-bytes 2 (p .extensions) (h .extensions)) (be-bytes 2 (p .lines) (h .lines)))
-    (be-bytes 2 (p .waiting) (h .waiting)))
-    (be-bytes 2 (p .wakeups) (h .wakeups))
 
 report-shown : (p : Report) → Counts p → isReport (hexText 8 (reportBytes p)) ≡ true
 report-shown p h =

@@ -1,7 +1,7 @@
 -- The line of an event as a program writes it: numbers with the fewest digits. A bad line has none.
-use Prim.Native.Nat.{ℕ, _<_, _^_}
+use Prim.Native.Nat.{ℕ, _<_}
 use mathlib.Core.List.{List, [], _∷_, _++_}
-use Rattle.view.specs.Report.{reportBytes}
+use Rattle.view.specs.Report.{Counts, reportBytes}
 use Rattle.view.specs.declared.Report.{Report}
 use Rattle.digits.specs.Decimal.{decimal}
 use Rattle.digits.specs.Hex.{hexText}
@@ -24,12 +24,6 @@ show (Stop c) = 120 ∷ field (decimal c)
 show Bad = []
 
 -- the events that have a line: numbers of at most four digits, and counts of sixteen bits
-pub record Counts (p : Report) : Type 0 where
-  pub extensions : p .extensions < 2 ^ 16
-  pub lines : p .lines < 2 ^ 16
-  pub waiting : p .waiting < 2 ^ 16
-  pub wakeups : p .wakeups < 2 ^ 16
-
 abbrev pub Small : ℕ → Type 0
 Small x = x < 10000
 

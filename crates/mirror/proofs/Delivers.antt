@@ -23,8 +23,9 @@ use Rattle.wire.proofs.RoundTrip.{front-only}
 use Rattle.table.specs.Quorum.{faults}
 use Rattle.record.specs.declared.Node.{Node}
 use Rattle.node.specs.Move.{messageStep}
+use Rattle.node.specs.Stale.{staleMessage}
+use Rattle.node.proofs.Allowed.{allowed-lawful}
 use Rattle.region.specs.Channel.{capacity, countOf, first}
-use Rattle.entries.specs.Stale.{staleMessage}
 use Rattle.layout.specs.Layout.{stated, stopped, node, channel, isNode}
 use Rattle.cluster.specs.Event as E
 use Rattle.cluster.specs.declared.Extent.{Extent}
@@ -45,7 +46,6 @@ use Rattle.mirror.proofs.Says.{says-count, says-first}
 use Rattle.mirror.proofs.Shows.{Gone, shows-take}
 use Rattle.mirror.proofs.Settle.{same-refusal, tells-true, settles}
 use Rattle.mirror.proofs.Checks.{sized, is-usable, is-checked}
-use Rattle.mirror.proofs.Lawful.{allowed-lawful}
 use Rattle.mirror.proofs.Safety.{message-safe}
 use Rattle.mirror.proofs.Events.{same-isNode, one-to, stands-not, same-demand, stands-tells, cut-tells, few-then}
 
@@ -115,7 +115,7 @@ module _ {n : ℕ} (low : 1 ≤ n) (small : n ≤ 16) {b : List ℕ} {σ : K.Clu
         (A.messageStep n (faults n) c a (messageOf n c v (p .0)) (σ .nodes c))
         (message-follows small F (bounded c) (faults n) a from (p .0) v (sized-view n (viewAt n s) small) ex)
         (message-safe small F (is-usable low small mirror c at) (faults n) a from (p .0) v
-        (allowed-lawful n small (p .0) (viewAt n s) (front-only n s (p .0) (p .1) e .allowed-is)))))
+        (allowed-lawful n (p .0) (viewAt n s) (front-only n s (p .0) (p .1) e .allowed-is)))))
       where
         v : View
         v = viewOf n (viewAt n s)

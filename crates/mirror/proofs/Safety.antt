@@ -8,10 +8,9 @@ use Rattle.record.specs.Usable.{isOpen, full, usable}
 use Rattle.record.specs.declared.Node.{Node}
 use Rattle.record.specs.declared.Operation.{Operation}
 use Rattle.node.specs.Allowed.{lawful}
-use Rattle.node.specs.Claims.{AllLawful}
+use Rattle.node.specs.Claims.{Long, AllLawful}
 use Rattle.node.specs.Move.{messageStep, beginStep}
 use Rattle.node.specs.Step.{messages}
-use Rattle.node.proofs.Handled.{Long}
 use Rattle.node.proofs.Theorems.{message-usable, message-lawful, begin-usable, begin-lawful}
 use Rattle.eqaso.specs.Algorithm as A
 use Rattle.eqaso.specs.Order.{OneTo}

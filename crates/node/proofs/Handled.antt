@@ -16,7 +16,7 @@ use Rattle.wire.specs.declared.Message.{Message}
 use Rattle.wire.specs.declared.Message.the-variants.{Read, ReadAnswer, Write, WriteAnswer, Echo, Value, Good}
 use Rattle.table.specs.Table.{put, newest, within, cell}
 use Rattle.table.specs.Quorum.{member, with, only}
-use Rattle.table.proofs.Entries.{Sized, within-newest, within-put, heard-within-set}
+use Rattle.table.proofs.Entries.{within-newest, within-put, heard-within-set}
 use Rattle.table.proofs.Sets.{only-none, only-with}
 use Rattle.record.specs.Record.{waiting}
 use Rattle.record.specs.Usable.{isOpen, full, stillUses, roundTag}
@@ -27,16 +27,11 @@ use Rattle.record.specs.declared.Wait.{Wait}
 use Rattle.record.specs.declared.Wait.the-variants.{Idle, Reading, Writing, Comparing, Borrowing}
 use Rattle.record.proofs.Parts.{Parts, reading-ok, reading-of, writing-ok, writing-of}
 use Rattle.node.specs.Allowed.{lawful}
+use Rattle.node.specs.Claims.{Long}
 use Rattle.node.specs.React.{raised, readAnswered, writeAnswered, roundHolds, isNew, received, keep, react}
 use Rattle.node.specs.Move.{begun}
 use Rattle.node.proofs.Numbers.{max-most, on-pick, on-picks}
 use Rattle.node.proofs.Safe.{turned-parts}
-
--- the tables that a value is stored in, as long as the type says
-pub record Long (c : Node) : Type 0 where
-  pub last : Sized (c .last)
-  pub atmax : Sized (c .atmax)
-  pub atround : Sized (c .atround)
 
 raised-parts : (c : Node) (t : ℕ) → Parts c → t ≤ limit → Parts (raised c t)
 unfolding raised

@@ -1,3 +1,4 @@
+pub mod Allowed
 pub mod Exclusive
 pub mod Handled
 pub mod Lawful

@@ -1,18 +1,27 @@
--- What is claimed of a step, in the words of document 01.
+-- The words in which specs/Theorems says what is claimed of a step.
 -- Assumes nothing.
 use mathlib.Core.Path.{_≡_}
 use mathlib.Core.Bool.{Bool, true, false}
+use mathlib.Core.Logic.{_⊎_}
 use mathlib.Core.List.{List, [], _∷_}
-use Prim.Native.Nat.{ℕ, _+_}
+use Prim.Native.Nat.{ℕ, _+_, _<_}
 use lib.Dec.{leb}
+use lib.ListN.{length}
 use Rattle.view.specs.declared.View.{View}
 use Rattle.wire.specs.Layout.{size}
 use Rattle.wire.specs.declared.Message.{Message}
+use Rattle.wire.specs.declared.Message.the-variants.{Echo}
 use Rattle.table.specs.Quorum.{size as setSize, isQuorum, agreeing}
 use Rattle.record.specs.declared.Node.{Node}
 use Rattle.record.specs.declared.Wait.{Wait}
 use Rattle.record.specs.declared.Wait.the-variants.{Idle, Reading, Writing, Comparing, Borrowing}
 use Rattle.node.specs.Allowed.{lawful}
+
+-- the tables that a value is stored in have the length that their type says
+pub record Long (c : Node) : Type 0 where
+  pub last : (length (c .last .tags) ≡ 16) × (length (c .last .reports) ≡ 16)
+  pub atmax : (length (c .atmax .tags) ≡ 16) × (length (c .atmax .reports) ≡ 16)
+  pub atround : (length (c .atround .tags) ≡ 16) × (length (c .atround .reports) ≡ 16)
 
 -- every message of a list is of the layout for n nodes, the good ones with the view v
 abbrev pub AllLawful : ℕ → View → List Message → Type 0
@@ -46,3 +55,7 @@ isWriting (Reading o a m) = false
 isWriting (Writing k i r a) = true
 isWriting (Comparing k i r) = false
 isWriting (Borrowing k r) = false
+
+-- maxtag stays, or it grows and an echo of it is the first message
+abbrev pub Echoed : ℕ → ℕ → List Message → Type 0
+Echoed old new ms = (new ≡ old) ⊎ ((old < new) × ((rest : List Message) × (ms ≡ Echo new ∷ rest)))

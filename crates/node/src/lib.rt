@@ -11,6 +11,7 @@ use record::Node;
 use record::Operation;
 use record::Wait;
 use record::changes::turned_node;
+use record::usable::is_stale;
 use view::View;
 use view::absent;
 use wire::Message;
@@ -20,6 +21,7 @@ ghost use Prim.Native.Nat.{_≤_};
 ghost use Rattle.view.specs.Size.{limit};
 ghost use Rattle.record.specs.Usable.{isOpen, full, usable};
 ghost use Rattle.node.specs.Allowed.{lawful};
+ghost use Rattle.node.specs.Stale.{staleMessage, writerWithin};
 ghost use Rattle.node.specs.Step.{started};
 ghost use Rattle.node.specs.Move.{messageStep, begun, beginStep};
 
@@ -115,4 +117,24 @@ pub fn begin_step(f: usize, c: Node, o: Operation) -> Step
     ensures { λ r. ⌜ r ≡ beginStep f c o ⌝ }
 {
     move_on(f, begun_step(c, o))
+}
+
+// Whether a message from s is refused with 9.
+pub fn is_stale_message(c: Node, s: usize, m: Message) -> bool
+    requires { ⌜ (1 ≤ s) × (s ≤ 16) × (writerWithin 16 m ≡ true) ⌝ }
+    ensures { λ r. ⌜ r ≡ staleMessage c s m ⌝ }
+{
+    match m {
+        Message::Read { request: _ } => false,
+        Message::ReadAnswer { request: _, tag: _ } => false,
+        Message::Write { request: _, tag: _ } => false,
+        Message::WriteAnswer { request: _, tag: _ } => false,
+        Message::Echo { tag: _ } => false,
+        Message::Value {
+            tag,
+            writer,
+            report: _,
+        } => is_stale(c, s, writer, tag),
+        Message::Good { tag: _ } => false,
+    }
 }

@@ -30,7 +30,7 @@ use Rattle.cluster.proofs.Told.{fresh-none, fresh-is}
 use Rattle.points.specs.Points.{Refused, zeros, Taken, Sizes, Faults, readOne, ReadOne, GoodBytes}
 
 not-taken : (n : ℕ) → isSize n ≡ false → Refused n
-unfolding answer figuresOf N.freshReply
+unfolding answer figuresOf N.fresh
 not-taken n s = record {
   read = λ b. refuses-one n b s;
   write = λ m v room. rw s refl;
@@ -40,7 +40,7 @@ not-taken n s = record {
 }
 
 is-taken : (n : ℕ) → isSize n ≡ true → figuresOf n (replicate (16 * n) 0) ≡ result zeros → Taken n
-unfolding figuresOf N.freshReply statedSize
+unfolding figuresOf N.fresh statedSize
 is-taken n s none = record {
   read = λ m v h. read-back n m v s h;
   write = λ m v room h l. answered n m v room s h l;

@@ -6,6 +6,7 @@ use mathlib.Core.Bool.{true}
 use mathlib.Core.List.{List, [], _∷_, _++_, append-nil}
 use lib.ListN.{length}
 use borrow.Author.Tests.{le-leb, le-ltb, leb-true}
+use Rattle.octets.specs.Answer.{result}
 use Rattle.octets.specs.Bytes.{put}
 use Rattle.octets.proofs.Put.{put-nil}
 use Rattle.octets.proofs.Test.{both-true, both-right}
@@ -26,6 +27,7 @@ use Rattle.record.specs.declared.Wait.{Wait}
 use Rattle.record.specs.declared.Wait.the-variants.{Idle, Writing}
 use Rattle.record.proofs.Parts.{parts}
 use Rattle.node.specs.Move.{messageStep}
+use Rattle.node.specs.Told as K
 use Rattle.node.specs.declared.Ending.{Ending}
 use Rattle.node.specs.declared.Ending.the-variants.{None}
 use Rattle.node.specs.declared.Step.{Step}
@@ -33,16 +35,15 @@ use Rattle.node.proofs.Points.{Shows, spent, goes-on, scan-goes-on}
 use Rattle.node.proofs.Turns.{reading-most}
 use Rattle.endpoint.specs.Bytes.{run}
 use Rattle.endpoint.specs.Entry as N
-use Rattle.endpoint.specs.declared.Said.the-variants.{Going, Exhausted}
 use Rattle.endpoint.proofs.Refusals.{message-read, taken-goes}
 use Rattle.points.specs.Points.{LastAnswer, used, Leaves, LastTag}
 
 -- What is let out of a step.
 leaves : {x : Step} {ms : List Message} {w : Wait} {e : Ending} → Shows x ms w e → (out l : List ℕ)
-    → put out 0 (run (viewBytes (x .node .n) (x .outbox .view)) ms) ≡ l → Leaves (N.letOut x out) (N.saidOf e) w l
+    → put out 0 (run (viewBytes (x .node .n) (x .outbox .view)) ms) ≡ l → Leaves (N.letOut x out) (K.told (result e) (x .view)) w l
 unfolding N.letOut
 leaves {x} S out l h = record {
-  said = ap N.saidOf (S .ending);
+  told = ap (λ e. K.told (result e) (x .view)) (S .ending);
   wait = S .wait;
   bytes = ap (λ ms. put out 0 (run (viewBytes (x .node .n) (x .outbox .view)) ms)) (S .sent) ∙ h;
 }
@@ -78,20 +79,20 @@ module _ (c : Node) (o : Operation) (m s t : ℕ) (b out : List ℕ) (L : LastAn
 
   left-by : {ms : List Message} {w : Wait} {e : Ending} → Shows step ms w e → (l : List ℕ)
       → put out 0 (run (viewBytes (step .node .n) (step .outbox .view)) ms) ≡ l
-      → Leaves (N.message c s b out) (N.saidOf e) w l
-  left-by {ms} {w} {e} S l h = subst (λ x. Leaves x (N.saidOf e) w l) (sym steps) (leaves S out l h)
+      → Leaves (N.message c s b out) (K.told (result e) (step .view)) w l
+  left-by {ms} {w} {e} S l h = subst (λ x. Leaves x (K.told (result e) (step .view)) w l) (sym steps) (leaves S out l h)
 
 module _ (c : Node) (p : Report) (m s t : ℕ) (b out : List ℕ) (L : LastAnswer c (Update p) m s t b out) where
   abbrev update : Operation
   update = Update p
 
-  ends : used c m t ≡ limit → Leaves (N.message c s b out) Exhausted Idle out
+  ends : used c m t ≡ limit → Leaves (N.message c s b out) (K.spent 13) Idle out
   unfolding run
   ends h = left-by c update m s t b out L
       (spent (faults (c .n)) c s t noView (L .answered) m (L .new) (quorum c update m s t b out L) (L .reads) h)
       out (put-nil out 0)
 
-  one-more : used c m t ≡ limit - 1 → Leaves (N.message c s b out) Going (Writing UpdateKind 0 (limit - 1) 0)
+  one-more : used c m t ≡ limit - 1 → Leaves (N.message c s b out) K.nothing (Writing UpdateKind 0 (limit - 1) 0)
       (put out 0 (encode (Value limit (c .own) p) [] ++ encode (Write (c .request + 1) (limit - 1)) []))
   unfolding run encode
   one-more h = left-by c update m s t b out L
@@ -106,7 +107,6 @@ module _ (c : Node) (p : Report) (m s t : ℕ) (b out : List ℕ) (L : LastAnswe
 pub last-tag-holds : LastTag
 unfolding run encode
 last-tag-holds = record {
-  thirteen = refl;
   spent = ends;
   by-answer = λ c p m s t b out L h. ends c p m s t b out L (omega (
     arith,

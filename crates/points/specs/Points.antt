@@ -26,8 +26,8 @@ use Rattle.record.specs.declared.Kind.the-variants.{Update as UpdateKind, Scan 
 use Rattle.record.specs.declared.Wait.{Wait}
 use Rattle.record.specs.declared.Wait.the-variants.{Idle, Reading, Writing}
 use Rattle.node.specs.declared.Ending.the-variants.{None}
-use Rattle.endpoint.specs.declared.Said.{Said}
-use Rattle.endpoint.specs.declared.Said.the-variants.{Going, Exhausted}
+use Rattle.node.specs.Told as K
+use Rattle.endpoint.specs.Outcome.{Outcome}
 use Rattle.endpoint.specs.Entry as N
 use Rattle.region.specs.Channel.{countOf}
 use Rattle.layout.specs.Layout.{clusterSize, size as statedSize, stated, stopped, node, channel, fits, sound}
@@ -46,7 +46,7 @@ use Rattle.mirror.specs.Run as R
 pub record Refused (n : ℕ) : Type 0 where
   pub read : (b : List ℕ) → decode n b ≡ refused 1
   pub write : (m : Message) (v : List ℕ) (room : ℕ) → answer n m v room ≡ refused 1
-  pub fresh-node : (own : ℕ) → N.freshReply n own ≡ N.refusing 1 (blank 0 0)
+  pub fresh-node : (own : ℕ) → N.fresh n own ≡ N.refuse 1 (blank 0 0) []
   pub fresh-cluster : (b : List ℕ) → fresh n b ≡ refuse 1 b
   -- of a view of the length for n
   pub figures : (v : List ℕ) → length v ≡ 16 * n → figuresOf n v ≡ refused 1
@@ -59,7 +59,7 @@ pub record Taken (n : ℕ) : Type 0 where
   pub read : (m : Message) (v : List ℕ) → allowed n m v ≡ true → decode n (encode m v) ≡ result m
   pub write : (m : Message) (v : List ℕ) (room : ℕ) → allowed n m v ≡ true → length (encode m v) ≤ room
       → answer n m v room ≡ result (length (encode m v))
-  pub fresh-node : N.freshReply n 1 ≡ record { said = Going; node = blank n 1; view = noView }
+  pub fresh-node : N.fresh n 1 ≡ record { answer = K.nothing; node = blank n 1; length = 0; out = [] }
   -- in bytes of the length that the library states for n
   pub fresh-cluster : (b : List ℕ) → length b ≡ statedSize n
       → fresh n b ≡ record { bytes = freshBytes n (length b); answer = result None; view = noView; sent = [] }
@@ -124,30 +124,29 @@ pub record LastAnswer (c : Node) (o : Operation) (m s t : ℕ) (b out : List ℕ
 abbrev pub used : Node → ℕ → ℕ → ℕ
 used c m t = max (max m t) (c .maxtag)
 
--- What the call leaves: what it says, the wait of the record, and the output buffer.
-pub record Leaves (x : N.Outcome) (answer : Said) (next : Wait) (buffer : List ℕ) : Type 0 where
-  pub said : x .reply .said ≡ answer
-  pub wait : x .reply .node .wait ≡ next
+-- What the call leaves: what it tells, the wait of the record, and the output buffer.
+pub record Leaves (x : Outcome) (answer : K.Told) (next : Wait) (buffer : List ℕ) : Type 0 where
+  pub told : x .answer ≡ answer
+  pub wait : x .node .wait ≡ next
   pub bytes : x .out ≡ buffer
 
 pub record LastTag : Type 0 where
-  pub thirteen : N.number Exhausted ≡ 13
   -- The update is spent: nothing is written, and no operation is open.
   pub spent : (c : Node) (p : Report) (m s t : ℕ) (b out : List ℕ) → LastAnswer c (Update p) m s t b out
-      → used c m t ≡ limit → Leaves (N.message c s b out) Exhausted Idle out
+      → used c m t ≡ limit → Leaves (N.message c s b out) (K.spent 13) Idle out
   -- both ways to read the largest tag
   pub by-answer : (c : Node) (p : Report) (m s t : ℕ) (b out : List ℕ) → LastAnswer c (Update p) m s t b out
-      → t ≡ limit → Leaves (N.message c s b out) Exhausted Idle out
+      → t ≡ limit → Leaves (N.message c s b out) (K.spent 13) Idle out
   pub by-own : (c : Node) (p : Report) (m s t : ℕ) (b out : List ℕ) → LastAnswer c (Update p) m s t b out
-      → c .maxtag ≡ limit → Leaves (N.message c s b out) Exhausted Idle out
+      → c .maxtag ≡ limit → Leaves (N.message c s b out) (K.spent 13) Idle out
   -- One less: the value has the largest tag, and round 0 opens with the tag used.
   pub one-less : (c : Node) (p : Report) (m s t : ℕ) (b out : List ℕ) → LastAnswer c (Update p) m s t b out
       → used c m t ≡ limit - 1
-      → Leaves (N.message c s b out) Going (Writing UpdateKind 0 (limit - 1) 0)
+      → Leaves (N.message c s b out) K.nothing (Writing UpdateKind 0 (limit - 1) 0)
       (put out 0 (encode (Value limit (c .own) p) [] ++ encode (Write (c .request + 1) (limit - 1)) []))
   -- A scan goes on with the largest tag: round 1 opens.
   pub scan-goes-on : (c : Node) (m s t : ℕ) (b out : List ℕ) → LastAnswer c Scan m s t b out → used c m t ≡ limit
-      → Leaves (N.message c s b out) Going (Writing ScanKind 1 limit 0) (put out 0 (encode (Write (c .request + 1) limit) []))
+      → Leaves (N.message c s b out) K.nothing (Writing ScanKind 1 limit 0) (put out 0 (encode (Write (c .request + 1) limit) []))
 
 -- ---- a stop with n = 1 is 10; with n = 3 the second is 10
 

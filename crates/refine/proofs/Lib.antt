@@ -11,3 +11,4 @@ pub mod React
 pub mod Answers
 pub mod Compares
 pub mod Steps
+pub mod Reports

@@ -1,3 +1,4 @@
 pub mod Meaning
 pub mod Follows
 pub mod Lockstep
+pub mod Reports

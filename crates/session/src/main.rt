@@ -6,7 +6,6 @@ use libc::STDOUT_FILENO;
 use record::Node;
 use record::Operation;
 use view::Report;
-ghost use Prim.Native.Nat.{_+_, _≤_};
 
 // The digit of the low four bits.
 fn digit(x: u8) -> u8 {
@@ -29,15 +28,23 @@ fn line(b: &[u8]) {
     io::write_all(STDOUT_FILENO, b"\n");
 }
 
-// Delivers m from the node itself, and prints what it sends: a message of `first` bytes and one of `second`.
-fn deliver(c: Node, m: &[u8], first: usize, second: usize) -> Node
-    requires { ⌜ first + second ≤ 512 ⌝ }
-{
+// Prints the messages in the first `length` bytes: one of `first` bytes, and what follows it.
+fn messages(out: &[u8], first: usize, length: usize) {
+    if out.len() < length {
+        return;
+    }
+    if length < first {
+        return;
+    }
+    line(&out[0..first]);
+    line(&out[first..length]);
+}
+
+// Delivers m from the node itself, and prints what it sends: a message of `first` bytes, and one more if there is one.
+fn deliver(c: Node, m: &[u8], first: usize) -> Node {
     let mut out = [0u8; 512];
     let r = endpoint::message(c, 1, m, &mut out);
-    let end = first + second;
-    line(&out[0..first]);
-    line(&out[first..end]);
+    messages(&out, first, r.length);
     let said = r.said;
     if let Said::Finished = said {
         io::write_all(STDOUT_FILENO, b"done\n");
@@ -76,7 +83,7 @@ fn reading(c: Node) -> Node {
         0,
         0,
     ];
-    deliver(deliver(c, &read, 26, 0), &answer, 30, 26)
+    deliver(deliver(c, &read, 26), &answer, 30)
 }
 
 // Round 0: the value, the write, the value that was passed on, and the write's answer.
@@ -169,8 +176,8 @@ fn first_round(c: Node) -> Node {
         0,
         0,
     ];
-    let d = deliver(deliver(c, &value, 30, 0), &write, 26, 0);
-    deliver(deliver(d, &value, 0, 0), &answer, 34, 26)
+    let d = deliver(deliver(c, &value, 30), &write, 26);
+    deliver(deliver(d, &value, 0), &answer, 34)
 }
 
 // Round 1: the good message of round 0, the write, its echo and its answer, and the good message of round 1.
@@ -268,8 +275,8 @@ fn second_round(c: Node) -> Node {
         0,
         1,
     ];
-    let d = deliver(deliver(c, &good, 0, 0), &write, 15, 26);
-    deliver(deliver(d, &echo, 0, 0), &answer, 34, 0)
+    let d = deliver(deliver(c, &good, 0), &write, 15);
+    deliver(deliver(d, &echo, 0), &answer, 34)
 }
 
 fn main() {
@@ -282,6 +289,6 @@ fn main() {
         wakeups: 4,
     };
     let begun = endpoint::begin(fresh.node, Operation::Update(report), &mut out);
-    line(&out[0..15]);
+    messages(&out, 15, begun.length);
     second_round(first_round(reading(begun.node)));
 }

@@ -1,13 +1,13 @@
 -- A report and its eight bytes give back each other.
-use Prim.Native.Nat.{ℕ, _+_, _≤_}
+use Prim.Native.Nat.{ℕ, zero, suc, _+_, _≤_}
 use mathlib.Core.Path.{_≡_, sym, ap, ap₂, _∙_}
-use mathlib.Core.List.{List, _++_}
+use mathlib.Core.List.{List, [], _∷_, _++_}
 use native.Mathlib.Omega.{arith}
 use lib.ListN.{length, replicate}
 use Rattle.octets.specs.Bytes.{Bytes, num, be, part}
-use Rattle.octets.proofs.Number.{num-be-suc, be-num, num-zero}
+use Rattle.octets.proofs.Number.{num-be-suc, be-num, be-bytes, num-zero}
 use Rattle.octets.proofs.Put.{part-add, part-all, part-bytes, length-part}
-use Rattle.view.specs.Report.{noReport, reportBytes, reportOf}
+use Rattle.view.specs.Report.{Counts, noReport, reportBytes, reportOf}
 use Rattle.view.specs.declared.Report.{Report}
 
 pub report-back : (p : Report) → reportOf (reportBytes p) ≡ p
@@ -35,3 +35,21 @@ report-bytes-back b h l =
 pub zero-report : (b : List ℕ) → Bytes b → length b ≡ 8 → num b ≡ 0 → reportOf b ≡ noReport
 unfolding reportOf part
 zero-report b h l e = ap reportOf (num-zero b h e ∙ ap (λ (k : ℕ). replicate k 0) l)
+
+-- the bytes of counts of sixteen bits are bytes
+bytes-append : (a b : List ℕ) → Bytes a → Bytes b → Bytes (a ++ b)
+bytes-append [] b h k i = k i
+bytes-append (x ∷ a) b h k zero = h zero
+bytes-append (x ∷ a) b h k (suc i) = bytes-append a b (λ j. h (suc j)) k i
+
+pub report-bytes : (p : Report) → Counts p → Bytes (reportBytes p)
+report-bytes p h =
+    let a : List ℕ = be 2 (p .extensions) in
+    let b : List ℕ = be 2 (p .lines) in
+    let c : List ℕ = be 2 (p .waiting) in
+    let d : List ℕ = be 2 (p .wakeups) in
+    bytes-append (a ++ b ++ c) d
+    (bytes-append (a ++ b) c
+    (bytes-append a b (be-bytes 2 (p .extensions) (h .extensions)) (be-bytes 2 (p .lines) (h .lines)))
+    (be-bytes 2 (p .waiting) (h .waiting)))
+    (be-bytes 2 (p .wakeups) (h .wakeups))

@@ -1,11 +1,18 @@
 -- A report and its eight bytes: four counts of two bytes, the high byte first.
-use Prim.Native.Nat.{ℕ}
+use Prim.Native.Nat.{ℕ, _<_, _^_}
 use mathlib.Core.Bool.{Bool}
 use mathlib.Core.List.{List, _++_}
 use lib.Dec.{eqb}
 use Rattle.octets.specs.Test.{both}
 use Rattle.octets.specs.Bytes.{num, be, part}
 use Rattle.view.specs.declared.Report.{Report}
+
+-- the counts have sixteen bits, as their type says
+pub record Counts (p : Report) : Type 0 where
+  pub extensions : p .extensions < 2 ^ 16
+  pub lines : p .lines < 2 ^ 16
+  pub waiting : p .waiting < 2 ^ 16
+  pub wakeups : p .wakeups < 2 ^ 16
 
 abbrev pub noReport : Report
 noReport = record { extensions = 0; lines = 0; waiting = 0; wakeups = 0 }

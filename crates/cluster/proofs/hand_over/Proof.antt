@@ -17,7 +17,8 @@ use Rattle.cluster.specs.Event.{mayStop, letOut, within, stepped}
 use Rattle.entries.specs.Entries.{entries}
 use Rattle.cluster.proofs.Told.{refuses, becomes}
 use Rattle.cluster.proofs.Settled.{judged, settle-full, settle-commits}
-use Rattle.cluster.proofs.Handed.{lawful-writer, hand-stale, hand-uncut, hand-settles}
+use Rattle.node.proofs.Allowed.{lawful-writer}
+use Rattle.cluster.proofs.Handed.{hand-stale, hand-uncut, hand-settles}
 use Rattle.cluster.proofs.hand_over.Tie as tie
 
 node-at-requires : tie.Need-node-at-requires

@@ -1,6 +1,8 @@
 -- `endpoint::let_out` meets its contract. Assumes nothing.
 use borrow.Author.Needs.{needs}
+use mathlib.Core.Path.{refl}
 use Rattle.endpoint.specs.Entry.{letOut}
+use Rattle.endpoint.proofs.Tells.{tells-ending}
 use Rattle.endpoint.proofs.let_out.Statement.{statement}
 use Rattle.endpoint.proofs.let_out.Tie as tie
 
@@ -9,7 +11,17 @@ emit-all-requires c κs = c .before .before .before .before .pre
 
 returns : tie.Need-returns
 unfolding letOut
-returns c = (simp (c .before .said-of .ensures, c .view-shown .ensures), c .before .before .before .before .emit-all .ensures)
+returns c =
+    let step = c .before .before .before .before .before .before .before .before .before .args .s in
+    let said = c .before .said-of in
+    let view = c .view-shown in
+    let sent = c .before .before .before .before .emit-all .ensures in (
+      tells-ending (said .result) (step .ending) (step .view) (view .result) (said .ensures) (view .ensures),
+      view .ensures,
+      refl,
+      sent .0,
+      sent .1,
+    )
 
 pub let-out-spec : {M : Type 1} → statement M
 let-out-spec =

@@ -1,46 +1,83 @@
 -- `endpoint::message` meets its contract. Assumes nothing.
 use borrow.Author.Needs.{needs}
-use mathlib.Core.Path.{sym, ap, _∙_}
+use mathlib.Core.Path.{sym, ap, _∙_, subst}
 use lib.Dec.{leb}
 use borrow.Author.Tests.{lt-ltb, le-ltb, leb-true}
 use Rattle.octets.proofs.Test.{both-left, both-right}
 use Rattle.wire.specs.Outcome.{parsed}
-use Rattle.endpoint.specs.Entry.{Outcome}
+use Rattle.endpoint.specs.Outcome.{tells}
 use Rattle.endpoint.proofs.Refusals.{message-12, message-2, message-3, message-7, message-read}
 use Rattle.endpoint.proofs.message.Statement.{statement}
 use Rattle.endpoint.proofs.message.Tie as tie
 
 returns : tie.Need-returns
-returns c = let a = c .before .before .before .before .args in
+returns c =
+    let a = c .before .before .before .before .args in
     let e = message-12 (a .c) (a .s) (a .b .now) (a .out .now) (lt-ltb _ _ (c .before .if1 .taken)) in
-    (c .refused-reply .ensures ∙ sym (ap (λ (x : Outcome). x .reply) e), sym (ap (λ (x : Outcome). x .out) e))
+    subst (tells (c .refused-reply .result) _) (sym e) (c .refused-reply .ensures _)
 
 taken-message-requires : tie.Need-taken-message-requires
-taken-message-requires c κs = let a = c .before .before .before .before .before .before .before .before .before .before .before .before .before .args in
-    let k = sym (c .before .before .before .before .before .before .and .ensures) ∙ c .before .before .before .before .before .if3 .taken in
-    (sym (c .before .before .before .before .before .before .before .before .before .is-usable .ensures) ∙ c .before .before .before .before .before .before .before .before .if2 .taken, leb-true _ _ (both-left (leb 1 (a .s)) (leb (a .s) (a .c .n)) k), leb-true _ _ (both-right (leb 1 (a .s)) (leb (a .s) (a .c .n)) k), sym (c .before .before .before .before .read .ensures) ∙ ap parsed (c .before .before .m .given .1), c .before .before .before .before .before .before .before .before .before .before .if1 .left)
+taken-message-requires c κs =
+    let c5 = c .before .before .before .before .before in
+    let c10 = c5 .before .before .before .before .before in
+    let a = c10 .before .before .before .args in
+    let sender = sym (c5 .before .and .ensures) ∙ c5 .if3 .taken in
+    let low = leb 1 (a .s) in
+    let high = leb (a .s) (a .c .n) in (
+      sym (c5 .before .before .before .before .is-usable .ensures) ∙ c5 .before .before .before .if2 .taken,
+      leb-true _ _ (both-left low high sender),
+      leb-true _ _ (both-right low high sender),
+      sym (c .before .before .before .before .read .ensures) ∙ ap parsed (c .before .before .m .given .1),
+      c10 .if1 .left,
+    )
 
 returns-2 : tie.Need-returns-2
-returns-2 c = let a = c .before .before .before .before .before .before .before .before .before .before .before .before .before .before .before .before .args in
-    let e = message-read (a .c) (a .s) (a .b .now) (a .out .now) (le-ltb _ _ (c .before .before .before .before .before .before .before .before .before .before .before .before .before .if1 .left)) (sym (c .before .before .before .before .before .before .before .before .before .before .before .before .is-usable .ensures) ∙ c .before .before .before .before .before .before .before .before .before .before .before .if2 .taken) (sym (c .before .before .before .before .before .before .before .before .before .and .ensures) ∙ c .before .before .before .before .before .before .before .before .if3 .taken) _ (sym (c .before .before .before .before .before .before .before .read .ensures) ∙ ap parsed (c .before .before .before .before .before .m .given .1)) in
-    (c .before .before .taken-message .ensures .0 ∙ sym (ap (λ (x : Outcome). x .reply) e), c .before .before .taken-message .ensures .1 ∙ sym (ap (λ (x : Outcome). x .out) e))
+returns-2 c =
+    let c5 = c .before .before .before .before .before in
+    let c11 = c5 .before .before .before .before .before .before in
+    let c16 = c11 .before .before .before .before .before in
+    let a = c16 .args in
+    let long = le-ltb _ _ (c11 .before .before .if1 .left) in
+    let usable = sym (c11 .before .is-usable .ensures) ∙ c11 .if2 .taken in
+    let sender = sym (c5 .before .before .before .before .and .ensures) ∙ c5 .before .before .before .if3 .taken in
+    let read = sym (c5 .before .before .read .ensures) ∙ ap parsed (c5 .m .given .1) in
+    let e = message-read (a .c) (a .s) (a .b .now) (a .out .now) long usable sender _ read in
+    subst (tells (c .before .before .taken-message .result) _) (sym e) (c .before .before .taken-message .ensures)
 
 returns-3 : tie.Need-returns-3
-returns-3 c = let a = c .before .before .before .before .before .before .before .before .before .before .before .before .args in
-    let e = message-7 (a .c) (a .s) (a .b .now) (a .out .now) (le-ltb _ _ (c .before .before .before .before .before .before .before .before .before .if1 .left)) (sym (c .before .before .before .before .before .before .before .before .is-usable .ensures) ∙ c .before .before .before .before .before .before .before .if2 .taken) (sym (c .before .before .before .before .before .and .ensures) ∙ c .before .before .before .before .if3 .taken) _ (sym (c .before .before .before .read .ensures) ∙ ap parsed (c .before .enum-told .given .1)) in
-    (c .refused-reply2 .ensures ∙ sym (ap (λ (x : Outcome). x .reply) e), sym (ap (λ (x : Outcome). x .out) e))
+returns-3 c =
+    let c5 = c .before .before .before .before .before in
+    let c12 = c5 .before .before .before .before .before .before .before in
+    let a = c12 .args in
+    let long = le-ltb _ _ (c5 .before .before .before .before .if1 .left) in
+    let usable = sym (c5 .before .before .before .is-usable .ensures) ∙ c5 .before .before .if2 .taken in
+    let sender = sym (c5 .and .ensures) ∙ c .before .before .before .before .if3 .taken in
+    let read = sym (c .before .before .before .read .ensures) ∙ ap parsed (c .before .enum-told .given .1) in
+    let e = message-7 (a .c) (a .s) (a .b .now) (a .out .now) long usable sender _ read in
+    subst (tells (c .refused-reply2 .result) _) (sym e) (c .refused-reply2 .ensures _)
 
 returns-4 : tie.Need-returns-4
-returns-4 c = let a = c .before .before .before .before .before .before .before .before .before .args in
-    let e = message-3 (a .c) (a .s) (a .b .now) (a .out .now) (le-ltb _ _ (c .before .before .before .before .before .before .if1 .left)) (sym (c .before .before .before .before .before .is-usable .ensures) ∙ c .before .before .before .before .if2 .taken) (sym (c .before .before .and .ensures) ∙ c .before .if3 .left) in
-    (c .refused-reply3 .ensures ∙ sym (ap (λ (x : Outcome). x .reply) e), sym (ap (λ (x : Outcome). x .out) e))
+returns-4 c =
+    let c5 = c .before .before .before .before .before in
+    let a = c5 .before .before .before .before .args in
+    let long = le-ltb _ _ (c5 .before .if1 .left) in
+    let usable = sym (c5 .is-usable .ensures) ∙ c .before .before .before .before .if2 .taken in
+    let nobody = sym (c .before .before .and .ensures) ∙ c .before .if3 .left in
+    let e = message-3 (a .c) (a .s) (a .b .now) (a .out .now) long usable nobody in
+    subst (tells (c .refused-reply3 .result) _) (sym e) (c .refused-reply3 .ensures _)
 
 returns-5 : tie.Need-returns-5
-returns-5 c = let a = c .before .before .before .before .before .before .args in
-    let e = message-2 (a .c) (a .s) (a .b .now) (a .out .now) (le-ltb _ _ (c .before .before .before .if1 .left)) (sym (c .before .before .is-usable .ensures) ∙ c .before .if2 .left) in
-    (c .refused-reply4 .ensures ∙ sym (ap (λ (x : Outcome). x .reply) e), sym (ap (λ (x : Outcome). x .out) e))
+returns-5 c =
+    let c6 = c .before .before .before .before .before .before in
+    let a = c6 .args in
+    let long = le-ltb _ _ (c .before .before .before .if1 .left) in
+    let unusable = sym (c .before .before .is-usable .ensures) ∙ c .before .if2 .left in
+    let e = message-2 (a .c) (a .s) (a .b .now) (a .out .now) long unusable in
+    subst (tells (c .refused-reply4 .result) _) (sym e) (c .refused-reply4 .ensures _)
 
 pub message-spec : {M : Type 1} → statement M
 message-spec =
     tie.close
-    (tie.spec (λ c κs. search needs) returns (λ c κs. search needs) (λ c κs. search needs) (λ c κs. search needs) (λ c. search needs) taken-message-requires (λ c. search needs) (λ c κs. search needs) (λ c. search needs) returns-2 returns-3 (λ c κs. search needs) returns-4 (λ c κs. search needs) returns-5)
+    (tie.spec (λ c κs. search needs) returns (λ c κs. search needs) (λ c κs. search needs) (λ c κs. search needs)
+    (λ c. search needs) taken-message-requires (λ c. search needs) (λ c κs. search needs) (λ c. search needs) returns-2
+    returns-3 (λ c κs. search needs) returns-4 (λ c κs. search needs) returns-5)

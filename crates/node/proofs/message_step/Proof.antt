@@ -3,8 +3,9 @@ use borrow.Author.Needs.{needs}
 use mathlib.Core.Path.{ap, _∙_}
 use Rattle.table.proofs.Laws.{length-mapped}
 use Rattle.record.proofs.Parts.{parts, usable-of}
+use Rattle.node.specs.Claims.{Long}
 use Rattle.node.specs.Move.{moveOn, messageStep}
-use Rattle.node.proofs.Handled.{Long, react-parts}
+use Rattle.node.proofs.Handled.{react-parts}
 use Rattle.node.proofs.message_step.Statement.{statement}
 use Rattle.node.proofs.message_step.Tie as tie
 

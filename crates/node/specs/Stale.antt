@@ -1,4 +1,5 @@
 -- Refusal 9 of a message: a value that its sender or its writer cannot send now.
+-- Assumes nothing.
 use Prim.Native.Nat.{ℕ}
 use mathlib.Core.Bool.{Bool, true, false}
 use lib.Dec.{leb}
