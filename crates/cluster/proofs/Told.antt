@@ -1,6 +1,6 @@
 -- What each return of an entry says, by the refusals that did not apply before it.
 use Prim.Native.Nat.{ℕ, _+_, _≤_}
-use mathlib.Core.Path.{_≡_, refl, sym, ap, _∙_}
+use mathlib.Core.Path.{_≡_, refl, sym, ap, ap₂, _∙_}
 use mathlib.Core.Bool.{Bool, true, false}
 use mathlib.Core.List.{List, []}
 use lib.ListN.{length, set, replicate}
@@ -12,6 +12,7 @@ use Rattle.view.specs.View.{noView}
 use Rattle.record.specs.Record.{blank}
 use Rattle.record.specs.Usable.{usable}
 use Rattle.record.specs.declared.Operation.{Operation}
+use Rattle.node.specs.Told.{told}
 use Rattle.node.specs.declared.Ending.the-variants.{None}
 use Rattle.block.specs.Block.{keep}
 use Rattle.layout.specs.Layout.{clusterSize, stated, stopped, node, onBlock, fits, sound, isNode}
@@ -20,7 +21,7 @@ use Rattle.cluster.specs.declared.Answer.{Answer}
 use Rattle.cluster.specs.declared.Extent.{Extent}
 use Rattle.cluster.specs.declared.Outcome.the-variants.{Refused}
 use Rattle.cluster.specs.Event.{Result, refuse, beginIn, openIn, begin, freshBytes, fresh}
-use Rattle.cluster.specs.Outcome.{said, tells}
+use Rattle.cluster.specs.Outcome.{toldBy, toldOf, said, tells}
 
 pub refuses : (k : ℕ) {r : Answer} {b : List ℕ} {e : Result} → e ≡ refuse k b
     → r ≡ record { outcome = Refused k; view = noView } → tells r b e
@@ -93,3 +94,7 @@ module _ (n : ℕ) (b : List ℕ) where
       → y ≡ upTo n (λ i. onBlock (i + 1) (keep (blank n (i + 1)))) (set z 0 n) → y ≡ freshBytes n (length b)
   unfolding freshBytes
   fresh-bytes e q = q ∙ ap (λ (t : List ℕ). upTo n (λ i. onBlock (i + 1) (keep (blank n (i + 1)))) (set t 0 n)) e
+
+-- what an answer tells in document 01's terms is what its event tells
+pub tells-told : (r : Answer) (b : List ℕ) (e : Result) → tells r b e → toldBy r ≡ toldOf e
+tells-told r b e t = ap₂ told (t .0) (t .1)

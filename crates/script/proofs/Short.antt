@@ -1,0 +1,62 @@
+-- What a turn and the end print fits in the buffer.
+use Prim.Native.Nat.{ℕ, _≤_}
+use mathlib.Core.Bool.{Bool, true, false}
+use mathlib.Core.List.{List, []}
+use native.Mathlib.Omega.{arith}
+use lib.ListN.{length}
+use lib.Dec.{eqb}
+use Rattle.octets.specs.Test.{pick}
+use Rattle.view.specs.View.{noView}
+use Rattle.cluster.specs.Event.{fresh}
+use Rattle.answers.specs.declared.Reply.the-variants.{No}
+use Rattle.answers.proofs.Short.{line-short}
+use Rattle.input.specs.Carry.{fed, eventIn, nodesIn}
+use Rattle.input.specs.declared.Carry.{Carry}
+use Rattle.script.specs.Act.{ran, handler, replyOf, printed}
+use Rattle.script.specs.Progress.{Told, cluster, onCluster, badLine, opened, told, ended, kept, turned, endedAt, finished}
+use Rattle.script.specs.declared.Stage.{Stage}
+use Rattle.script.specs.declared.Stage.the-variants.{First, Events, Over}
+use Rattle.script.specs.declared.Progress.{Progress}
+
+bad-short : (e : ℕ) → length (badLine e) ≤ 320
+bad-short e = line-short e (No 1) 0 noView
+
+opened-short : (n : ℕ) (m : List ℕ) → length (opened n m .text) ≤ 320
+opened-short n m = cases (eqb n 0)
+  where
+    made : Told
+    made = record { stage = Events n 1; memory = onCluster n (λ b. fresh n b .bytes) m; text = [] }
+
+    cases : (b : Bool) → length (pick b (record { stage = Over; memory = m; text = badLine 0 }) made .text) ≤ 320
+    cases true = bad-short 0
+    cases false = omega arith
+
+told-short : (s : Stage) (c : Carry) (m : List ℕ) → length (told s c m .text) ≤ 320
+unfolding told printed
+told-short First c m = opened-short (nodesIn c) m
+told-short (Events n e) c m =
+    let r = ran (eventIn c) (cluster n m) in
+    line-short e (replyOf (handler (eventIn c)) (r .answer)) n (r .view)
+told-short Over c m = omega arith
+
+pub turn-short : (p : Progress) (s m : List ℕ) → length (turned p s m .text) ≤ 320
+unfolding turned
+turn-short p s m = cases (fed (p .carry) s .ended)
+  where
+    cases : (b : Bool)
+        → length (pick b (ended (p .stage) (fed (p .carry) s) m) (kept (p .stage) (fed (p .carry) s) m) .text) ≤ 320
+    cases true = told-short (p .stage) (fed (p .carry) s .carry) m
+    cases false = omega arith
+
+end-short : (s : Stage) (k : ℕ) → length (endedAt s k) ≤ 320
+end-short First k = bad-short 0
+end-short (Events n e) k = cases (eqb k 0)
+  where
+    cases : (b : Bool) → length (pick b [] (badLine e)) ≤ 320
+    cases true = omega arith
+    cases false = bad-short e
+end-short Over k = omega arith
+
+pub finish-short : (p : Progress) → length (finished p) ≤ 320
+unfolding finished
+finish-short p = end-short (p .stage) (p .carry .size)

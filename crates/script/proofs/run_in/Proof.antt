@@ -1,0 +1,53 @@
+use borrow.Author.Needs.{needs}
+use mathlib.Core.Path.{sym, _∙_}
+use native.Mathlib.Nat.{zero-add}
+use native.Mathlib.Omega.{arith}
+use Rattle.octets.proofs.Lent.{lent as part-of, lent-back}
+use Rattle.script.specs.Act.{ran}
+use Rattle.script.specs.Progress.{lent, cluster, onCluster}
+use Rattle.script.proofs.run_in.Statement.{statement}
+use Rattle.script.proofs.run_in.Tie as tie
+
+lent-for-requires : tie.Need-lent-for-requires
+lent-for-requires c κs = search needs
+
+sub-run : tie.Need-sub-run
+sub-run c = search needs
+
+part-run-start : tie.Need-part-run-start
+part-run-start c = search needs
+
+part-run-end : tie.Need-part-run-end
+part-run-end c = search needs
+
+run-requires : tie.Need-run-requires
+run-requires c κs = search needs
+
+same-length : tie.Need-same-length
+same-length c = search needs
+
+returns : tie.Need-returns
+unfolding cluster onCluster
+returns c =
+    let x = c .before .before .before .before .before .before .before .args in
+    let n = x .n in
+    let m = x .m .now in
+    let z = zero-add (lent n) ∙ sym (c .before .before .before .before .before .lent-for .ensures .0) in
+    let r = c .before .before .run .ensures in
+    let s = sym (part-of m 0 (lent n) z) in (
+      lent-back m 0 (lent n) (λ b. ran (x .l) b .bytes) z (omega arith) (c .before .before .run .kept .0) (r .0),
+      rw s (r .1),
+      rw s (r .2),
+    )
+
+pub run-in-spec : {M : Type 1} → statement M
+run-in-spec =
+    tie.close
+    (tie.spec
+    lent-for-requires
+    sub-run
+    part-run-start
+    part-run-end
+    run-requires
+    same-length
+    returns)

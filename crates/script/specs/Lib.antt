@@ -1,0 +1,4 @@
+pub mod Act
+pub mod Progress
+pub mod Reading
+pub mod Text

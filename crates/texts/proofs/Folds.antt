@@ -1,0 +1,67 @@
+-- The lines of a session one after the other: what one more does, and that the cluster after them is that after the
+-- events that they are.
+use Prim.Native.Nat.{ℕ, _≤_}
+use mathlib.Core.Path.{_≡_, refl, sym, ap, _∙_}
+use mathlib.Core.List.{List, [], _∷_, _++_, append-nil, append-assoc}
+use native.Mathlib.Omega.{arith}
+use lib.ListN.{length, replicate, length-replicate}
+use Rattle.layout.specs.Layout.{clusterSize}
+use Rattle.cluster.specs.Event.{Result, fresh, freshBytes}
+use Rattle.lines.specs.declared.Line.{Line}
+use Rattle.lines.specs.declared.Line.the-variants.{Update, Scan, Deliver, Stop, Bad}
+use Rattle.mirror.specs.Run.{after}
+use Rattle.mirror.proofs.Run.{fresh-taken, run-mirrors}
+use Rattle.script.specs.Act.{ran, printed}
+use Rattle.script.specs.Progress.{next}
+use Rattle.script.specs.Text.{leftBy, printedBy, freshOf}
+use Rattle.texts.specs.Lines.{eventsOf}
+
+-- the number of the event after some lines
+unfoldable pub counted : ℕ → List Line → ℕ
+counted e [] = e
+counted e (l ∷ ls) = counted (next e) ls
+
+pub counted-more : (e : ℕ) (ls : List Line) (l : Line) → counted e (ls ++ (l ∷ [])) ≡ next (counted e ls)
+unfolding counted
+counted-more e [] l = refl
+counted-more e (k ∷ ls) l = counted-more (next e) ls l
+
+pub left-more : (b : List ℕ) (ls : List Line) (l : Line) → leftBy b (ls ++ (l ∷ [])) ≡ ran l (leftBy b ls) .bytes
+unfolding leftBy
+left-more b [] l = refl
+left-more b (k ∷ ls) l = left-more (ran k b .bytes) ls l
+
+pub printed-more : (e n : ℕ) (b : List ℕ) (ls : List Line) (l : Line)
+    → printedBy e n b (ls ++ (l ∷ [])) ≡ printedBy e n b ls ++ printed (counted e ls) n l (leftBy b ls)
+unfolding printedBy leftBy counted
+printed-more e n b [] l = append-nil (printed e n l b)
+printed-more e n b (k ∷ ls) l =
+    ap (λ (r : List ℕ). printed e n k b ++ r) (printed-more (next e) n (ran k b .bytes) ls l)
+    ∙ sym (append-assoc (printed e n k b) (printedBy (next e) n (ran k b .bytes) ls)
+    (printed (counted (next e) ls) n l (leftBy (ran k b .bytes) ls)))
+
+-- a bad line changes nothing
+pub left-events : (b : List ℕ) (ls : List Line) → leftBy b ls ≡ after b (eventsOf ls)
+unfolding leftBy after
+left-events b [] = refl
+left-events b (Update c p x ∷ ls) = left-events (ran (Update c p x) b .bytes) ls
+left-events b (Scan c x ∷ ls) = left-events (ran (Scan c x) b .bytes) ls
+left-events b (Deliver a c x ∷ ls) = left-events (ran (Deliver a c x) b .bytes) ls
+left-events b (Stop c ∷ ls) = left-events (ran (Stop c) b .bytes) ls
+left-events b (Bad ∷ ls) = left-events b ls
+
+module _ (n : ℕ) (low : 1 ≤ n) (high : n ≤ 5) where
+  small : n ≤ 16
+  small = omega arith
+
+  pub fresh-is : (b : List ℕ) → length b ≡ clusterSize n → fresh n b .bytes ≡ freshOf n
+  fresh-is b long =
+      ap (λ (r : Result). r .bytes) (fresh-taken n low small b long) ∙ ap (λ (k : ℕ). freshBytes n k) long
+
+  -- the bytes of a cluster stay as many
+  pub left-long : (ls : List Line) → length (leftBy (freshOf n) ls) ≡ clusterSize n
+  left-long ls =
+      let b : List ℕ = replicate (clusterSize n) 0 in
+      let long : length b ≡ clusterSize n = length-replicate (clusterSize n) 0 in
+      ap length (left-events (freshOf n) ls ∙ ap (λ (c : List ℕ). after c (eventsOf ls)) (sym (fresh-is b long)))
+      ∙ run-mirrors n low small b long (eventsOf ls) .shows .long

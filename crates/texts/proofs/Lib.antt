@@ -1,0 +1,6 @@
+pub mod Memory
+pub mod Folds
+pub mod Stands
+pub mod Pieces
+pub mod Printed
+pub mod Sessions
