@@ -1,11 +1,21 @@
 // One node's block in a cluster's bytes: what it says, and the changes of it.
+pub mod judge;
+
+use judge::record_sound;
 use octets::and;
 use record::Node;
 ghost use mathlib.Core.Path.{_≡_};
 ghost use Prim.Native.Nat.{_≤_};
 ghost use lib.ListN.{length};
 ghost use Rattle.region.specs.Channel.{slotSize, first};
-ghost use Rattle.block.specs.Block.{blockSize, hasStopped, channelIn, nodeIn, waitingIn, keep, takeOff, receive, halt, recordSound, channelsSound, blockSound};
+ghost use Rattle.region.specs.Record.{recordSize, recordOf, recordBytes};
+ghost use Rattle.block.specs.Block.{blockSize, hasStopped, recordIn, channelIn, nodeIn, waitingIn, keep, takeOff, receive, halt, channelsSound, blockSound};
+
+// The bytes of a block, and where in it the channels stand: after the stop byte and the record.
+pub const BLOCK: usize = 73345;
+const CHANNELS: usize = 3169;
+// The bytes of a channel.
+const CHANNEL: usize = 4386;
 
 // Whether the node has stopped.
 pub fn has_stopped(k: &[u8]) -> bool
@@ -20,7 +30,7 @@ pub fn node_in(k: &[u8]) -> Node
     requires { ⌜ length (now k) ≡ blockSize ⌝ }
     ensures { λ r. ⌜ r ≡ nodeIn (now (k .entry)) ⌝ }
 {
-    region::stored::load(&k[1..3169])
+    region::stored::load(&k[1..CHANNELS])
 }
 
 // How many messages wait on the channel from node a.
@@ -28,7 +38,7 @@ pub fn waiting_in(k: &[u8], a: usize) -> usize
     requires { ⌜ (length (now k) ≡ blockSize) × (1 ≤ a) × (a ≤ 16) ⌝ }
     ensures { λ r. ⌜ (r ≡ waitingIn (now (k .entry)) a) × (r ≤ 255) ⌝ }
 {
-    let at = 3169 + 4386 * (a - 1);
+    let at = CHANNELS + CHANNEL * (a - 1);
     region::channel::index(k[at])
 }
 
@@ -37,8 +47,8 @@ pub fn first_in(k: &[u8], a: usize) -> &[u8]
     requires { ⌜ (length (now k) ≡ blockSize) × (1 ≤ a) × (a ≤ 16) ⌝ }
     ensures { λ r. ⌜ now r ≡ first (channelIn (now (k .entry)) a) ⌝ }
 {
-    let at = 3169 + 4386 * (a - 1);
-    let end = at + 4386;
+    let at = CHANNELS + CHANNEL * (a - 1);
+    let end = at + CHANNEL;
     region::channel::first(&k[at..end])
 }
 
@@ -47,7 +57,23 @@ pub fn keep_node(k: &mut [u8], c: Node)
     requires { ⌜ length (now k) ≡ blockSize ⌝ }
     ensures { λ _. ⌜ now (k .exit) ≡ keep c (now (k .entry)) ⌝ }
 {
-    region::stored::save(&mut k[1..3169], c);
+    region::stored::save(&mut k[1..CHANNELS], c);
+}
+
+// Copies the node's record.
+pub fn copy_record(k: &[u8], r: &mut [u8])
+    requires { ⌜ (length (now k) ≡ blockSize) × (length (now r) ≡ recordSize) ⌝ }
+    ensures { λ _. ⌜ now (r .exit) ≡ recordIn (now (k .entry)) ⌝ }
+{
+    octets::put_bytes(r, 0, &k[1..CHANNELS]);
+}
+
+// Writes another record, given in bytes.
+pub fn keep_record(k: &mut [u8], r: &[u8])
+    requires { ⌜ (length (now k) ≡ blockSize) × (length (now r) ≡ recordSize) × (now r ≡ recordBytes (recordOf (now r))) ⌝ }
+    ensures { λ _. ⌜ now (k .exit) ≡ keep (recordOf (now (r .entry))) (now (k .entry)) ⌝ }
+{
+    octets::put_bytes(k, 1, r);
 }
 
 // Takes the oldest message off the channel from node a.
@@ -55,8 +81,8 @@ pub fn take_off(k: &mut [u8], a: usize)
     requires { ⌜ (length (now k) ≡ blockSize) × (1 ≤ a) × (a ≤ 16) ⌝ }
     ensures { λ _. ⌜ now (k .exit) ≡ takeOff a (now (k .entry)) ⌝ }
 {
-    let at = 3169 + 4386 * (a - 1);
-    let end = at + 4386;
+    let at = CHANNELS + CHANNEL * (a - 1);
+    let end = at + CHANNEL;
     region::channel::pop(&mut k[at..end]);
 }
 
@@ -68,8 +94,8 @@ pub fn receive_from(k: &mut [u8], a: usize, m: &[u8])
     if 0 < k[0] {
         return;
     }
-    let at = 3169 + 4386 * (a - 1);
-    let end = at + 4386;
+    let at = CHANNELS + CHANNEL * (a - 1);
+    let end = at + CHANNEL;
     region::channel::push(&mut k[at..end], m);
 }
 
@@ -81,23 +107,11 @@ pub fn halt_node(k: &mut [u8], n: usize)
     k[0] = 1;
     let mut i = 0;
     while i < n {
-        let at = 3169 + 4386 * i;
-        let end = at + 4386;
+        let at = CHANNELS + CHANNEL * i;
+        let end = at + CHANNEL;
         region::channel::clear(&mut k[at..end]);
         i += 1;
     }
-}
-
-// Whether these bytes are a usable record of node c of n.
-fn record_sound(r: &[u8], n: usize, c: usize) -> bool
-    requires { ⌜ length (now r) ≡ 3168 ⌝ }
-    ensures { λ t. ⌜ t ≡ recordSound n c (now (r .entry)) ⌝ }
-{
-    let d = region::stored::load(r);
-    and(
-        and(octets::get_word(r, 40) <= 4, record::usable::is_usable(d)),
-        and(d.n == n, d.own == c),
-    )
 }
 
 // Whether no channel from 1 to n has more messages than it can hold.
@@ -119,5 +133,5 @@ pub fn block_sound(k: &[u8], n: usize, c: usize) -> bool
     requires { ⌜ (length (now k) ≡ blockSize) × (n ≤ 16) ⌝ }
     ensures { λ r. ⌜ r ≡ blockSound n c (now (k .entry)) ⌝ }
 {
-    and(record_sound(&k[1..3169], n, c), channels_sound(k, n))
+    and(record_sound(&k[1..CHANNELS], n, c), channels_sound(k, n))
 }

@@ -1,25 +1,33 @@
 // A cluster (document 01's house) in lent bytes: n nodes and the channels between them. Every event judges everything
 // first and writes last, so that a refusal leaves every byte as it was.
 pub mod judge;
-pub mod outgoing;
+mod outgoing;
 
+use block::BLOCK;
+use handlers::is_stale_in;
+use handlers::react_in;
+use handlers::rest::must_wait;
 use judge::has_room;
 use judge::may_cut;
+use layout::copy_record_at;
 use layout::first_at;
 use layout::halt_at;
 use layout::is_fit;
 use layout::is_node;
 use layout::is_sound;
 use layout::keep_at;
+use layout::keep_record_at;
 use layout::node_at;
 use layout::stopped_at;
 use layout::take_off_at;
 use layout::waiting_at;
 use node::Ending;
+use node::Outbox;
+use node::Sent;
 use node::Step;
 use node::begin_step;
-use node::is_stale_message;
-use node::message_step;
+use node::passes::move_on;
+use node::started_step;
 use octets::and;
 use outgoing::let_out;
 use record::Operation;
@@ -27,6 +35,7 @@ use record::blank_node;
 use record::usable::has_open;
 use record::usable::is_full;
 use region::channel::index;
+use region::stored::load;
 use table::quorum::most_faults;
 use view::View;
 use wire::Found;
@@ -41,6 +50,7 @@ ghost use Rattle.octets.specs.Answer.{result};
 ghost use Rattle.octets.specs.Test.{pick};
 ghost use Rattle.view.specs.View.{noView};
 ghost use Rattle.node.specs.declared.Ending.the-variants.{None};
+ghost use Rattle.node.specs.declared.Sent.the-variants.{Nothing};
 ghost use Rattle.entries.specs.Entries.{entries};
 ghost use Rattle.record.specs.Record.{blank};
 ghost use Rattle.record.specs.Usable.{usable};
@@ -48,11 +58,15 @@ ghost use Rattle.octets.specs.Loop.{upTo};
 ghost use Rattle.view.specs.View.{viewOf};
 ghost use Rattle.wire.specs.Codec.{viewAt};
 ghost use Rattle.node.specs.Allowed.{lawful};
+ghost use Rattle.node.specs.Step.{started};
+ghost use Rattle.node.specs.Stale.{writerWithin};
 ghost use Rattle.region.specs.Channel.{first};
-ghost use Rattle.block.specs.Block.{keep};
+ghost use Rattle.region.specs.Record.{recordSize, recordOf, recordBytes};
+ghost use Rattle.block.specs.Block.{keep, takeOff};
 ghost use Rattle.layout.specs.Layout.{clusterSize, node as nodeOf, channel, onBlock};
 ghost use Rattle.cluster.specs.declared.Outcome.the-variants.{Refused};
-ghost use Rattle.cluster.specs.Event.{isCut, haltIf, stepped, letOut, within, most, openIn, begin as beginEvent, handOver, deliver as deliverEvent, fresh as freshEvent};
+ghost use Rattle.cluster.specs.Event.{isCut, haltIf, stepped, letOut, within, most, openIn, begin as beginEvent, settle as settleEvent, handOver, deliver as deliverEvent, fresh as freshEvent};
+ghost use Rattle.cluster.specs.First.{reactFirst};
 ghost use Rattle.cluster.specs.Outcome.{said, tells};
 
 // How much an event lets out of its list of entries: all of it, or its first m entries, after which the node stops.
@@ -161,7 +175,7 @@ pub fn fresh(n: usize, b: &mut [u8]) -> Answer
     if !and(1 <= n, n <= 16) {
         return refused(1);
     }
-    if b.len() != 1 + 73345 * n {
+    if b.len() != 1 + BLOCK * n {
         return refused(12);
     }
     octets::fill(b, 0);
@@ -213,14 +227,16 @@ pub fn begin(b: &mut [u8], c: usize, o: Operation, x: Extent) -> Answer
     open_at(b, n, c, o, x)
 }
 
-// The view that a good message in the oldest slot from a to c carries.
-fn first_view(b: &[u8], n: usize, a: usize, c: usize) -> View
-    requires { ⌜ (n ≤ 16) × (1 ≤ a) × (a ≤ n) × (1 ≤ c) × (c ≤ n) × (length (now b) ≡ clusterSize n) ⌝ }
-    ensures { λ r. ⌜ r ≡ viewOf n (viewAt n (first (channel (now (b .entry)) a c))) ⌝ }
+// The oldest message from a, which is m, is handled on a copy of the record of node c. What is sent is the answer.
+fn handle_first(b: &[u8], n: usize, a: usize, c: usize, m: Message, r: &mut [u8]) -> Sent
+    requires { ⌜ (n ≤ 16) × (1 ≤ a) × (a ≤ n) × (1 ≤ c) × (c ≤ n) × (length (now b) ≡ clusterSize n)
+        × (length (now r) ≡ recordSize) × (writerWithin 16 m ≡ true) ⌝ }
+    ensures { λ sent. ⌜ (sent ≡ reactFirst n a c m (now (r .entry)) (now (b .entry)) .outbox .handler)
+        × (now (r .exit) ≡ recordBytes (reactFirst n a c m (now (r .entry)) (now (b .entry)) .node)) ⌝ }
 {
     let s = first_at(b, a, c);
     let end = 18 + 16 * n;
-    view::read_view(n, &s[18..end])
+    react_in(r, n, a, m, &s[18..end])
 }
 
 // How many messages leave the channel from c to itself when one from a is handed to c.
@@ -230,26 +246,89 @@ fn gone(a: usize, c: usize) -> usize
     if a == c { 1 } else { 0 }
 }
 
-// Hands the oldest message from a, which is m, to node c, or refuses with 9, 10, 11.
+// Node c, which handled a message from a, takes step s, or refuses with 11.
+fn step_at(b: &mut [u8], n: usize, a: usize, c: usize, s: Step, x: Extent) -> Answer
+    requires { ⌜ (n ≤ 16) × (1 ≤ a) × (a ≤ n) × (1 ≤ c) × (c ≤ n) × (length (now b) ≡ clusterSize n) ⌝ }
+    ensures { λ r. ⌜ tells r (now (b .exit)) (settleEvent n a c x s (onBlock c (takeOff a) (now (b .entry))) (now (b .entry))) ⌝ }
+{
+    if !has_room(b, n, a, c, is_cut(x), gone(a, c), s.outbox, allowance(x)) {
+        return refused(11);
+    }
+    take_off_at(b, a, c);
+    settle(b, n, a, c, s, x)
+}
+
+// The outbox of a step that only handled a message from node `to`.
+fn only_handled(to: usize, sent: Sent) -> Outbox
+    ensures { λ o. ⌜ o ≡ record { to = to; handler = sent; reading = Nothing; comparing = Nothing; view = noView } ⌝ }
+{
+    Outbox {
+        to: to,
+        handler: sent,
+        reading: Sent::Nothing,
+        comparing: Sent::Nothing,
+        view: view::absent(),
+    }
+}
+
+// Node c, which handled a message from a, only sends something and waits on, or refuses with 11. `r` is its record.
+fn rest_at(b: &mut [u8], n: usize, a: usize, c: usize, r: &[u8], sent: Sent, x: Extent) -> Answer
+    requires { ⌜ (n ≤ 16) × (1 ≤ a) × (a ≤ n) × (1 ≤ c) × (c ≤ n) × (length (now b) ≡ clusterSize n)
+        × (length (now r) ≡ recordSize) × (now r ≡ recordBytes (recordOf (now r))) ⌝ }
+    ensures { λ t. ⌜ tells t (now (b .exit))
+        (settleEvent n a c x (started (recordOf (now (r .entry))) a sent) (onBlock c (takeOff a) (now (b .entry))) (now (b .entry))) ⌝ }
+{
+    let cut = is_cut(x);
+    let o = only_handled(a, sent);
+    if !has_room(b, n, a, c, cut, gone(a, c), o, allowance(x)) {
+        return refused(11);
+    }
+    take_off_at(b, a, c);
+    keep_record_at(b, c, r);
+    halt_if(b, n, c, cut);
+    let_out(b, n, a, c, o, allowance(x));
+    given(cut, Ending::None, view::absent())
+}
+
+// Hands the oldest message from a, which is m, to node c, or refuses with 9, 10, 11. Most steps only handle it, on a copy
+// of the record's bytes, for which `r` is the room; one that also moves the open operation on reads the record.
+fn hand_on<'a>(
+    b: &'a mut [u8],
+    n: usize,
+    a: usize,
+    c: usize,
+    m: Message,
+    x: Extent,
+    r: &'a mut [u8],
+) -> Answer
+    requires { ⌜ (n ≤ 16) × (1 ≤ a) × (a ≤ n) × (1 ≤ c) × (c ≤ n) × (length (now b) ≡ clusterSize n)
+        × (usable (nodeOf (now b) c) ≡ true) × (nodeOf (now b) c .n ≡ n)
+        × (lawful n m (viewOf n (viewAt n (first (channel (now b) a c)))) ≡ true) × (length (now r) ≡ recordSize) ⌝ }
+    ensures { λ t. ⌜ tells t (now (b .exit)) (handOver n a c x (now (b .entry)) (first (channel (now (b .entry)) a c)) m) ⌝ }
+{
+    copy_record_at(b, c, r);
+    if is_stale_in(r, a, m) {
+        return refused(9);
+    }
+    if !may_cut(b, n, is_cut(x)) {
+        return refused(10);
+    }
+    let sent = handle_first(b, n, a, c, m, r);
+    if must_wait(r, n, most_faults(n)) {
+        return rest_at(b, n, a, c, r, sent, x);
+    }
+    let s = move_on(most_faults(n), started_step(load(r), a, sent));
+    step_at(b, n, a, c, s, x)
+}
+
 fn hand_over(b: &mut [u8], n: usize, a: usize, c: usize, m: Message, x: Extent) -> Answer
     requires { ⌜ (n ≤ 16) × (1 ≤ a) × (a ≤ n) × (1 ≤ c) × (c ≤ n) × (length (now b) ≡ clusterSize n)
         × (usable (nodeOf (now b) c) ≡ true) × (nodeOf (now b) c .n ≡ n)
         × (lawful n m (viewOf n (viewAt n (first (channel (now b) a c)))) ≡ true) ⌝ }
     ensures { λ r. ⌜ tells r (now (b .exit)) (handOver n a c x (now (b .entry)) (first (channel (now (b .entry)) a c)) m) ⌝ }
 {
-    let d = node_at(b, c);
-    if is_stale_message(d, a, m) {
-        return refused(9);
-    }
-    if !may_cut(b, n, is_cut(x)) {
-        return refused(10);
-    }
-    let s = message_step(most_faults(n), d, a, m, first_view(b, n, a, c));
-    if !has_room(b, n, a, c, is_cut(x), gone(a, c), s.outbox, allowance(x)) {
-        return refused(11);
-    }
-    take_off_at(b, a, c);
-    settle(b, n, a, c, s, x)
+    let mut r = [0u8; 3168];
+    hand_on(b, n, a, c, m, x, &mut r)
 }
 
 // Delivers what has waited longest on the channel from a to c, or refuses with 12, 2, 3, 4, 8, 7, 9, 10, 11.

@@ -1,13 +1,14 @@
--- The length of n entries, and that each sum fits 32 bits.
+-- The length of n entries, what an entry of a valid view shows, and that each sum fits 32 bits.
 use Prim.Native.Nat.{ℕ, _+_, _*_, _/_, _%_, _^_, _<_, _≤_}
-use mathlib.Core.Path.{_≡_, refl, sym}
+use mathlib.Core.Path.{_≡_, refl, sym, ap, _∙_}
 use mathlib.Core.Bool.{Bool, true, false}
 use mathlib.Core.List.{List}
+use native.Mathlib.Decide.{ℕ-discrete}
 use native.Mathlib.Omega.{arith}
 use lib.ListN.{length, length-take}
 use lib.Pow.{pow-mono}
 use lib.Dec.{eqb}
-use borrow.Author.Tests.{eqb-true, eq-eqb}
+use borrow.Author.Tests.{eqb-true, eq-eqb, ne-eqb}
 use Rattle.octets.specs.Test.{pick, both}
 use Rattle.octets.specs.Bytes.{Bytes, num, part}
 use Rattle.octets.proofs.Test.{both-left, both-right, both-true}
@@ -15,7 +16,9 @@ use Rattle.octets.proofs.Number.{num-lt}
 use Rattle.octets.proofs.Put.{part-bytes}
 use Rattle.octets.proofs.Loop.{sumTo-le}
 use Rattle.view.specs.Report.{noReport, reportOf}
-use Rattle.view.specs.View.{tagAt}
+use Rattle.view.specs.Size.{limit}
+use Rattle.view.specs.View.{tagAt, reportAt, viewOk}
+use Rattle.view.proofs.ViewBytes.{ok-report}
 use Rattle.view.specs.declared.Report.{Report}
 use Rattle.figures.specs.declared.Totals.{Totals}
 use Rattle.figures.specs.Figures.{shown, total, totals}
@@ -40,6 +43,14 @@ long-is n len =
     back h =
         let e : len ≡ 16 * n = eqb-true len (16 * n) h in
         both-true (eq-eqb (len % 16) 0 (omega arith)) (eq-eqb (len / 16) n (omega arith))
+
+-- an entry of a valid view shows its report, which is none beside tag 0
+pub shown-is : (n : ℕ) (v : List ℕ) → viewOk n limit v ≡ true → Bytes v → 16 * n ≤ length v → (i : ℕ) → i < n
+    → reportAt v i ≡ shown v i
+shown-is n v ok h l i m = elim (ℕ-discrete (tagAt v i) 0) [
+  | yes e ↦ ok-report n limit v ok i m h l e ∙ sym (ap (λ (t : Bool). pick t noReport (reportAt v i)) (eq-eqb (tagAt v i) 0 e))
+  | no e ↦ sym (ap (λ (t : Bool). pick t noReport (reportAt v i)) (ne-eqb (tagAt v i) 0 e))
+]
 
 short : (b : List ℕ) (at : ℕ) → length (part b at 2) ≤ 2
 unfolding part

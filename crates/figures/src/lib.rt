@@ -1,15 +1,15 @@
 // House figures: four sums over the bytes of a view.
 ghost use mathlib.Core.Path.{_≡_};
+ghost use mathlib.Core.Bool.{true};
 ghost use Prim.Native.Nat.{_*_, _≤_};
 ghost use lib.ListN.{length};
 ghost use lib.Dec.{eqb};
-ghost use Rattle.octets.specs.Test.{pick};
-ghost use Rattle.view.specs.Report.{noReport};
+ghost use Rattle.view.specs.Size.{limit};
+ghost use Rattle.view.specs.View.{viewOk};
 ghost use Rattle.figures.specs.Figures.{totals, figuresOf, summed};
 use view::ENTRY;
 use view::LIMIT;
 use view::NODES;
-use view::Report;
 
 // The four sums.
 pub struct Totals {
@@ -32,16 +32,9 @@ fn is_long(n: usize, len: usize) -> bool
     octets::and(len % ENTRY == 0, len / ENTRY == n)
 }
 
-// The report that stands beside a tag: none beside tag 0.
-fn beside(tag: u64, p: Report) -> Report
-    ensures { λ r. ⌜ r ≡ pick (eqb tag 0) noReport p ⌝ }
-{
-    if tag == 0 { view::none() } else { p }
-}
-
-// The sums over n entries.
+// The sums over n entries. What stands beside tag 0 is no report, so it adds nothing.
 fn sums(n: usize, v: &[u8]) -> Totals
-    requires { ⌜ (n ≤ 16) × (16 * n ≤ length (now v)) ⌝ }
+    requires { ⌜ (n ≤ 16) × (16 * n ≤ length (now v)) × (viewOk n limit (now v) ≡ true) ⌝ }
     ensures { λ r. ⌜ r ≡ totals n (now (v .entry)) ⌝ }
 {
     let mut extensions: u32 = 0;
@@ -53,7 +46,7 @@ fn sums(n: usize, v: &[u8]) -> Totals
         let at = ENTRY * i;
         let middle = at + 8;
         let end = at + ENTRY;
-        let p = beside(octets::get_word(v, at), view::read_report(&v[middle..end]));
+        let p = view::read_report(&v[middle..end]);
         extensions += p.extensions as u32;
         lines += p.lines as u32;
         waiting += p.waiting as u32;

@@ -1,4 +1,5 @@
 // A cluster's bytes: where the blocks of its nodes stand, what they say, and the changes of one of them.
+use block::BLOCK;
 use octets::and;
 use record::Node;
 use region::channel::index;
@@ -9,7 +10,8 @@ ghost use Prim.Native.Nat.{_≤_};
 ghost use lib.ListN.{length};
 ghost use Rattle.table.specs.Loop.{all, count};
 ghost use Rattle.region.specs.Channel.{slotSize, countOf, first};
-ghost use Rattle.block.specs.Block.{keep, takeOff, receive, halt, blockSound};
+ghost use Rattle.region.specs.Record.{recordSize, recordOf, recordBytes};
+ghost use Rattle.block.specs.Block.{recordIn, keep, takeOff, receive, halt, blockSound};
 ghost use Rattle.layout.specs.Layout.{clusterSize, size as sizeOf, stated, block, stopped, node, channel, onBlock, fits, sound, isNode};
 
 // The bytes to lend for a cluster of n nodes; 0 where there may be none.
@@ -17,7 +19,7 @@ pub fn size(n: usize) -> usize
     ensures { λ r. ⌜ r ≡ sizeOf n ⌝ }
 {
     if and(1 <= n, n <= 16) {
-        1 + 73345 * n
+        1 + BLOCK * n
     } else {
         0
     }
@@ -35,8 +37,8 @@ pub fn stopped_at(b: &[u8], c: usize) -> bool
     requires { ⌜ (1 ≤ c) × (clusterSize c ≤ length (now b)) ⌝ }
     ensures { λ r. ⌜ r ≡ stopped (now (b .entry)) c ⌝ }
 {
-    let at = 1 + 73345 * (c - 1);
-    let end = at + 73345;
+    let at = 1 + BLOCK * (c - 1);
+    let end = at + BLOCK;
     block::has_stopped(&b[at..end])
 }
 
@@ -45,8 +47,8 @@ pub fn node_at(b: &[u8], c: usize) -> Node
     requires { ⌜ (1 ≤ c) × (clusterSize c ≤ length (now b)) ⌝ }
     ensures { λ r. ⌜ r ≡ node (now (b .entry)) c ⌝ }
 {
-    let at = 1 + 73345 * (c - 1);
-    let end = at + 73345;
+    let at = 1 + BLOCK * (c - 1);
+    let end = at + BLOCK;
     block::node_in(&b[at..end])
 }
 
@@ -55,8 +57,8 @@ pub fn waiting_at(b: &[u8], a: usize, c: usize) -> usize
     requires { ⌜ (1 ≤ a) × (a ≤ 16) × (1 ≤ c) × (clusterSize c ≤ length (now b)) ⌝ }
     ensures { λ r. ⌜ (r ≡ countOf (channel (now (b .entry)) a c)) × (r ≤ 255) ⌝ }
 {
-    let at = 1 + 73345 * (c - 1);
-    let end = at + 73345;
+    let at = 1 + BLOCK * (c - 1);
+    let end = at + BLOCK;
     block::waiting_in(&b[at..end], a)
 }
 
@@ -65,8 +67,8 @@ pub fn first_at(b: &[u8], a: usize, c: usize) -> &[u8]
     requires { ⌜ (1 ≤ a) × (a ≤ 16) × (1 ≤ c) × (clusterSize c ≤ length (now b)) ⌝ }
     ensures { λ r. ⌜ now r ≡ first (channel (now (b .entry)) a c) ⌝ }
 {
-    let at = 1 + 73345 * (c - 1);
-    let end = at + 73345;
+    let at = 1 + BLOCK * (c - 1);
+    let end = at + BLOCK;
     block::first_in(&b[at..end], a)
 }
 
@@ -75,8 +77,8 @@ pub fn receive_at(b: &mut [u8], a: usize, c: usize, m: &[u8])
     requires { ⌜ (1 ≤ a) × (a ≤ 16) × (1 ≤ c) × (clusterSize c ≤ length (now b)) × (length (now m) ≤ slotSize) ⌝ }
     ensures { λ _. ⌜ now (b .exit) ≡ onBlock c (receive a (now (m .entry))) (now (b .entry)) ⌝ }
 {
-    let at = 1 + 73345 * (c - 1);
-    let end = at + 73345;
+    let at = 1 + BLOCK * (c - 1);
+    let end = at + BLOCK;
     block::receive_from(&mut b[at..end], a, m);
 }
 
@@ -85,8 +87,8 @@ pub fn take_off_at(b: &mut [u8], a: usize, c: usize)
     requires { ⌜ (1 ≤ a) × (a ≤ 16) × (1 ≤ c) × (clusterSize c ≤ length (now b)) ⌝ }
     ensures { λ _. ⌜ now (b .exit) ≡ onBlock c (takeOff a) (now (b .entry)) ⌝ }
 {
-    let at = 1 + 73345 * (c - 1);
-    let end = at + 73345;
+    let at = 1 + BLOCK * (c - 1);
+    let end = at + BLOCK;
     block::take_off(&mut b[at..end], a);
 }
 
@@ -95,9 +97,30 @@ pub fn keep_at(b: &mut [u8], c: usize, d: Node)
     requires { ⌜ (1 ≤ c) × (clusterSize c ≤ length (now b)) ⌝ }
     ensures { λ _. ⌜ now (b .exit) ≡ onBlock c (keep d) (now (b .entry)) ⌝ }
 {
-    let at = 1 + 73345 * (c - 1);
-    let end = at + 73345;
+    let at = 1 + BLOCK * (c - 1);
+    let end = at + BLOCK;
     block::keep_node(&mut b[at..end], d);
+}
+
+// Copies the record of node c.
+pub fn copy_record_at(b: &[u8], c: usize, r: &mut [u8])
+    requires { ⌜ (1 ≤ c) × (clusterSize c ≤ length (now b)) × (length (now r) ≡ recordSize) ⌝ }
+    ensures { λ _. ⌜ now (r .exit) ≡ recordIn (block (now (b .entry)) c) ⌝ }
+{
+    let at = 1 + BLOCK * (c - 1);
+    let end = at + BLOCK;
+    block::copy_record(&b[at..end], r);
+}
+
+// Writes another record of node c, given in bytes.
+pub fn keep_record_at(b: &mut [u8], c: usize, r: &[u8])
+    requires { ⌜ (1 ≤ c) × (clusterSize c ≤ length (now b)) × (length (now r) ≡ recordSize)
+        × (now r ≡ recordBytes (recordOf (now r))) ⌝ }
+    ensures { λ _. ⌜ now (b .exit) ≡ onBlock c (keep (recordOf (now (r .entry)))) (now (b .entry)) ⌝ }
+{
+    let at = 1 + BLOCK * (c - 1);
+    let end = at + BLOCK;
+    block::keep_record(&mut b[at..end], r);
 }
 
 // Stops node c of n.
@@ -105,8 +128,8 @@ pub fn halt_at(b: &mut [u8], n: usize, c: usize)
     requires { ⌜ (n ≤ 16) × (1 ≤ c) × (clusterSize c ≤ length (now b)) ⌝ }
     ensures { λ _. ⌜ now (b .exit) ≡ onBlock c (halt n) (now (b .entry)) ⌝ }
 {
-    let at = 1 + 73345 * (c - 1);
-    let end = at + 73345;
+    let at = 1 + BLOCK * (c - 1);
+    let end = at + BLOCK;
     block::halt_node(&mut b[at..end], n);
 }
 
@@ -134,8 +157,8 @@ fn blocks_sound(b: &[u8], n: usize) -> bool
     let mut ok = true;
     let mut c = 0;
     while c < n {
-        let at = 1 + 73345 * c;
-        let end = at + 73345;
+        let at = 1 + BLOCK * c;
+        let end = at + BLOCK;
         c += 1;
         ok = and(block::block_sound(&b[at..end], n, c), ok);
     }
@@ -151,7 +174,7 @@ pub fn is_fit(b: &[u8]) -> bool
     }
     let n = index(b[0]);
     if and(1 <= n, n <= 16) {
-        return b.len() == 1 + 73345 * n;
+        return b.len() == 1 + BLOCK * n;
     }
     true
 }

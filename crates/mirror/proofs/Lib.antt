@@ -1,4 +1,3 @@
-pub mod Saved
 pub mod Halted
 pub mod Slots
 pub mod Says

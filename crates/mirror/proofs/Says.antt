@@ -21,20 +21,24 @@ use Rattle.block.specs.Block.{blockSize, hasStopped, channelIn, recordSound, on
 use Rattle.eqaso.specs.Message as M
 use Rattle.eqaso.specs.Algorithm as A
 use Rattle.eqaso.specs.Order.{OneTo}
-use Rattle.refine.specs.Follows.{Follows}
+use Rattle.refine.specs.Follows.{Follows, Sized as SizedView}
 use Rattle.mirror.specs.Mirrors.{meant, Says}
 use Rattle.block.proofs.Changes.{channel-length, channel-flag, channel-record, channel-same, channel-other}
 use Rattle.block.proofs.Changes.{keep-length, keep-flag, keep-record, keep-channel}
 use Rattle.mirror.proofs.Halted.{channel-size, halted}
-use Rattle.mirror.proofs.Saved.{SizedNode, record-back, record-known}
+use Rattle.view.specs.declared.View.{View}
+use Rattle.region.proofs.Back.{Sized, SizedNode, record-back, record-known}
+
+sized : (v : View) → SizedView v → Sized v
+sized v z = record { tags = z .tags; reports = z .reports }
 
 pub sized-node : {n i : ℕ} {ν : A.Node} {c : Node} → Follows n i ν c → SizedNode c
-sized-node F = record {
+sized-node {c = c} F = record {
   heard = F .heard-size;
-  last = F .last-size;
-  atmax = F .atmax-size;
-  atround = F .atround-size;
-  keptview = F .keptview-size;
+  last = sized (c .last) (F .last-size);
+  atmax = sized (c .atmax) (F .atmax-size);
+  atround = sized (c .atround) (F .atround-size);
+  keptview = sized (c .keptview) (F .keptview-size);
 }
 
 -- The bytes of a usable record that follows are sound.

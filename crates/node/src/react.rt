@@ -127,7 +127,7 @@ fn write_answered(c: Node, s: usize, q: u64, t: u64) -> Node
 }
 
 // Whether a round is open whose tag is at least t.
-fn round_holds(wait: Wait, t: u64) -> bool
+pub fn round_holds(wait: Wait, t: u64) -> bool
     ensures { λ r. ⌜ r ≡ roundHolds wait t ⌝ }
 {
     match wait {
@@ -192,14 +192,14 @@ fn kept_node(c: Node, t: u64, v: View) -> Node
 }
 
 // The message where the flag says so, and nothing else.
-fn sent_where(flag: bool, m: Message) -> Sent
+pub fn sent_where(flag: bool, m: Message) -> Sent
     ensures { λ r. ⌜ r ≡ pick flag (Sent.One m) Sent.Nothing ⌝ }
 {
     if flag { Sent::One(m) } else { Sent::Nothing }
 }
 
 // What the write of tag t is answered with: first its echo, where it raised `maxtag`.
-fn write_sent(grown: bool, q: u64, t: u64) -> Sent
+pub fn write_sent(grown: bool, q: u64, t: u64) -> Sent
     ensures { λ r. ⌜ r ≡ pick grown (Sent.Two (Message.Echo t) (Message.WriteAnswer q t)) (Sent.One (Message.WriteAnswer q t)) ⌝ }
 {
     if grown {

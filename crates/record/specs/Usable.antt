@@ -48,10 +48,13 @@ abbrev pub sizesOk : Node → Bool
 sizesOk c = both (both (leb 1 (c .n)) (leb (c .n) 16)) (both (leb 1 (c .own)) (leb (c .own) (c .n)))
 
 -- the numbers and the wait keep their limits, and enough request numbers are left
+abbrev pub numbersWithin : (n maxtag request kept : ℕ) → Wait → Bool
+numbersWithin n maxtag request kept wait =
+    both (both (leb maxtag limit) (both (leb request limit) (leb kept limit)))
+    (both (waitOk n wait) (leb (stillUses wait) (limit - request)))
+
 unfoldable pub numbersOk : Node → Bool
-numbersOk c =
-    both (both (leb (c .maxtag) limit) (both (leb (c .request) limit) (leb (c .kept) limit)))
-    (both (waitOk (c .n) (c .wait)) (leb (stillUses (c .wait)) (limit - c .request)))
+numbersOk c = numbersWithin (c .n) (c .maxtag) (c .request) (c .kept) (c .wait)
 
 -- no tag above the limit, no report held for a tag that it is above, none beside tag 0
 unfoldable pub tablesOk : Node → Bool

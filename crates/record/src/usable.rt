@@ -12,7 +12,7 @@ use table::views::view_within;
 use view::LIMIT;
 ghost use mathlib.Core.Path.{_≡_};
 ghost use Prim.Native.Nat.{_≤_};
-ghost use Rattle.record.specs.Usable.{stillUses, roundTag, roundOk, waitOk, sizesOk, numbersOk, tablesOk, usable, isOpen, full, stale};
+ghost use Rattle.record.specs.Usable.{stillUses, roundTag, roundOk, waitOk, sizesOk, numbersWithin, numbersOk, tablesOk, usable, isOpen, full, stale};
 
 // The request numbers that the open operation may still use.
 fn still_uses(wait: Wait) -> u64
@@ -44,7 +44,7 @@ fn still_uses(wait: Wait) -> u64
 }
 
 // The tag above which no report is held for the open round; the limit where none is open.
-fn round_tag(wait: Wait) -> u64
+pub fn round_tag(wait: Wait) -> u64
     ensures { λ r. ⌜ r ≡ roundTag wait ⌝ }
 {
     match wait {
@@ -107,18 +107,23 @@ fn sizes_ok(c: Node) -> bool
     and(and(1 <= c.n, c.n <= 16), and(1 <= c.own, c.own <= c.n))
 }
 
+// Whether the numbers of a record keep their limits.
+pub fn numbers_within(n: usize, maxtag: u64, request: u64, kept: u64, wait: Wait) -> bool
+    requires { ⌜ n ≤ 16 ⌝ }
+    ensures { λ r. ⌜ r ≡ numbersWithin n maxtag request kept wait ⌝ }
+{
+    and(
+        and(maxtag <= LIMIT, and(request <= LIMIT, kept <= LIMIT)),
+        and(wait_ok(n, wait), still_uses(wait) <= less(LIMIT, request)),
+    )
+}
+
 fn numbers_ok(c: Node) -> bool
     requires { ⌜ c .n ≤ 16 ⌝ }
     ensures { λ r. ⌜ r ≡ numbersOk c ⌝ }
 {
     let wait = c.wait;
-    and(
-        and(c.maxtag <= LIMIT, and(c.request <= LIMIT, c.kept <= LIMIT)),
-        and(
-            wait_ok(c.n, wait),
-            still_uses(wait) <= less(LIMIT, c.request),
-        ),
-    )
+    numbers_within(c.n, c.maxtag, c.request, c.kept, wait)
 }
 
 fn tables_ok(c: Node) -> bool

@@ -2,7 +2,7 @@
 use Prim.Native.Nat.{ℕ, _+_, _*_}
 use mathlib.Core.Path.{_≡_, refl, ap, _∙_}
 use native.Mathlib.Omega.{arith}
-use mathlib.Core.List.{List, _++_}
+use mathlib.Core.List.{[], _∷_, _++_}
 use lib.ListN.{length, length-append}
 use Rattle.octets.specs.Word.{wordBytes}
 use Rattle.octets.proofs.Word.{length-wordBytes}
@@ -27,8 +27,11 @@ wait-end w = ap (λ (k : ℕ). 40 + k) (length-wordBytes (waitWords w) ∙ ap (�
 
 -- Where the parts of a record end.
 
-pub numbers-end : (c : Node) → 0 + length (wordBytes (numbers c)) ≡ 40
-numbers-end c = ap (λ (k : ℕ). 0 + k) (length-wordBytes (numbers c))
+pub five-words : (n own maxtag request kept : ℕ) → 0 + length (wordBytes (n ∷ own ∷ maxtag ∷ request ∷ kept ∷ [])) ≡ 40
+five-words n own maxtag request kept = ap (λ (k : ℕ). 0 + k) (length-wordBytes (n ∷ own ∷ maxtag ∷ request ∷ kept ∷ []))
+
+numbers-end : (c : Node) → 0 + length (wordBytes (numbers c)) ≡ 40
+numbers-end c = five-words (c .n) (c .own) (c .maxtag) (c .request) (c .kept)
 
 wait-size : (w : Wait) → length (waitBytes w) ≡ 56
 wait-size w = simp length-append (omega (arith, wait-end w))

@@ -7,8 +7,10 @@ use view::Report;
 use view::View;
 ghost use mathlib.Core.Path.{_≡_};
 ghost use Prim.Native.Nat.{_+_, _*_, _≤_};
+ghost use mathlib.Core.List.{[], _∷_, _++_};
 ghost use lib.ListN.{length};
 ghost use Rattle.octets.specs.Bytes.{part, put};
+ghost use Rattle.octets.specs.Word.{wordBytes};
 ghost use Rattle.view.specs.View.{viewBytes};
 ghost use Rattle.region.specs.Record.{recordSize, scalar, kindCode, kindOf, operationOf, waitOf, waitIn, waitWords, waitReport, waitBytes, viewsBytes, viewPlace, viewIn, recordOf, recordBytes};
 
@@ -78,7 +80,8 @@ fn word(b: &[u8], i: usize) -> u64
     octets::get_word(b, 8 * i)
 }
 
-fn load_wait(b: &[u8]) -> Wait
+// The wait of the record.
+pub fn load_wait(b: &[u8]) -> Wait
     requires { ⌜ length (now b) ≡ recordSize ⌝ }
     ensures { λ r. ⌜ r ≡ waitIn (now (b .entry)) ⌝ }
 {
@@ -94,7 +97,8 @@ fn load_wait(b: &[u8]) -> Wait
     )
 }
 
-fn load_view(b: &[u8], i: usize) -> View
+// View i of the record.
+pub fn load_view(b: &[u8], i: usize) -> View
     requires { ⌜ (length (now b) ≡ recordSize) × (i ≤ 3) ⌝ }
     ensures { λ r. ⌜ r ≡ viewIn (now (b .entry)) i ⌝ }
 {
@@ -182,7 +186,8 @@ fn wait_report(w: Wait) -> Report
     }
 }
 
-fn save_view(b: &mut [u8], i: usize, v: View)
+// Writes view i of the record.
+pub fn save_view(b: &mut [u8], i: usize, v: View)
     requires { ⌜ (length (now b) ≡ recordSize) × (i ≤ 3) ⌝ }
     ensures { λ _. ⌜ now (b .exit) ≡ put (now (b .entry)) (viewPlace i) (viewBytes 16 v) ⌝ }
 {
@@ -211,15 +216,24 @@ fn save_wait(b: &mut [u8], w: Wait)
     octets::put_bytes(b, 88, &p);
 }
 
+// Writes the numbers and the wait of a record: the bytes before its tables.
+pub fn save_head(b: &mut [u8], n: u64, own: u64, maxtag: u64, request: u64, kept: u64, w: Wait)
+    requires { ⌜ length (now b) ≡ recordSize ⌝ }
+    ensures { λ _. ⌜ now (b .exit)
+        ≡ put (now (b .entry)) 0 (wordBytes (n ∷ own ∷ maxtag ∷ request ∷ kept ∷ []) ++ waitBytes w) ⌝ }
+{
+    let s = [n, own, maxtag, request, kept];
+    octets::put_words(b, 0, &s);
+    save_wait(b, w);
+}
+
 // Writes the record over the bytes.
 pub fn save(b: &mut [u8], c: Node)
     requires { ⌜ length (now b) ≡ recordSize ⌝ }
     ensures { λ _. ⌜ now (b .exit) ≡ put (now (b .entry)) 0 (recordBytes c) ⌝ }
 {
-    let s = [c.n as u64, c.own as u64, c.maxtag, c.request, c.kept];
-    octets::put_words(b, 0, &s);
     let w = c.wait;
-    save_wait(b, w);
+    save_head(b, c.n as u64, c.own as u64, c.maxtag, c.request, c.kept, w);
     let h = c.heard;
     octets::put_table256(b, 96, &h);
     save_views(b, c);

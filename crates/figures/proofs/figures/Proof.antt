@@ -27,6 +27,7 @@ sums-requires c κs =
       leb-true (a .n) 16 (both-right (leb 1 (a .n)) (leb (a .n) 16)
           (sym (c .before .before .before .and .ensures) ∙ c .before .before .if2 .taken)),
       omega arith,
+      sym (c .before .view-ok .ensures) ∙ c .if3 .taken,
     )
 
 returns : tie.Need-returns

@@ -3,13 +3,12 @@ use borrow.Author.Needs.{needs}
 use mathlib.Core.Path.{_≡_, sym, ap, ap₂, _∙_}
 use Prim.Native.Nat.{ℕ, _+_, _-_, _*_, _≤_}
 use native.Mathlib.Omega.{arith}
-use lib.Dec.{eqb}
-use Rattle.octets.specs.Test.{pick}
 use Rattle.octets.proofs.Loop.{sumTo-none, sumTo-more}
 use Rattle.octets.proofs.Lent.{lent}
-use Rattle.view.specs.Report.{noReport, reportOf}
+use Rattle.view.specs.Report.{reportOf}
 use Rattle.view.specs.declared.Report.{Report}
 use Rattle.figures.specs.Figures.{shown, total, totals}
+use Rattle.figures.proofs.Bounds.{shown-is}
 use Rattle.figures.proofs.sums.Statement.{statement}
 use Rattle.figures.proofs.sums.Tie as tie
 
@@ -41,23 +40,18 @@ loop-holds c = (
 
 loop-again : tie.Need-loop-again Inv-loop μ-loop
 loop-again c =
-    let a = c .before .before .before .before .before .before .before .before .before .before .before .args in
+    let a = c .before .before .before .before .before .before .before .before .before .args in
     let v = a .v .now in
-    let i = c .before .before .before .before .before .before .before .before .before .loop .i in
+    let i = c .before .before .before .before .before .before .before .loop .i in
     let e : 16 * i + 8 + 8 ≡ 16 * i + 16 = omega arith in
-    let p : c .before .before .before .before .beside .result ≡ shown v i =
-    c .before .before .before .before .beside .ensures ∙ ap₂ (λ (t : ℕ) (q : Report). pick (eqb t 0) noReport q)
-    (c .before .before .before .before .before .before .before .get-word .ensures)
-    (c .before .before .before .before .before .read-report .ensures ∙ ap reportOf (lent v (16 * i + 8) 8 e)) in (
+    let p : c .before .before .before .before .read-report .result ≡ shown v i =
+    c .before .before .before .before .read-report .ensures ∙ ap reportOf (lent v (16 * i + 8) 8 e)
+    ∙ shown-is (a .n) v (c .before .before .before .before .before .before .before .before .before .pre .2) (λ k. c .before .before .before .before .before .before .before .before .shared-slice-known .given k .fits) (c .before .before .before .before .before .before .before .before .before .pre .1) i (c .before .before .before .before .before .before .loop-test .taken) in (
       search needs,
-      ap₂ (λ (x y : ℕ). x + y) (c .before .before .before .before .before .before .before .before .before .loop .inv
-          .1) (ap (λ (q : Report). q .extensions) p) ∙ sym (sumTo-more i (λ j. shown v j .extensions)),
-      ap₂ (λ (x y : ℕ). x + y) (c .before .before .before .before .before .before .before .before .before .loop .inv
-          .2) (ap (λ (q : Report). q .lines) p) ∙ sym (sumTo-more i (λ j. shown v j .lines)),
-      ap₂ (λ (x y : ℕ). x + y) (c .before .before .before .before .before .before .before .before .before .loop .inv
-          .3) (ap (λ (q : Report). q .waiting) p) ∙ sym (sumTo-more i (λ j. shown v j .waiting)),
-      ap₂ (λ (x y : ℕ). x + y) (c .before .before .before .before .before .before .before .before .before .loop .inv
-          .4) (ap (λ (q : Report). q .wakeups) p) ∙ sym (sumTo-more i (λ j. shown v j .wakeups)),
+      ap₂ (λ (x y : ℕ). x + y) (c .before .before .before .before .before .before .before .loop .inv .1) (ap (λ (q : Report). q .extensions) p) ∙ sym (sumTo-more i (λ j. shown v j .extensions)),
+      ap₂ (λ (x y : ℕ). x + y) (c .before .before .before .before .before .before .before .loop .inv .2) (ap (λ (q : Report). q .lines) p) ∙ sym (sumTo-more i (λ j. shown v j .lines)),
+      ap₂ (λ (x y : ℕ). x + y) (c .before .before .before .before .before .before .before .loop .inv .3) (ap (λ (q : Report). q .waiting) p) ∙ sym (sumTo-more i (λ j. shown v j .waiting)),
+      ap₂ (λ (x y : ℕ). x + y) (c .before .before .before .before .before .before .before .loop .inv .4) (ap (λ (q : Report). q .wakeups) p) ∙ sym (sumTo-more i (λ j. shown v j .wakeups)),
       search needs,
       search needs,
       search needs,
@@ -81,11 +75,9 @@ sums-spec =
     (λ c. search needs)
     (λ c. search needs)
     (λ c. search needs)
-    (λ c κs. search needs)
     (λ c. search needs)
     (λ c. search needs)
     (λ c. search needs)
-    (λ c κs. search needs)
     (λ c κs. search needs)
     (λ c. search needs)
     (λ c. search needs)

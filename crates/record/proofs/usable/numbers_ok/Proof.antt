@@ -6,9 +6,9 @@ use Rattle.record.proofs.usable.numbers_ok.Tie as tie
 
 returns : tie.Need-returns
 unfolding numbersOk
-returns c = simp (c .and4 .ensures, c .before .and3 .ensures, c .before .before .before .before .before .and2 .ensures, c .before .before .before .before .before .before .and .ensures, c .before .before .before .before .wait-ok .ensures, c .before .before .before .still-uses .ensures, c .before .before .less .ensures)
+returns c = simp (c .numbers-within .ensures)
 
 pub numbers-ok-spec : {M : Type 1} → statement M
 numbers-ok-spec =
     tie.close
-    (tie.spec (λ c κs. search needs) (λ c κs. search needs) (λ c κs. search needs) (λ c κs. search needs) (λ c κs. search needs) (λ c κs. search needs) (λ c κs. search needs) returns)
+    (tie.spec (λ c κs. search needs) returns)

@@ -24,10 +24,14 @@ use Rattle.record.specs.declared.Kind.{Kind}
 use Rattle.record.specs.declared.Kind.the-variants.{Update as Updating, Scan as Scanning}
 use Rattle.record.specs.declared.Wait.{Wait}
 use Rattle.record.specs.declared.Wait.the-variants.{Idle, Reading, Writing, Comparing, Borrowing}
 use Rattle.region.specs.Record.{heardPlace, waitIn, recordBytes, recordOf, waitWords, waitReport, numbers}
 use Rattle.region.specs.Record.{waitOf, kindOf, kindCode, waitKnown}
 use Rattle.region.proofs.Saved.{six-words}
-use Rattle.refine.specs.Follows.{Sized}
+
+-- A view whose lists have their sizes.
+pub record Sized (v : View) : Type 0 where
+  pub tags : length (v .tags) ≡ 16
+  pub reports : length (v .reports) ≡ 16
 
 -- Word i of a table's bytes.
 word-at : (t : List ℕ) (i : ℕ) → i < length t → word (wordBytes t) (8 * i) ≡ getD t i 0
@@ -105,15 +109,15 @@ module _ (N W R H A B C D : List ℕ) (n : length N ≡ 40) (w : length W ≡ 48
       (simp length-append (omega arith)) d
 
 -- Bytes that have the runs of record c are record c.
-record Runs (b : List ℕ) (c : Node) : Type 0 where
-  ofNumbers : part b 0 40 ≡ wordBytes (numbers c)
-  ofWait : part b 40 48 ≡ wordBytes (waitWords (c .wait))
-  ofReport : part b 88 8 ≡ reportBytes (waitReport (c .wait))
-  ofHeard : part b 96 2048 ≡ wordBytes (c .heard)
-  ofLast : part b 2144 256 ≡ viewBytes 16 (c .last)
-  ofAtmax : part b 2400 256 ≡ viewBytes 16 (c .atmax)
-  ofAtround : part b 2656 256 ≡ viewBytes 16 (c .atround)
-  ofKept : part b 2912 256 ≡ viewBytes 16 (c .keptview)
+pub record Runs (b : List ℕ) (c : Node) : Type 0 where
+  pub ofNumbers : part b 0 40 ≡ wordBytes (numbers c)
+  pub ofWait : part b 40 48 ≡ wordBytes (waitWords (c .wait))
+  pub ofReport : part b 88 8 ≡ reportBytes (waitReport (c .wait))
+  pub ofHeard : part b 96 2048 ≡ wordBytes (c .heard)
+  pub ofLast : part b 2144 256 ≡ viewBytes 16 (c .last)
+  pub ofAtmax : part b 2400 256 ≡ viewBytes 16 (c .atmax)
+  pub ofAtround : part b 2656 256 ≡ viewBytes 16 (c .atround)
+  pub ofKept : part b 2912 256 ≡ viewBytes 16 (c .keptview)
 
 runs-of : (N W R H A B C D : List ℕ) (c : Node)
     → N ≡ wordBytes (numbers c) → W ≡ wordBytes (waitWords (c .wait)) → R ≡ reportBytes (waitReport (c .wait))

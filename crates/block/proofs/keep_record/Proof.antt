@@ -1,0 +1,28 @@
+-- `block::keep_record` meets its contract.
+use borrow.Author.Needs.{needs}
+use Prim.Native.Nat.{ℕ}
+use mathlib.Core.Path.{_≡_, sym, ap, _∙_}
+use mathlib.Core.List.{List}
+use native.Mathlib.Omega.{arith}
+use lib.ListN.{length}
+use Rattle.octets.specs.Bytes.{part, put}
+use Rattle.octets.proofs.Put.{put-over, length-part}
+use Rattle.region.specs.Record.{recordOf, recordBytes}
+use Rattle.block.specs.Block.{keep}
+use Rattle.block.proofs.keep_record.Statement.{statement}
+use Rattle.block.proofs.keep_record.Tie as tie
+
+returns : tie.Need-returns
+unfolding keep
+returns c =
+    let k = c .before .before .before .before .before .before .args .k .now in
+    let r = c .before .before .before .before .before .before .args .r .now in
+    let d = recordBytes (recordOf r) in
+    let l : length d ≡ length (part k 1 3168) =
+    sym (ap (λ (t : List ℕ). length t) (c .before .before .before .before .before .before .pre .2)) ∙ c .before .before .before .before .before .before .pre .1 ∙ sym (length-part k 1 3168 (omega arith)) in
+    c .before .before .put-bytes .ensures ∙ ap (λ (t : List ℕ). put k 1 t) (c .before .before .before .before .before .before .pre .2 ∙ sym (put-over (part k 1 3168) d l))
+
+pub keep-record-spec : {M : Type 1} → statement M
+keep-record-spec =
+    tie.close
+    (tie.spec (λ c κs. search needs) (λ c. search needs) returns)

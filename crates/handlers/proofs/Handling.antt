@@ -1,0 +1,294 @@
+-- What the bytes of a record are after each handler: those of the record by value after it.
+use Prim.Native.Nat.{ℕ, _+_, _-_, _*_, _≤_, max}
+use mathlib.Core.Path.{_≡_, refl, sym, ap, ap₂, _∙_, subst}
+use mathlib.Core.Bool.{Bool, true, false, not}
+use mathlib.Core.List.{List, [], _∷_, _++_}
+use native.Mathlib.Omega.{arith}
+use lib.ListN.{length, length-set}
+use lib.Dec.{ltb, leb, eqb}
+use Rattle.octets.specs.Test.{pick, both}
+use Rattle.octets.specs.Bytes.{Bytes, part, put}
+use Rattle.octets.specs.Word.{word, words, wordBytes}
+use Rattle.octets.proofs.Table.{length-tab}
+use Rattle.view.specs.View.{viewBytes, viewOf}
+use Rattle.view.specs.declared.Report.{Report}
+use Rattle.view.specs.declared.View.{View}
+use Rattle.view.proofs.ViewBytes.{view-absent}
+use Rattle.table.specs.Table.{cell, newest, put as withEntry}
+use Rattle.table.proofs.Laws.{length-tab as length-table}
+use Rattle.table.specs.Quorum.{member, with, size, isQuorum, agreeing}
+use Rattle.wire.specs.declared.Message.{Message}
+use Rattle.wire.specs.declared.Message.the-variants.{Read, ReadAnswer, Write, WriteAnswer, Echo, Value, Good}
+use Rattle.record.specs.Record.{waiting}
+use Rattle.record.specs.declared.Node.{Node}
+use Rattle.record.specs.declared.Wait.{Wait}
+use Rattle.record.specs.declared.Wait.the-variants.{Idle, Reading, Writing, Comparing, Borrowing}
+use Rattle.node.specs.React.{raised, readAnswered, writeAnswered, roundHolds, isNew, received, keep, react}
+use Rattle.node.specs.Move.{moveOn}
+use Rattle.node.specs.Claims.{MustWait}
+use Rattle.node.specs.Step.{started}
+use Rattle.node.specs.declared.Sent.{Sent}
+use Rattle.node.specs.declared.Step.{Step}
+use Rattle.node.proofs.Lawful.{react-started}
+use Rattle.node.proofs.Waits.{waits-still}
+use Rattle.region.specs.Record.{recordSize, heardPlace, scalar, viewPlace, viewIn, waitIn, waitBytes, recordOf, recordBytes}
+use Rattle.region.proofs.Back.{Sized, SizedNode, record-back}
+use Rattle.handlers.specs.declared.Head.{Head}
+use Rattle.handlers.specs.Handled.{entered, headOf, readWait, writeWait, stays}
+use Rattle.handlers.proofs.Sections.{Tables, tables-of, heard-put, atmax-put, kept-put, last-entry, atmax-entry, atround-entry, assembled}
+
+pub sized-view : (n : ℕ) (b : List ℕ) → n ≤ 16 → Sized (viewOf n b)
+sized-view n b h = record { tags = view-absent n b h .tags-length; reports = view-absent n b h .reports-length }
+
+-- the bytes of a head, with these tags and this wait
+abbrev pub headBytes : Head → (maxtag kept : ℕ) → Wait → List ℕ
+headBytes h maxtag kept w = wordBytes (h .n ∷ h .own ∷ maxtag ∷ h .request ∷ kept ∷ []) ++ waitBytes w
+
+module _ (r : List ℕ) (h : Bytes r) (l : length r ≡ recordSize) where
+  T : Tables r (words 256 r heardPlace) (viewIn r 0) (viewIn r 1) (viewIn r 2) (viewIn r 3)
+  T = tables-of r h l
+
+  pub waiting-bytes : (w : Wait) → put r 0 (headBytes (headOf r) (scalar r 2) (scalar r 4) w) ≡ recordBytes (waiting (recordOf r) w)
+  unfolding recordOf
+  waiting-bytes w = assembled (waiting (recordOf r) w) T
+
+  pub raised-bytes : (t : ℕ) (b : Bool) → ltb (scalar r 2) t ≡ b
+      → put (pick b (put r 2400 (viewBytes 16 (newest t (viewIn r 0) (viewIn r 1)))) r) 0
+      (headBytes (headOf r) (pick b t (scalar r 2)) (scalar r 4) (waitIn r))
+      ≡ recordBytes (raised (recordOf r) t)
+  unfolding recordOf raised
+  raised-bytes t b e = go b ∙ ap (λ (x : Bool). recordBytes (grown x)) (sym e)
+    where
+      grown : Bool → Node
+      grown x =
+          record {
+            n = scalar r 0;
+            own = scalar r 1;
+            maxtag = pick x t (scalar r 2);
+            request = scalar r 3;
+            wait = waitIn r;
+            heard = words 256 r heardPlace;
+            last = viewIn r 0;
+            atmax = pick x (newest t (viewIn r 0) (viewIn r 1)) (viewIn r 1);
+            atround = viewIn r 2;
+            kept = scalar r 4;
+            keptview = viewIn r 3;
+          }
+
+      go : (x : Bool) → put (pick x (put r 2400 (viewBytes 16 (newest t (viewIn r 0) (viewIn r 1)))) r) 0
+          (headBytes (headOf r) (pick x t (scalar r 2)) (scalar r 4) (waitIn r))
+          ≡ recordBytes (grown x)
+      go true = assembled (grown true) (atmax-put T (newest t (viewIn r 0) (viewIn r 1)))
+      go false = assembled (grown false) T
+
+  pub kept-bytes : (t : ℕ) (v : View) (b : Bool) → ltb (scalar r 4) t ≡ b
+      → put (pick b (put r 2912 (viewBytes 16 v)) r) 0 (headBytes (headOf r) (scalar r 2) (pick b t (scalar r 4)) (waitIn r))
+      ≡ recordBytes (keep (recordOf r) t v)
+  unfolding recordOf keep
+  kept-bytes t v b e = go b ∙ ap (λ (x : Bool). recordBytes (grown x)) (sym e)
+    where
+      grown : Bool → Node
+      grown x =
+          record {
+            n = scalar r 0;
+            own = scalar r 1;
+            maxtag = scalar r 2;
+            request = scalar r 3;
+            wait = waitIn r;
+            heard = words 256 r heardPlace;
+            last = viewIn r 0;
+            atmax = viewIn r 1;
+            atround = viewIn r 2;
+            kept = pick x t (scalar r 4);
+            keptview = pick x v (viewIn r 3);
+          }
+
+      go : (x : Bool) → put (pick x (put r 2912 (viewBytes 16 v)) r) 0
+          (headBytes (headOf r) (scalar r 2) (pick x t (scalar r 4)) (waitIn r)) ≡ recordBytes (grown x)
+      go true = assembled (grown true) (kept-put T v)
+      go false = assembled (grown false) T
+
+  pub received-bytes : (s w t : ℕ) (p : Report) → 1 ≤ s → s ≤ 16 → 1 ≤ w → w ≤ 16
+      → put (entered s w t p (isNew (recordOf r) w t) (both (isNew (recordOf r) w t) (leb t (scalar r 2)))
+      (both (isNew (recordOf r) w t) (roundHolds (waitIn r) t)) r) 0 (headBytes (headOf r) (scalar r 2) (scalar r 4) (waitIn r))
+      ≡ recordBytes (received (recordOf r) s w t p)
+  unfolding recordOf received entered
+  received-bytes s w t p ls hs lw hw =
+      let new = isNew (recordOf r) w t in
+      let z : (i : ℕ) → Sized (viewIn r i) = λ i. sized-view 16 (part r (viewPlace i) 256) (omega arith) in
+      assembled (received (recordOf r) s w t p)
+      (atround-entry (atmax-entry (last-entry (heard-put T (cell s w) t (omega arith) (length-tab 256 (λ i. word r (heardPlace + 8 * i))))
+      new w t p (z 0) lw hw) (both new (leb t (scalar r 2))) w t p (z 1) lw hw)
+      (both new (roundHolds (waitIn r) t)) w t p (z 2) lw hw)
+
+-- ---- the two kinds of answer
+
+module _ (c : Node) (s q t : ℕ) where
+  same-wait : (w : Wait) → c .wait ≡ w → waiting c w ≡ c
+  same-wait w e = ap (waiting c) (sym e)
+
+  pub read-answered : (w : Wait) → c .wait ≡ w → waiting c (readWait (c .request) s q t w) ≡ readAnswered c s q t w
+  unfolding readAnswered
+  read-answered (Reading o a m) e = go (eqb q (c .request)) (member a s)
+    where
+      go : (x y : Bool) → waiting c (pick x (pick y (Reading o a m) (Reading o (with a s) (max m t))) (Reading o a m))
+          ≡ pick x (pick y c (waiting c (Reading o (with a s) (max m t)))) c
+      go true true = same-wait (Reading o a m) e
+      go true false = refl
+      go false y = same-wait (Reading o a m) e
+  read-answered Idle e = same-wait Idle e
+  read-answered (Writing k i r a) e = same-wait (Writing k i r a) e
+  read-answered (Comparing k i r) e = same-wait (Comparing k i r) e
+  read-answered (Borrowing k r) e = same-wait (Borrowing k r) e
+
+  pub write-answered : (w : Wait) → c .wait ≡ w → waiting c (writeWait (c .request) s q t w) ≡ writeAnswered c s q t w
+  unfolding writeAnswered
+  write-answered (Writing k i r a) e = go (eqb q (c .request)) (eqb t r) (member a s)
+    where
+      go : (x y z : Bool)
+          → waiting c (pick x (pick y (pick z (Writing k i r a) (Writing k i r (with a s))) (Writing k i r a)) (Writing k i r a))
+          ≡ pick x (pick y (pick z c (waiting c (Writing k i r (with a s)))) c) c
+      go true true true = same-wait (Writing k i r a) e
+      go true true false = refl
+      go true false z = same-wait (Writing k i r a) e
+      go false y z = same-wait (Writing k i r a) e
+  write-answered Idle e = same-wait Idle e
+  write-answered (Reading o a m) e = same-wait (Reading o a m) e
+  write-answered (Comparing k i r) e = same-wait (Comparing k i r) e
+  write-answered (Borrowing k r) e = same-wait (Borrowing k r) e
+
+-- ---- a step that must wait
+
+not-false : (b : Bool) → not b ≡ true → b ≡ false
+not-false true e = sym e
+not-false false e = refl
+
+must : (f : ℕ) (c : Node) (w : Wait) → stays f c w ≡ true → MustWait f c w
+must f c Idle e = tt
+must f c (Reading o a m) e = not-false (isQuorum (c .n) f (size (c .n) a)) e
+must f c (Writing k i r a) e = not-false (isQuorum (c .n) f (size (c .n) a)) e
+must f c (Comparing k i r) e = not-false (isQuorum (c .n) f (agreeing (c .n) (c .own) (c .heard) (c .atround .tags))) e
+must f c (Borrowing k r) e = not-false (leb r (c .kept)) e
+
+pub moves-not : (f : ℕ) (s : Step) → stays f (s .node) (s .node .wait) ≡ true → moveOn f s ≡ s
+unfolding moveOn
+moves-not f s e =
+    let q = waits-still f s (s .node .wait) (must f (s .node) (s .node .wait) e) in
+    rw (q .0, q .1, q .2, q .3) refl
+
+-- ---- the fields that the test of the bytes reads
+
+pub wait-of : (r : List ℕ) → waitIn r ≡ recordOf r .wait
+unfolding recordOf
+wait-of r = refl
+
+pub kept-of : (r : List ℕ) → scalar r 4 ≡ recordOf r .kept
+unfolding recordOf
+kept-of r = refl
+
+pub agreeing-of : (r : List ℕ) (n : ℕ) → recordOf r .n ≡ n
+    → agreeing n (scalar r 1) (words 256 r heardPlace) (viewIn r 2 .tags)
+    ≡ agreeing (recordOf r .n) (recordOf r .own) (recordOf r .heard) (recordOf r .atround .tags)
+unfolding recordOf
+agreeing-of r n e = ap (λ (k : ℕ). agreeing k (scalar r 1) (words 256 r heardPlace) (viewIn r 2 .tags)) (sym e)
+
+-- ---- the sizes of the tables after a handler, so that the record is read back
+
+sized-pick : (b : Bool) (u v : View) → Sized u → Sized v → Sized (pick b u v)
+sized-pick true u v p q = p
+sized-pick false u v p q = q
+
+sized-entry : (v : View) (w t : ℕ) (p : Report) → Sized v → Sized (withEntry v w t p)
+sized-entry v w t p z =
+    record { tags = length-set (v .tags) (w - 1) t ∙ z .tags; reports = length-set (v .reports) (w - 1) p ∙ z .reports }
+
+sized-newest : (t : ℕ) (last held : View) → Sized (newest t last held)
+unfolding newest
+sized-newest t last held = record { tags = length-table 16 _; reports = length-table 16 _ }
+
+pub sized-of : (r : List ℕ) → SizedNode (recordOf r)
+unfolding recordOf
+sized-of r =
+    record {
+      heard = length-tab 256 (λ i. word r (heardPlace + 8 * i));
+      last = sized-view 16 (part r (viewPlace 0) 256) (omega arith);
+      atmax = sized-view 16 (part r (viewPlace 1) 256) (omega arith);
+      atround = sized-view 16 (part r (viewPlace 2) 256) (omega arith);
+      keptview = sized-view 16 (part r (viewPlace 3) 256) (omega arith);
+    }
+
+module _ (c : Node) (z : SizedNode c) where
+  sized-waiting : (w : Wait) → SizedNode (waiting c w)
+  sized-waiting w =
+      record { heard = z .heard; last = z .last; atmax = z .atmax; atround = z .atround; keptview = z .keptview }
+
+  sized-raised : (t : ℕ) → SizedNode (raised c t)
+  unfolding raised
+  sized-raised t =
+      record {
+        heard = z .heard;
+        last = z .last;
+        atmax = sized-pick (ltb (c .maxtag) t) (newest t (c .last) (c .atmax)) (c .atmax)
+            (sized-newest t (c .last) (c .atmax)) (z .atmax);
+        atround = z .atround;
+        keptview = z .keptview;
+      }
+
+  sized-received : (s w t : ℕ) (p : Report) → SizedNode (received c s w t p)
+  unfolding received
+  sized-received s w t p =
+      record {
+        heard = length-set (c .heard) (cell s w) t ∙ z .heard;
+        last = sized-pick (isNew c w t) (withEntry (c .last) w t p)
+            (c .last) (sized-entry (c .last) w t p (z .last)) (z .last);
+        atmax = sized-pick (both (isNew c w t) (leb t (c .maxtag))) (withEntry (c .atmax) w t p)
+            (c .atmax) (sized-entry (c .atmax) w t p (z .atmax)) (z .atmax);
+        atround = sized-pick (both (isNew c w t) (roundHolds (c .wait) t)) (withEntry (c .atround) w t p)
+            (c .atround) (sized-entry (c .atround) w t p (z .atround)) (z .atround);
+        keptview = z .keptview;
+      }
+
+  sized-keep : (t : ℕ) (v : View) → Sized v → SizedNode (keep c t v)
+  unfolding keep
+  sized-keep t v s =
+      record {
+        heard = z .heard;
+        last = z .last;
+        atmax = z .atmax;
+        atround = z .atround;
+        keptview = sized-pick (ltb (c .kept) t) v (c .keptview) s (z .keptview);
+      }
+
+  sized-react : (s : ℕ) (m : Message) (v : View) → Sized v → SizedNode (react c s m v .node)
+  unfolding react
+  sized-react s (Read q) v h = z
+  sized-react s (ReadAnswer q t) v h = subst SizedNode (read-answered c s q t (c .wait) refl) (sized-waiting _)
+  sized-react s (Write q t) v h = sized-raised t
+  sized-react s (WriteAnswer q t) v h = subst SizedNode (write-answered c s q t (c .wait) refl) (sized-waiting _)
+  sized-react s (Echo t) v h = sized-raised t
+  sized-react s (Value t w p) v h = sized-received s w t p
+  sized-react s (Good t) v h = sized-keep t v h
+
+react-n : (c : Node) (s : ℕ) (m : Message) (v : View) → react c s m v .node .n ≡ c .n
+unfolding react raised received keep
+react-n c s (Read q) v = refl
+react-n c s (ReadAnswer q t) v = sym (ap (λ (d : Node). d .n) (read-answered c s q t (c .wait) refl))
+react-n c s (Write q t) v = refl
+react-n c s (WriteAnswer q t) v = sym (ap (λ (d : Node). d .n) (write-answered c s q t (c .wait) refl))
+react-n c s (Echo t) v = refl
+react-n c s (Value t w p) v = refl
+react-n c s (Good t) v = refl
+
+-- The bytes that a handler leaves are the record that it leaves, and with what it sends they are its step.
+module _ (r r′ : List ℕ) (s : ℕ) (m : Message) (v : View) (h : Sized v) (e : r′ ≡ recordBytes (react (recordOf r) s m v .node)) where
+  pub reacted : recordOf r′ ≡ react (recordOf r) s m v .node
+  reacted = ap recordOf e ∙ record-back (react (recordOf r) s m v .node) (sized-react (recordOf r) (sized-of r) s m v h)
+
+  pub reacted-n : recordOf r′ .n ≡ recordOf r .n
+  reacted-n = ap (λ (d : Node). d .n) reacted ∙ react-n (recordOf r) s m v
+
+  pub reacted-bytes : r′ ≡ recordBytes (recordOf r′)
+  reacted-bytes = e ∙ ap recordBytes (sym reacted)
+
+  pub reacted-step : {x : Sent} → x ≡ react (recordOf r) s m v .outbox .handler → started (recordOf r′) s x ≡ react (recordOf r) s m v
+  reacted-step q = ap₂ (λ (d : Node) (y : Sent). started d s y) reacted q ∙ sym (react-started (recordOf r) s m v)

@@ -1,0 +1,41 @@
+-- `handlers::received_in` meets its contract.
+use borrow.Author.Needs.{needs}
+use mathlib.Core.Path.{_≡_, ap, ap₂, _∙_}
+use Prim.Native.Nat.{ℕ, _-_}
+use mathlib.Core.List.{List}
+use mathlib.Core.Bool.{Bool}
+use lib.Dec.{ltb, leb}
+use Rattle.octets.specs.Test.{both}
+use Rattle.octets.specs.Bytes.{put}
+use Rattle.node.specs.React.{isNew, roundHolds}
+use Rattle.region.specs.Record.{scalar, waitIn, recordOf}
+use Rattle.handlers.specs.declared.Head.{Head}
+use Rattle.handlers.specs.Handled.{entered}
+use Rattle.handlers.proofs.Handling.{headBytes, received-bytes}
+use Rattle.handlers.proofs.received_in.Statement.{statement}
+use Rattle.handlers.proofs.received_in.Tie as tie
+
+returns : tie.Need-returns
+unfolding recordOf
+returns c =
+    let a = c .before .before .before .before .before .before .before .before .before .before .before .before .before .before .before .before .before .args in
+    let r = a .r .now in
+    let new = isNew (recordOf r) (a .w) (a .t) in
+    let old = ltb (c .before .before .before .before .before .before .before .before .before .before .before .before .tag-in .result) (a .t) in
+    let fresh : old ≡ new = ap (λ (x : ℕ). ltb x (a .t)) (c .before .before .before .before .before .before .before .before .before .before .before .before .tag-in .ensures) in
+    let held : c .before .before .before .before .before .before .before .before .before .before .and .result ≡ both new (leb (a .t) (scalar r 2)) =
+    c .before .before .before .before .before .before .before .before .before .before .and .ensures ∙ ap₂ both fresh (ap (λ (h : Head). leb (a .t) (h .maxtag)) (c .before .before .before .before .before .before .before .before .before .before .before .before .before .before .head-of .ensures)) in
+    let round : c .before .before .before .before .before .before .before .before .and2 .result ≡ both new (roundHolds (waitIn r) (a .t)) =
+    c .before .before .before .before .before .before .before .before .and2 .ensures ∙ ap₂ both fresh (c .before .before .before .before .before .before .before .before .before .round-holds .ensures ∙ ap (λ (h : Head). roundHolds (h .wait) (a .t)) (c .before .before .before .before .before .before .before .before .before .before .before .before .before .before .head-of .ensures)) in (
+      fresh,
+      c .before .before .save-head .ensures
+          ∙ ap₂ (λ (x : List ℕ) (h : Head). put x 0 (headBytes h (h .maxtag) (h .kept) (h .wait)))
+          (c .before .before .before .before .before .before .enter .ensures ∙ ap (λ (x : Bool). entered (a .s) (a .w) (a .t) (a .p) x (c .before .before .before .before .before .before .before .before .before .before .and .result) (c .before .before .before .before .before .before .before .before .and2 .result) r) fresh
+          ∙ ap₂ (λ (x y : Bool). entered (a .s) (a .w) (a .t) (a .p) new x y r) held round) (c .before .before .before .before .before .before .before .before .before .before .before .before .before .before .head-of .ensures)
+          ∙ received-bytes r (λ i. c .before .before .before .before .before .before .before .before .before .before .before .before .before .before .before .before .slice-known .given i .fits) (c .before .before .before .before .before .before .before .before .before .before .before .before .before .before .before .before .before .pre .0) (a .s) (a .w) (a .t) (a .p) (c .before .before .before .before .before .before .before .before .before .before .before .before .before .before .before .before .before .pre .1) (c .before .before .before .before .before .before .before .before .before .before .before .before .before .before .before .before .before .pre .2) (c .before .before .before .before .before .before .before .before .before .before .before .before .before .before .before .before .before .pre .3) (c .before .before .before .before .before .before .before .before .before .before .before .before .before .before .before .before .before .pre .4),
+    )
+
+pub received-in-spec : {M : Type 1} → statement M
+received-in-spec =
+    tie.close
+    (tie.spec (λ c κs. search needs) (λ c κs. search needs) (λ c κs. search needs) (λ c κs. search needs) (λ c κs. search needs) (λ c κs. search needs) (λ c κs. search needs) (λ c. search needs) returns)

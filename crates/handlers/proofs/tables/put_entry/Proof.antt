@@ -1,0 +1,23 @@
+-- `handlers::tables::put_entry` meets its contract.
+use borrow.Author.Needs.{needs}
+use mathlib.Core.Path.{refl, ap, _∙_}
+use Prim.Native.Nat.{_+_, _-_}
+use native.Mathlib.Omega.{arith}
+use Rattle.octets.specs.Bytes.{be, put}
+use Rattle.octets.proofs.Put.{put-then}
+use Rattle.view.specs.Report.{reportBytes}
+use Rattle.handlers.specs.Handled.{entryPlace}
+use Rattle.handlers.proofs.tables.put_entry.Statement.{statement}
+use Rattle.handlers.proofs.tables.put_entry.Tie as tie
+
+returns : tie.Need-returns
+returns c =
+    let a = c .before .before .before .before .before .before .before .before .before .before .before .args in
+    let at = entryPlace (a .i) (a .w) in
+    put-then (a .r .now) at (be 8 (a .t)) (reportBytes (a .p)) (at + 8) (omega arith) refl (c .before .before .before .before .before .before .before .before .put-word .ensures)
+    (c .before .before .put-bytes .ensures ∙ ap (put _ (at + 8)) (c .before .before .before .before .before .report-bytes .ensures))
+
+pub put-entry-spec : {M : Type 1} → statement M
+put-entry-spec =
+    tie.close
+    (tie.spec (λ c. search needs) (λ c. search needs) (λ c. search needs) (λ c. search needs) (λ c. search needs) (λ c κs. search needs) (λ c κs. search needs) (λ c. search needs) (λ c. search needs) (λ c κs. search needs) (λ c. search needs) returns)

@@ -1,0 +1,71 @@
+-- A message handled on the bytes of a record: the words that the handlers' contracts use beside those of the record.
+use Prim.Native.Nat.{ℕ, _+_, _-_, _*_, max}
+use mathlib.Core.Bool.{Bool, true, not}
+use mathlib.Core.List.{List}
+use lib.Dec.{leb, eqb}
+use Rattle.octets.specs.Test.{pick}
+use Rattle.octets.specs.Bytes.{be, put}
+use Rattle.view.specs.View.{entryBytes}
+use Rattle.view.specs.declared.Report.{Report}
+use Rattle.table.specs.Table.{cell}
+use Rattle.table.specs.Quorum.{member, with, size, isQuorum, agreeing}
+use Rattle.record.specs.declared.Node.{Node}
+use Rattle.record.specs.declared.Wait.{Wait}
+use Rattle.record.specs.declared.Wait.the-variants.{Idle, Reading, Writing, Comparing, Borrowing}
+use Rattle.region.specs.Record.{heardPlace, viewPlace, scalar, waitIn}
+use Rattle.handlers.specs.declared.Head.{Head}
+
+-- Where the tag heard from sender s for writer w stands, and the entry of writer w in view i.
+abbrev pub cellPlace : (s w : ℕ) → ℕ
+cellPlace s w = heardPlace + 8 * cell s w
+
+abbrev pub entryPlace : (i w : ℕ) → ℕ
+entryPlace i w = viewPlace i + 16 * (w - 1)
+
+-- The bytes with another entry of writer w in view i, where the flag says so.
+abbrev pub putWhere : Bool → (i w t : ℕ) → Report → List ℕ → List ℕ
+putWhere flag i w t p r = pick flag (put r (entryPlace i w) (entryBytes t p)) r
+
+-- The bytes after a value of writer w from sender s: the tag heard, and the entries that the flags say.
+unfoldable pub entered : (s w t : ℕ) → Report → (fresh held round : Bool) → List ℕ → List ℕ
+entered s w t p fresh held round r =
+    putWhere round 2 w t p (putWhere held 1 w t p (putWhere fresh 0 w t p (put r (cellPlace s w) (be 8 t))))
+
+-- The numbers and the wait that the bytes are.
+abbrev pub headOf : List ℕ → Head
+headOf r =
+    record {
+      n = scalar r 0;
+      own = scalar r 1;
+      maxtag = scalar r 2;
+      request = scalar r 3;
+      kept = scalar r 4;
+      wait = waitIn r;
+    }
+
+-- The wait after an answer from s with number q and tag t, where `request` is the current number.
+abbrev pub readWait : (request s q t : ℕ) → Wait → Wait
+readWait request s q t (Reading o a m) =
+    pick (eqb q request) (pick (member a s) (Reading o a m) (Reading o (with a s) (max m t))) (Reading o a m)
+readWait request s q t Idle = Idle
+readWait request s q t (Writing k i r a) = Writing k i r a
+readWait request s q t (Comparing k i r) = Comparing k i r
+readWait request s q t (Borrowing k r) = Borrowing k r
+
+abbrev pub writeWait : (request s q t : ℕ) → Wait → Wait
+writeWait request s q t (Writing k i r a) =
+    pick (eqb q request)
+    (pick (eqb t r) (pick (member a s) (Writing k i r a) (Writing k i r (with a s))) (Writing k i r a))
+    (Writing k i r a)
+writeWait request s q t Idle = Idle
+writeWait request s q t (Reading o a m) = Reading o a m
+writeWait request s q t (Comparing k i r) = Comparing k i r
+writeWait request s q t (Borrowing k r) = Borrowing k r
+
+-- The open operation does not move on: no pass does anything.
+abbrev pub stays : ℕ → Node → Wait → Bool
+stays f c Idle = true
+stays f c (Reading o a m) = not (isQuorum (c .n) f (size (c .n) a))
+stays f c (Writing k i r a) = not (isQuorum (c .n) f (size (c .n) a))
+stays f c (Comparing k i r) = not (isQuorum (c .n) f (agreeing (c .n) (c .own) (c .heard) (c .atround .tags)))
+stays f c (Borrowing k r) = not (leb r (c .kept))

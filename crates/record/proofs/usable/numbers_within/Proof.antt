@@ -1,0 +1,12 @@
+-- `record::usable::numbers_within` meets its contract. Assumes nothing.
+use borrow.Author.Needs.{needs}
+use Rattle.record.proofs.usable.numbers_within.Statement.{statement}
+use Rattle.record.proofs.usable.numbers_within.Tie as tie
+
+returns : tie.Need-returns
+returns c = simp (c .and4 .ensures, c .before .and3 .ensures, c .before .before .before .before .before .and2 .ensures, c .before .before .before .before .before .before .and .ensures, c .before .before .before .before .wait-ok .ensures, c .before .before .before .still-uses .ensures, c .before .before .less .ensures)
+
+pub numbers-within-spec : {M : Type 1} → statement M
+numbers-within-spec =
+    tie.close
+    (tie.spec (λ c κs. search needs) (λ c κs. search needs) (λ c κs. search needs) (λ c κs. search needs) (λ c κs. search needs) (λ c κs. search needs) (λ c κs. search needs) returns)
