@@ -50,7 +50,8 @@ unfoldable pub goTo : ℕ → List Entry → ℕ
 goTo b [] = 0
 goTo b (e ∷ l) = pick (eqb (e .to) b) (goTo b l + 1) (goTo b l)
 
--- The slot of a message: its bytes at the front, and zeros after them.
+-- The slot of a message: its bytes at the front, and zeros after them. A message that the layout does not allow is not
+-- written: its slot is zeros only.
 unfoldable pub slot : ℕ → Message → View → List ℕ
 slot n m v =
     after (answer n m (viewBytes n v) slotSize) (encode m (viewBytes n v)) (replicate slotSize 0)

@@ -3,8 +3,7 @@
 use Prim.Native.Nat.{ℕ, _+_, _<_}
 use native.Mathlib.Omega.{arith}
 use mathlib.Core.Path.{_≡_, sym, subst}
-use mathlib.Core.Logic.{inl}
-use mathlib.Core.Bool.{Bool, true, false}
+use mathlib.Core.Bool.{Bool, false}
 use mathlib.Core.List.{List, [], _∷_}
 use Rattle.theory.specs.Update.{upd}
 use Rattle.theory.proofs.Update.{upd-all, upd-map}
@@ -12,7 +11,7 @@ use Rattle.theory.specs.Log.{_∈_, _⊑_, push}
 use Rattle.theory.proofs.Log.{placed, each-at}
 use Rattle.eqaso.specs.Message.{Message, read, readAnswer, write, writeAnswer, echo, value, good}
 use Rattle.eqaso.specs.Algorithm.{Operation, messageStep, beginStep}
-use Rattle.eqaso.specs.Cluster.{Extent, cut, halted}
+use Rattle.eqaso.specs.Cluster.{Extent, halted}
 use Rattle.eqaso.specs.Order.{OneTo}
 use Rattle.eqaso.proofs.Cert.{Log, Logs}
 use Rattle.eqaso.proofs.Local.{Due}
@@ -96,8 +95,3 @@ module _ {n f : ℕ} {stopped : ℕ → Bool} {σ : Sites} {gone : ℕ → Logs}
         (begin-rests n f i (omega arith) op (σ i .node))
         (begin-live n f i (σ i .past .got) op (σ i .node) (σ i .log) (A .live i))
         (begin-marked (A .M) n f i op (σ i .node) (marked i up))
-
-  -- Node i stops.
-  pub alive-stopped : (i : ℕ) → OneTo n i → stopped i ≡ false
-      → Alive n f (upd stopped i true) (upd σ i (σ i)) (upd gone i (λ b. push (front n (cut 0) b []) (gone i b)))
-  alive-stopped i node up = alive-act i (cut 0) (σ i) [] node (A .rests i) (A .live i) (inl (marked i up))

@@ -8,12 +8,12 @@ use mathlib.Core.Logic.{_⊎_, inl, inr, _↔_, ite}
 use mathlib.Core.Bool.{Bool, true, decide, decide-iff, _&&_}
 use mathlib.Core.List.{List, [], _∷_, List·Memᴰ·head, List·Memᴰ·tail}
 use Rattle.theory.specs.Log.{_∈_}
-use Rattle.eqaso.specs.Message.{Value, absent}
+use Rattle.eqaso.specs.Message.{Value}
 use Rattle.eqaso.specs.Algorithm.{Node, newest, within, agrees}
 use Rattle.eqaso.specs.Order.{OneTo}
 pub use Rattle.eqaso.specs.Bounded.{UpTo, Bounded, BoundedNode, Arrives}
 use Rattle.eqaso.proofs.Sets.{or-cases, or-left, or-right, and-both, and-of, within-to, within-of}
-use Rattle.eqaso.proofs.Newest.{entry, newest-from, newest-value, newest-above, newest-same, newest-then}
+use Rattle.eqaso.proofs.Newest.{entry, newest-value, newest-above, newest-same, newest-then}
 use Rattle.eqaso.specs.Node.{highest, latest}
 use Rattle.eqaso.proofs.Newest.{newest-beyond, latest-above, latest-then, newest-latest}
 
@@ -58,13 +58,6 @@ module _ {n : ℕ} {all : List Value} {from : ℕ → List Value} {maxtag : ℕ}
       go : (d : Dec (latest w all .tag ≤ t)) → newest w t all ≡ ite d (latest w all) (newest w maxtag all)
       go (yes d) = newest-latest w t all d
       go (no d) = newest-same w t maxtag all (λ v m e. (λ z. low d v m e z, λ z. omega arith))
-
-  -- There is nothing of a number that is no node.
-  pub newest-outside : (w t : ℕ) → ¬ OneTo n w → newest w t all ≡ absent
-  newest-outside w t out = elim (newest-from w t all) [
-    | inl e ↦ e
-    | inr (v, m, p, q, e) ↦ absurd (out (subst (OneTo n) p (b .writer v m)))
-  ]
 
   -- Node k has sent, for each writer, the newest value up to t that this node has, or a later one. That is so just if
   -- both have the same values up to t.

@@ -59,17 +59,6 @@ module _ (n f : ℕ) (out : Logs) (dues : Dues n f out) where
       go at′ (inl r) = elim (cons-or r) [ inl d ↦ inl (cc (d .0)) | inr r′ ↦ inr (placed r′) ]
       go at′ (inr r) = elim (cons-or r) [ inl d ↦ inl (cc (d .0)) | inr r′ ↦ after at′ (placed r′) ]
 
-  -- A tag of a writer has one report.
-  pub one-report : (j k : ℕ) {u v : Value} → value u ∈ out j → value v ∈ out k → u .writer ≡ v .writer
-      → u .tag ≡ v .tag → u ≡ v
-  one-report j k {u} {v} x y e t =
-      let sent : value u ∈ out (v .writer) = subst (λ z. value u ∈ out z) e (writer-sent j x) in
-      let (p, at) = place (writer-sent k y) in
-      elim (own-before at sent (e, omega arith)) [
-        | inl d ↦ d
-        | inr m ↦ elim (value-due (v .writer) at .rise u refl m e) [ inl d ↦ d | inr d ↦ absurd (omega arith) ]
-      ]
-
   -- Any state of any log that has a value has all earlier ones of its writer.
   pub closed : (k : ℕ) {a : Log} {u v : Value} → a ⊑ out k → value v ∈ a → value u ∈ out (u .writer) → UpTo u v
       → value u ∈ a

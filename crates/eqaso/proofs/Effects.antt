@@ -1,5 +1,5 @@
 -- What one event does to who has stopped and to what waits, in the words of a trace.
-use Prim.Native.Nat.{ℕ, zero, suc, _+_, _≤_}
+use Prim.Native.Nat.{ℕ, _≤_}
 use native.Mathlib.Omega.{arith}
 use native.Mathlib.Decide.{ℕ-discrete}
 use mathlib.Core.Path.{_≡_, refl, ap, sym, subst, _∙_}
@@ -7,8 +7,8 @@ use mathlib.Core.Logic.{inl, inr, _≢_}
 use mathlib.Core.Bool.{Bool, true, false, cond, decide, _||_, or-false, or-true, true≢false}
 use mathlib.Core.List.{List, [], _∷_, _++_, append-nil, append-assoc}
 use lib.ListN.{length}
-use Rattle.theory.specs.Count.{bit, count}
-use Rattle.theory.proofs.Count.{count-mono}
+use Rattle.theory.specs.Count.{count}
+use Rattle.theory.proofs.Count.{count-one}
 use Rattle.theory.specs.Update.{upd, upd2, upd-by}
 use Rattle.theory.proofs.Update.{upd-other, upd2-same, upd2-other}
 use Rattle.theory.specs.Log.{_∈_}
@@ -41,23 +41,6 @@ stops-is {n} {f} {σ} (began {c} {x = cut k} h i r z) a = cut-stops (σ .stopped
 stops-is {n} {f} {σ} (delivered {x = whole} h o m rest e z) a = sym (or-false (σ .stopped a))
 stops-is {n} {f} {σ} (delivered {b} {x = cut k} h o m rest e z) a = cut-stops (σ .stopped) b a
 stops-is {n} {f} {σ} (ceased {c} h) a = cut-stops (σ .stopped) c a
-
--- One more stops.
-count-one : (s : ℕ → Bool) (c n : ℕ) → count (upd s c true) n ≤ suc (count s n)
-unfolding count
-count-one s c zero = omega arith
-count-one s c (suc n) = go (ℕ-discrete (suc n) c) (count-one s c n)
-  where
-    go : Dec (suc n ≡ c) → count (upd s c true) n ≤ suc (count s n)
-        → bit (upd s c true (suc n)) + count (upd s c true) n ≤ suc (bit (s (suc n)) + count s n)
-    go (yes e) less =
-        let rest = count-mono (upd s c true) s n (λ k lo hi t. sym (upd-other s c true k (omega arith)) ∙ t) in
-        let one : bit (upd s c true (suc n)) ≤ 1 = bit-one (upd s c true (suc n)) in omega arith
-      where
-        bit-one : (b : Bool) → bit b ≤ 1
-        bit-one true = omega arith
-        bit-one false = omega arith
-    go (no e) less = rw (upd-other s c true (suc n) e) (omega arith)
 
 -- No more stop than may.
 few-after : (n f c : ℕ) (x : Extent) (σ : Cluster) → Handles n f c x σ → count (σ .stopped) n ≤ f

@@ -16,9 +16,6 @@ use Rattle.eqaso.proofs.Local.{Past, Own, Held, Settled, Due, Olds, Hav
 pub ≼-refl : (a : Logs) → a ≼ a
 ≼-refl a k = here
 
-pub ≼-trans : (a b c : Logs) → a ≼ b → b ≼ c → a ≼ c
-≼-trans a b c p q k = ⊑-trans (p k) (q k)
-
 pub upd-up : (out out′ : Logs) (i : ℕ) {l l′ : Log} → out ≼ out′ → l ⊑ l′ → upd out i l ≼ upd out′ i l′
 upd-up out out′ i {l} {l′} up p = upd-all (λ k x. x ⊑ upd out′ i l′ k) out i l
     (λ k ne. rw (upd-other out′ i l′ k ne) (up k)) (rw (upd-same out′ i l′) p)

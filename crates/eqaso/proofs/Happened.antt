@@ -2,7 +2,7 @@
 use Prim.Native.Nat.{ℕ, _-_, _≤_, _<_}
 use native.Mathlib.Decide.{decLe, decLt}
 use mathlib.Core.Path.{_≡_, refl, sym, subst}
-use mathlib.Core.Bool.{Bool, true, false, decide, not, _&&_, false≢true}
+use mathlib.Core.Bool.{true, false, decide, not, _&&_, false≢true}
 use mathlib.Core.List.{List, [], _∷_, _++_, append-nil, append-assoc}
 use Rattle.theory.specs.Count.{count}
 use Rattle.theory.specs.Update.{upd2}
@@ -14,6 +14,7 @@ use Rattle.eqaso.specs.Cluster.{entries, letOut, commit, demand, holds, 
 use Rattle.eqaso.specs.Cluster.{mayStop, deliverFirst, event, after}
 use Rattle.eqaso.specs.Trace.{Trace, seen, traceFrom, trace}
 use Rattle.eqaso.specs.Order.{OneTo}
+use Rattle.eqaso.proofs.Sets.{and-both, not-true}
 
 -- One more node may stop, where the event stops one.
 abbrev pub MayStop : (n f : ℕ) → Extent → Cluster → Type 0
@@ -58,16 +59,8 @@ unfolding decide
 decided (yes p) e = p
 decided (no p) e = absurd (false≢true e)
 
-both : (a b : Bool) → (a && b) ≡ true → (a ≡ true) × (b ≡ true)
-both true b e = (refl, e)
-both false b e = absurd (false≢true e)
-
 is-node : (n c : ℕ) → isNode n c ≡ true → OneTo n c
-is-node n c e = let (lo, hi) = both _ _ e in (decided (decLt 0 c) lo, decided (decLe c n) hi)
-
-not-stopped : (b : Bool) → not b ≡ true → b ≡ false
-not-stopped true e = absurd (false≢true e)
-not-stopped false e = refl
+is-node n c e = let (lo, hi) = and-both _ _ e in (decided (decLt 0 c) lo, decided (decLe c n) hi)
 
 is-idle : (w : Wait) → isIdle w ≡ true → w ≡ idle
 is-idle idle e = refl
@@ -92,7 +85,7 @@ demanded (no p) k next = (refusal k, refl)
 handles : (n f c : ℕ) (x : Extent) (σ : Cluster) → isNode n c ≡ true → not (σ .stopped c) ≡ true
     → mayCut n f x σ ≡ true → Handles n f c x σ
 handles n f c x σ node stands may =
-    record { node = is-node n c node; stands = not-stopped _ stands; may = may-cut n f x σ may }
+    record { node = is-node n c node; stands = not-true _ stands; may = may-cut n f x σ may }
 
 -- Every event was refused, or did what its kind does.
 pub happened : (n f : ℕ) (e : Event) (σ : Cluster) → Found n f σ e (event n f e σ)
@@ -122,7 +115,7 @@ happened n f (deliver a b x) σ =
         next = act n b x (messageStep n f b a m (σ .nodes b)) (upd2 (σ .channel) a b rest) σ
 
         two : (isNode n a ≡ true) × (isNode n b ≡ true)
-        two = both (isNode n a) (isNode n b) nodes
+        two = and-both (isNode n a) (isNode n b) nodes
 happened n f (stop c) σ =
     demanded (holds (isNode n c)) 3 λ node.
     demanded (holds (stands σ c)) 4 λ up.

@@ -6,11 +6,11 @@ use mathlib.Core.List.{[], _∷_, List·Memᴰ·head, List·Memᴰ·tail}
 use Rattle.theory.specs.Log.{_∈_, push}
 use Rattle.theory.proofs.Log.{push-new}
 use Rattle.eqaso.specs.Message.{of, Message, read, readAnswer, write, writeAnswer, echo, value, good}
-use Rattle.eqaso.specs.Algorithm.{Operation, Node, sending, _then_, react, messageStep, beginStep}
+use Rattle.eqaso.specs.Algorithm.{Node, sending, _then_, react, messageStep}
 use Rattle.eqaso.proofs.Cert.{Log}
 use Rattle.eqaso.proofs.Cases.{raise-cases, receive-cases}
 use Rattle.eqaso.proofs.Passes.{left}
-use Rattle.eqaso.proofs.MoveOn.{Moves, message-leaves, begin-leaves}
+use Rattle.eqaso.proofs.MoveOn.{Moves, message-leaves}
 
 -- A write among the messages of a step is that of a round that opens.
 abbrev High : ℕ → Message → Type 0
@@ -68,8 +68,3 @@ pub opens-high : (n f i k : ℕ) (m : Message) (ν : Node) (q t : ℕ) → write
     → messageStep n f i k m ν .node .maxtag ≤ t
 opens-high n f i k m ν q t x = left Highs (messageStep n f i k m ν .ending)
     (message-leaves (highs-kept n f i) k m ν [] (high-react k m ν)) (write q t) (push-new [] x)
-
-pub begins-high : (n f i : ℕ) (op : Operation) (ν : Node) (q t : ℕ) → write q t ∈ beginStep n f i op ν .sent
-    → beginStep n f i op ν .node .maxtag ≤ t
-begins-high n f i op ν q t x = left Highs (beginStep n f i op ν .ending) (begin-leaves (highs-kept n f i) op ν []
-    (one-more (ν .maxtag) (read (suc (ν .request))) tt (none-sent (ν .maxtag)))) (write q t) (push-new [] x)

@@ -2,12 +2,12 @@
 use Prim.Native.Nat.{ℕ, _+_, _<_}
 use mathlib.Core.Path.{_≡_, refl, sym, subst, ap, _∙_}
 use mathlib.Core.Bool.{false}
-use mathlib.Core.List.{List, []}
+use mathlib.Core.List.{List}
 use Rattle.eqaso.specs.Algorithm.{idle}
 use Rattle.eqaso.specs.Cluster.{Event, Cluster}
 use Rattle.eqaso.specs.Trace.{Trace, trace, Begun, nothing, updating, scanning, begun, Fate, unfinished, ended}
-use Rattle.eqaso.specs.Trace.{fate, stopped, waits}
-use Rattle.eqaso.specs.Order.{OneTo, Finished, ClosedBy, Quiet}
+use Rattle.eqaso.specs.Trace.{fate, stopped}
+use Rattle.eqaso.specs.Order.{OneTo, Finished, ClosedBy, NothingWaits, Quiet}
 use Rattle.eqaso.proofs.Linked.{Linked, linked, waits-is}
 use Rattle.eqaso.proofs.Book.{bookOf, At}
 use Rattle.eqaso.proofs.Facts.{Fit}
@@ -19,8 +19,7 @@ use Rattle.eqaso.proofs.Empty.{all-idle}
 
 -- No operation of a node is unfinished, if the node is idle.
 closed : {n f : ℕ} {σ : Cluster} {tr : Trace} → f + f < n → Linked n f σ tr → Good n f σ tr
-    → ((a b : ℕ) → OneTo n a → OneTo n b → stopped tr b ≡ false → waits tr a b ≡ [])
-    → (t c : ℕ) → OneTo n c → At (bookOf tr .begun t) c → stopped tr c ≡ false → ¬ (bookOf tr .fate t ≡ unfinished)
+    → NothingWaits n tr → (t c : ℕ) → OneTo n c → At (bookOf tr .begun t) c → stopped tr c ≡ false → ¬ (bookOf tr .fate t ≡ unfinished)
 closed {n} {f} {σ} {tr} half L g empty t c one at up =
     mode-rests n f (bookOf tr) c _ _ _ (g .sites c .node .wait) (subst Rests (sym still) tt) .0
     (g .history .modes c stands) t at

@@ -1,7 +1,6 @@
 -- What a trace shows as let out to a node is what the log of its sender holds for it, as far as it was let out.
 use Prim.Native.Nat.{ℕ}
 use mathlib.Core.Path.{_≡_}
-use mathlib.Core.Logic.{inl, inr}
 use mathlib.Core.List.{List, [], _∷_, _++_, append-nil}
 use Rattle.theory.specs.Update.{upd}
 use Rattle.theory.proofs.Update.{upd-all}
@@ -12,7 +11,7 @@ use Rattle.eqaso.specs.Trace.{Seen, Trace, handler, letOutTo}
 use Rattle.eqaso.specs.Order.{OneTo}
 use Rattle.eqaso.proofs.Cert.{Logs}
 use Rattle.eqaso.proofs.Meant.{Meant}
-use Rattle.eqaso.proofs.Between.{Between, nothing-between, between-more, between-in, between-of}
+use Rattle.eqaso.proofs.Between.{Between, nothing-between, between-more, between-in}
 use Rattle.eqaso.proofs.Front.{front, front-is}
 use Rattle.eqaso.proofs.Snoc.{passed-own, passed-other, passed-none, letOutTo-snoc}
 
@@ -48,6 +47,3 @@ told-act {n} {tr} {gone} o x new e t = record {
 module _ {n : ℕ} {tr : Trace} {gone : ℕ → Logs} (t : Told n tr gone) where
   pub told-in : (a b : ℕ) (m : Message) → OneTo n b → m ∈ letOutTo tr a b → (m ∈ gone a b) × Meant b m
   told-in a b m h i = between-in (t .lets a b h) m i
-
-  pub told-of : (a b : ℕ) (m : Message) → OneTo n b → m ∈ gone a b → Meant b m → m ∈ letOutTo tr a b
-  told-of a b m h i for = elim (between-of (t .lets a b h) m i for) [ inl j ↦ elim j [ ] | inr j ↦ j ]

@@ -81,10 +81,13 @@ ClosedBy tr t nothing = Unit {0}
 ClosedBy tr t (updating c p) = stopped tr c ≡ false → Finished (fate tr t)
 ClosedBy tr t (scanning c) = stopped tr c ≡ false → Finished (fate tr t)
 
+-- No message waits for a standing node.
+abbrev pub NothingWaits : ℕ → Trace → Type 0
+NothingWaits n tr = (a b : ℕ) → OneTo n a → OneTo n b → stopped tr b ≡ false → waits tr a b ≡ []
+
 -- Where no message waits for a standing node, no operation is open.
 abbrev pub Quiet : ℕ → Trace → Type 0
-Quiet n tr = ((a b : ℕ) → OneTo n a → OneTo n b → stopped tr b ≡ false → waits tr a b ≡ [])
-    → (t : ℕ) → ClosedBy tr t (begun tr t)
+Quiet n tr = NothingWaits n tr → (t : ℕ) → ClosedBy tr t (begun tr t)
 
 -- Demand 3: of every list of events, with any numbers.
 abbrev pub Demand3 : (n f : ℕ) → Type 0

@@ -7,8 +7,8 @@ use lib.Dec.{eqb}
 use lib.ListN.{length}
 use Rattle.octets.specs.Answer.{Answer, result, refused}
 use Rattle.octets.specs.Test.{pick}
-use Rattle.octets.specs.Bytes.{num, be, put}
-use Rattle.view.specs.Report.{reportBytes, reportOf}
+use Rattle.octets.specs.Bytes.{be, put}
+use Rattle.view.specs.Report.{reportNumber, reportOf}
 use Rattle.view.specs.View.{viewBytes}
 use Rattle.view.specs.declared.Report.{Report}
 use Rattle.view.specs.declared.View.{View}
@@ -25,12 +25,9 @@ use Rattle.cluster.specs.declared.Extent.{Extent}
 use Rattle.cluster.specs.declared.Extent.the-variants.{Whole, Cut}
 use Rattle.cluster.specs.Event.{Result}
 
--- A report as one number: that of its eight bytes.
+-- The report whose number is x.
 abbrev pub reportFrom : ℕ → Report
 reportFrom x = reportOf (be 8 x)
-
-abbrev pub reportNumber : Report → ℕ
-reportNumber p = num (reportBytes p)
 
 -- How much an event lets out: all, or the first m entries of a cut.
 abbrev pub extentOf : (cut : Bool) (m : ℕ) → Extent

@@ -1,5 +1,5 @@
 -- The legal lines once more, as the grammar that document 01 writes down: which bytes are a line, and what they say.
--- proofs/Reading shows that `eventOf` reads these lines so, and answers Bad for all others.
+-- proofs/Reading shows that `eventOf` reads these lines so, and proofs/OnlyLegal that it answers Bad for all others.
 use Prim.Native.Nat.{ℕ}
 use mathlib.Core.Path.{_≡_}
 use mathlib.Core.Bool.{true}

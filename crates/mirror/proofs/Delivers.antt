@@ -33,7 +33,7 @@ use Rattle.eqaso.specs.Message as M
 use Rattle.eqaso.specs.Algorithm as A
 use Rattle.eqaso.specs.Cluster as K
 use Rattle.eqaso.specs.Order.{OneTo}
-use Rattle.eqaso.proofs.Sets.{and-both}
+use Rattle.eqaso.proofs.Sets.{and-both, not-true}
 use Rattle.eqaso.specs.Bounded.{BoundedNode}
 use Rattle.eqaso.specs.Bounded.{Expected}
 use Rattle.refine.specs.Meaning.{messageOf}
@@ -47,7 +47,7 @@ use Rattle.mirror.proofs.Shows.{Gone, shows-take}
 use Rattle.mirror.proofs.Settle.{same-refusal, tells-true, settles}
 use Rattle.mirror.proofs.Checks.{sized, is-usable, is-checked}
 use Rattle.mirror.proofs.Safety.{message-safe}
-use Rattle.mirror.proofs.Events.{same-isNode, one-to, stands-not, same-demand, stands-tells, cut-tells, few-then}
+use Rattle.mirror.proofs.Events.{same-isNode, one-to, same-demand, stands-tells, cut-tells, few-then}
 
 abbrev pub IsResult : {X : Type 0} → Answer X → Type 0
 IsResult (result x) = Unit {0}
@@ -147,7 +147,7 @@ module _ {n : ℕ} (low : 1 ≤ n) (small : n ≤ 16) {b : List ℕ} {σ : K.Clu
         let from : OneTo n a = one-to n a f in
         let at : OneTo n c = one-to n c g in
         same-demand low small mirror (K.holds (K.stands σ c)) (stands-tells low small mirror c at) 4 λ up.
-        go from at (stands-not (σ .stopped c) up) (σ .channel a c) refl
+        go from at (not-true (σ .stopped c) up) (σ .channel a c) refl
       where
         go : OneTo n a → OneTo n c → σ .stopped c ≡ false → (l : List M.Message) → σ .channel a c ≡ l
             → SameResult n (E.demand (ltb 0 (countOf (channel b a c))) 8 b

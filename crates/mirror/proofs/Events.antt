@@ -9,6 +9,7 @@ use mathlib.Core.List.{List}
 use lib.Dec.{leb, ltb}
 use borrow.Author.Tests.{le-leb, lt-leb}
 use Rattle.theory.specs.Count as C
+use Rattle.theory.proofs.Count.{count-one}
 use Rattle.octets.specs.Test.{both}
 use Rattle.table.specs.Loop.{count}
 use Rattle.table.specs.Quorum.{faults}
@@ -31,7 +32,6 @@ use Rattle.refine.proofs.Steps.{begin-follows, same-idle, not-full, is-full}
 use Rattle.mirror.specs.Mirrors.{extentOf, Mirrors}
 use Rattle.mirror.specs.SameResult.{SameResult}
 use Rattle.mirror.proofs.LetOut.{leb-decides, both-and}
-use Rattle.mirror.proofs.Fits.{count-one}
 use Rattle.mirror.proofs.Settle.{same-refusal, tells-true, settles}
 use Rattle.mirror.proofs.Checks.{sized, same-stopped, is-usable, is-checked}
 use Rattle.mirror.proofs.Safety.{begin-safe}
@@ -51,10 +51,6 @@ same-isNode n c = ap₂ both (lt-decides 0 c) (leb-decides c n) ∙ both-and (de
 pub one-to : (n c : ℕ) → K.isNode n c ≡ true → OneTo n c
 one-to n c e = let (x, y) = and-both (decide (decLt 0 c)) (decide (decLe c n)) e in
     (decide-iff (decLt 0 c) .0 x, decide-iff (decLe c n) .0 y)
-
-pub stands-not : (y : Bool) → not y ≡ true → y ≡ false
-stands-not true e = sym e
-stands-not false e = refl
 
 module _ {n : ℕ} (low : 1 ≤ n) (small : n ≤ 16) {b : List ℕ} {σ : K.Cluster} (mirror : Mirrors n b σ) where
   -- A refusal is given on the same condition.

@@ -1,17 +1,12 @@
 -- The entries of a step stand for messages of the layout, each to one of the nodes.
 use Prim.Native.Nat.{ℕ, zero, suc, _≤_}
 use native.Mathlib.Omega.{arith}
-use native.Mathlib.Decide.{ℕ-discrete}
-use mathlib.Core.Path.{_≡_, refl, sym, _∙_, subst}
+use mathlib.Core.Path.{_≡_, refl, sym, subst}
 use mathlib.Core.Logic.{inl, inr}
 use mathlib.Core.Bool.{Bool, true, false}
 use mathlib.Core.List.{List, [], _∷_, _++_, List·Memᴰ·head, List·Memᴰ·tail, List·Memᴰ·append-cases}
 use lib.ListN.{take}
-use Rattle.theory.specs.Count.{count}
-use Rattle.theory.proofs.Count.{count-mono}
 use Rattle.theory.specs.Log.{_∈_}
-use Rattle.theory.specs.Update.{upd}
-use Rattle.theory.proofs.Update.{upd-same, upd-other}
 use Rattle.octets.specs.Test.{pick}
 use Rattle.table.specs.Loop.{tab}
 use Rattle.view.specs.View.{viewBytes}
@@ -60,15 +55,3 @@ module _ (n : ℕ) where
     fits-entries (m ∷ l) ok = fits-append (addressed n a v m) (entriesOf n a v l)
         (fits-addressed m (ok m (List·Memᴰ·head refl)))
         (fits-entries l (λ k x. ok k (List·Memᴰ·tail x)))
-
--- One node more that has stopped.
-pub count-one : (s : ℕ → Bool) (c n : ℕ) → count (upd s c true) n ≤ suc (count s n)
-unfolding count
-count-one s c zero = omega arith
-count-one s c (suc n) = elim (ℕ-discrete (suc n) c) [
-  | yes e ↦
-      let same : count (upd s c true) n ≤ count s n = count-mono (upd s c true) s n
-      (λ k lo hi h. sym (upd-other s c true k (λ z. absurd (omega arith))) ∙ h) in
-      rw (← e, upd-same s (suc n) true) (rw e (omega arith))
-  | no e ↦ rw (upd-other s c true (suc n) e) (omega (arith, count-one s c n))
-]

@@ -1,27 +1,20 @@
 -- Fresh bytes mirror the cluster at its start.
-use Prim.Native.Nat.{ℕ, zero, suc, _+_, _-_, _<_, _≤_}
+use Prim.Native.Nat.{ℕ, zero, suc, _+_, _<_, _≤_}
 use native.Mathlib.Omega.{arith}
 use native.Mathlib.Decide.{ℕ-discrete}
 use mathlib.Core.Path.{_≡_, refl, sym, ap, _∙_, subst}
-use mathlib.Core.Bool.{true, false}
+use mathlib.Core.Bool.{false}
 use mathlib.Core.List.{List, []}
-use lib.Dec.{leb, ltb}
+use lib.Dec.{ltb}
 use lib.ListN.{length, getD, set, replicate, length-set, length-replicate}
 use lib.Seq.{getD-set-same, getD-set-other}
-use borrow.Author.Tests.{le-leb}
 use Rattle.theory.specs.Count as C
 use Rattle.octets.specs.Bytes.{part}
 use Rattle.octets.specs.Loop.{upTo, tab}
 use Rattle.octets.proofs.Put.{getD-part}
 use Rattle.octets.proofs.Table.{tab-none}
-use Rattle.octets.proofs.Test.{both-true}
-use Rattle.view.specs.Size.{limit}
-use Rattle.table.specs.Loop.{all}
-use Rattle.table.specs.Table.{at, heardWithin}
-use Rattle.table.proofs.Entries.{within-absent}
-use Rattle.table.proofs.Laws.{all-all}
 use Rattle.record.specs.Record.{blank}
-use Rattle.record.specs.Usable.{usable, numbersOk, tablesOk}
+use Rattle.record.proofs.Fresh.{fresh-usable}
 use Rattle.region.specs.Channel.{slotSize, channelSize, countOf, oldest, slotAt, waiting}
 use Rattle.block.specs.Block.{blockSize, channelPlace, hasStopped, channelIn, keep}
 use Rattle.layout.specs.Layout.{clusterSize, blockPlace, stated, block, onBlock}
@@ -38,18 +31,6 @@ getD-zero : (n i : ℕ) → _≡_ {A = ℕ} (getD (replicate n 0) i 0) 0
 getD-zero zero i = refl
 getD-zero (suc n) zero = refl
 getD-zero (suc n) (suc i) = getD-zero n i
-
--- A fresh record is usable.
-pub blank-usable : (n c : ℕ) → n ≤ 16 → OneTo n c → usable (blank n c) ≡ true
-unfolding usable numbersOk tablesOk heardWithin
-blank-usable n c small (lo, hi) =
-    both-true (both-true (both-true (le-leb 1 n (omega arith)) (le-leb n 16 small))
-    (both-true (le-leb 1 c lo) (le-leb c n hi)))
-    (both-true refl (both-true (both-true heard (within-absent limit))
-    (both-true (both-true (within-absent 0) (within-absent limit)) (within-absent 0))))
-  where
-    heard : all 256 (λ k. leb (at (replicate 256 0) k) limit) ≡ true
-    heard = all-all 256 (λ k. leb (at (replicate 256 0) k) limit) (λ k l h. rw (getD-zero 256 (k - 1)) refl)
 
 -- Nothing waits on a channel with count 0.
 waiting-none : {X : Type 0} (g : List ℕ → X) (t : List ℕ) → countOf t ≡ 0 → waiting g t ≡ []
@@ -116,7 +97,7 @@ module _ (n : ℕ) (low : 1 ≤ n) (small : n ≤ 16) where
     unfolding written
     block-made = let z = made .zeros (m + 1) here (omega arith) in
         says-new (block b (m + 1)) (z .size) (z .stop) (z .waits) (follows-fresh n (m + 1))
-        (blank-usable n (m + 1) small here)
+        (fresh-usable n (m + 1) low small (here .0) (here .1))
 
     made-more : Made (suc m) (onBlock (m + 1) written b)
     made-more = record {

@@ -6,6 +6,7 @@ use mathlib.Core.Bool.{Bool, true, false, cond}
 use mathlib.Core.List.{List, []}
 use lib.ListN.{length}
 use Rattle.theory.specs.Count as C
+use Rattle.theory.proofs.Count.{count-one}
 use Rattle.theory.specs.Update.{upd}
 use Rattle.theory.proofs.Update.{upd-self}
 use Rattle.table.specs.Quorum.{faults}
@@ -19,7 +20,6 @@ use Rattle.eqaso.specs.Order.{OneTo}
 use Rattle.mirror.specs.Mirrors.{Shows, Mirrors}
 use Rattle.mirror.proofs.Channels.{channel-stopped, channels-none, emptied, emptied-gone, channels-emptied}
 use Rattle.mirror.proofs.Shows.{shows-halt}
-use Rattle.mirror.proofs.Fits.{count-one}
 
 pub stop-mirrors : {n : ℕ} → n ≤ 16 → {b : List ℕ} {σ : K.Cluster} → Mirrors n b σ → (c : ℕ) → OneTo n c
     → C.count (σ .stopped) n < faults n

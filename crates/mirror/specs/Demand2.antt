@@ -1,6 +1,5 @@
 -- Demand 2 of the code. Fresh is accepted for lent bytes b of the length for n, and then, for any list of events,
--- refused
--- ones among them, the run on bytes is the run of the algorithm over sets.
+-- refused ones among them, the run on bytes is the run of the algorithm over sets.
 use Prim.Native.Nat.{ℕ}
 use mathlib.Core.Path.{_≡_}
 use mathlib.Core.Bool.{true, false}

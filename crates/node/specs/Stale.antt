@@ -1,4 +1,5 @@
--- Refusal 9 of a message: a value that its sender or its writer cannot send now.
+-- Refusal 9 of a message: a value whose tag is below the last heard from that sender for that writer, or above the
+-- writer's last while that last is above maxtag.
 -- Assumes nothing.
 use Prim.Native.Nat.{ℕ}
 use mathlib.Core.Bool.{Bool, true, false}

@@ -7,8 +7,8 @@ use mathlib.Core.List.{List, [], _∷_, _++_}
 use native.Mathlib.Nat.{le-of-suc-le-suc, eq-or-lt-of-le, not-suc-le-zero}
 use native.Mathlib.Numerals.{add-one}
 use native.Mathlib.Omega.{arith}
-use Rattle.octets.specs.Test.{pick, both}
-use Rattle.octets.specs.Loop.{upTo, allTo, countTo, sumTo, each}
+use Rattle.octets.specs.Test.{both}
+use Rattle.octets.specs.Loop.{upTo, allTo, sumTo, each}
 use Rattle.octets.proofs.Test.{both-left, both-right, both-true}
 
 -- k below n + 1 is n, or below n
@@ -69,31 +69,6 @@ pub allTo-ext : (k : ℕ) (p q : ℕ → Bool) → ((i : ℕ) → i < k → p i 
 unfolding allTo
 allTo-ext zero p q h = refl
 allTo-ext (suc k) p q h = ap₂ both (h k (omega arith)) (allTo-ext k p q (λ i l. h i (omega arith)))
-
--- ---- countTo
-
-pub countTo-none : (p : ℕ → Bool) → countTo 0 p ≡ 0
-unfolding countTo
-countTo-none p = refl
-
-pub countTo-more : (k : ℕ) (p : ℕ → Bool) → countTo (k + 1) p ≡ pick (p k) (countTo k p + 1) (countTo k p)
-unfolding countTo
-countTo-more k p = rw (add-one k)
-
-pub countTo-le : (k : ℕ) (p : ℕ → Bool) → countTo k p ≤ k
-unfolding countTo
-countTo-le zero p = omega arith
-countTo-le (suc k) p = step (p k) (countTo-le k p)
-  where
-    step : (t : Bool) → countTo k p ≤ k → pick t (countTo k p + 1) (countTo k p) ≤ suc k
-    step true h = omega arith
-    step false h = omega arith
-
-pub countTo-ext : (k : ℕ) (p q : ℕ → Bool) → ((i : ℕ) → i < k → p i ≡ q i) → countTo k p ≡ countTo k q
-unfolding countTo
-countTo-ext zero p q h = refl
-countTo-ext (suc k) p q h =
-    ap₂ (λ (t : Bool) (c : ℕ). pick t (c + 1) c) (h k (omega arith)) (countTo-ext k p q (λ i l. h i (omega arith)))
 
 -- ---- sumTo
 

@@ -119,16 +119,6 @@ part-other b at v i len h below above =
       | no l ↦ part-before b at v i len h (below (lt-of-not-le l))
     ]
 
--- a part inside what is put is that part of it
-pub part-within : (b : List ℕ) (at : ℕ) (v : List ℕ) (j len : ℕ) → at ≤ length b → j + len ≤ length v
-    → part (put b at v) (at + j) len ≡ part v j len
-unfolding put
-part-within b at v j len h l =
-    let e : length (take at b) + j ≡ at + j = simp length-take (omega arith) in
-    ap (λ (t : List ℕ). part t (at + j) len) (append-assoc (take at b) v (drop (at + length v) b))
-    ∙ part-right (take at b) (v ++ drop (at + length v) b) (at + j) j len e
-    ∙ part-left v (drop (at + length v) b) j len l
-
 pub part-same : (b : List ℕ) (at : ℕ) (v : List ℕ) (len : ℕ) → at ≤ length b → length v ≡ len
     → part (put b at v) at len ≡ v
 unfolding put
@@ -155,28 +145,12 @@ getD-other b at v i h above =
     byte-part (put b at v) i ∙ ap (λ (t : List ℕ). getD t 0 0) (part-other b at v i 1 h (λ l. omega arith) above)
     ∙ sym (byte-part b i)
 
-pub getD-within : (b : List ℕ) (at : ℕ) (v : List ℕ) (j : ℕ) → at ≤ length b → j < length v
-    → getD (put b at v) (at + j) 0 ≡ getD v j 0
-getD-within b at v j h l =
-    byte-part (put b at v) (at + j) ∙ ap (λ (t : List ℕ). getD t 0 0) (part-within b at v j 1 h (omega arith))
-    ∙ sym (byte-part v j)
-
 -- ---- puts
 
 pub put-nil : (b : List ℕ) (at : ℕ) → put b at [] ≡ b
 unfolding put
 put-nil b at =
     ap₂ (λ (t : List ℕ) (k : ℕ). t ++ drop k b) (append-nil (take at b)) (add-zero at) ∙ take-append-drop at b
-
--- the splice: what is put stands for as many bytes as it has
-pub put-splice : (x y z v : List ℕ) (at : ℕ) → length x ≡ at → length y ≡ length v → put (x ++ y ++ z) at v
-    ≡ x ++ v ++ z
-unfolding put
-put-splice x y z v at e f =
-    let l : length (x ++ y) ≡ at + length v = simp length-append (omega arith) in
-    ap₂ (λ (s t : List ℕ). s ++ v ++ t)
-    (ap (λ (t : List ℕ). take at t) (append-assoc x y z) ∙ take-at x (y ++ z) at e)
-    (drop-at (x ++ y) z (at + length v) l)
 
 -- two in a row are one
 pub put-after : (b : List ℕ) (at : ℕ) (u v : List ℕ) (k : ℕ) → at ≤ length b → at + length u ≡ k
@@ -195,21 +169,6 @@ put-after b at u v k h e =
 pub put-then : (b : List ℕ) (at : ℕ) (u v : List ℕ) (k : ℕ) {y z : List ℕ} → at ≤ length b → at + length u ≡ k
     → y ≡ put b at u → z ≡ put y k v → z ≡ put b at (u ++ v)
 put-then b at u v k h e p q = q ∙ ap (λ (t : List ℕ). put t k v) p ∙ put-after b at u v k h e
-
--- over the same place the later one stands
-pub put-again : (b : List ℕ) (at : ℕ) (u v : List ℕ) → at ≤ length b → length u ≡ length v
-    → put (put b at u) at v ≡ put b at v
-unfolding put
-put-again b at u v h e =
-    put-splice (take at b) u (drop (at + length u) b) v at (length-take-le at b h) e
-    ∙ ap (λ (k : ℕ). take at b ++ v ++ drop (at + k) b) e
-
--- what stands there already
-pub put-part : (b : List ℕ) (at len : ℕ) → at + len ≤ length b → put b at (part b at len) ≡ b
-unfolding put part
-put-part b at len h =
-    let l : length (take len (drop at b)) ≡ len = simp (length-take, length-drop) (omega arith) in
-    ap₂ (λ (t : List ℕ) (k : ℕ). t ++ drop (at + k) b) (sym (take-add at len b)) l ∙ take-append-drop (at + len) b
 
 -- all of it
 pub put-over : (b v : List ℕ) → length v ≡ length b → put b 0 v ≡ v

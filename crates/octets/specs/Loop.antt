@@ -1,9 +1,9 @@
--- What loops compute: a value changed for each number below k, tests of all or the count of those that hold, the list
--- of a rule's values, the runs of a rule one after the other, and a value changed for each element of a list.
+-- What loops compute: a value changed for each number below k, a test of all of them, the sum and the list of a rule's
+-- values, the runs of a rule one after the other, and a value changed for each element of a list.
 use Prim.Native.Nat.{ℕ, zero, suc, _+_}
 use mathlib.Core.Bool.{Bool, true}
 use mathlib.Core.List.{List, [], _∷_, _++_}
-use Rattle.octets.specs.Test.{pick, both}
+use Rattle.octets.specs.Test.{both}
 
 unfoldable pub upTo : {A : Type 0} → ℕ → (ℕ → A → A) → A → A
 upTo zero f a = a
@@ -12,10 +12,6 @@ upTo (suc k) f a = f k (upTo k f a)
 unfoldable pub allTo : ℕ → (ℕ → Bool) → Bool
 allTo zero p = true
 allTo (suc k) p = both (p k) (allTo k p)
-
-unfoldable pub countTo : ℕ → (ℕ → Bool) → ℕ
-countTo zero p = 0
-countTo (suc k) p = pick (p k) (countTo k p + 1) (countTo k p)
 
 unfoldable pub sumTo : ℕ → (ℕ → ℕ) → ℕ
 sumTo zero f = 0

@@ -124,7 +124,7 @@ pub fn put_word(b: &mut [u8], at: usize, x: u64)
 }
 
 // Fills t with the words of b, from a place on.
-pub fn get_words(b: &[u8], at: usize, t: &mut [u64])
+fn get_words(b: &[u8], at: usize, t: &mut [u64])
     requires { ⌜ at + 8 * length (now t) ≤ length (now b) ⌝ }
     ensures { λ _. ⌜ now (t .exit) ≡ words (length (now (t .entry))) (now (b .entry)) at ⌝ }
 {

@@ -38,6 +38,7 @@ use Rattle.halting.specs.Stop.{stop}
 use Rattle.eqaso.specs.Message.{absent}
 use Rattle.eqaso.specs.Trace as T
 use Rattle.eqaso.specs.Order.{OneTo, Finished}
+pub use Rattle.eqaso.specs.Order.{NothingWaits}
 use Rattle.mirror.specs.Run as R
 
 -- ---- n 0 and 17 refused; 1 and 16 taken
@@ -178,10 +179,6 @@ scanThen c ds = R.begin c Scan Whole ∷ map delivery ds
 abbrev pub AllWhole : List Delivery → Type 0
 AllWhole [] = Unit {0}
 AllWhole (d ∷ ds) = (d .extent ≡ Whole) × AllWhole ds
-
--- No message waits for a standing node.
-abbrev pub NothingWaits : ℕ → T.Trace → Type 0
-NothingWaits n tr = (a b : ℕ) → OneTo n a → OneTo n b → T.stopped tr b ≡ false → T.waits tr a b ≡ []
 
 -- The operation that began at index 0 is a scan that has finished, and its view is n times no report.
 pub record ShowsNone (n c : ℕ) (tr : T.Trace) : Type 0 where

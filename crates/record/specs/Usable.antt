@@ -77,6 +77,7 @@ isOpen (Borrowing k r) = true
 abbrev pub full : Node → Bool
 full c = ltb (limit - c .request) 5
 
--- 9: a value of writer w with tag t from sender s
+-- 9: a value of writer w from sender s whose tag t is below the last heard from that sender for that writer, or above
+-- the writer's last while that last is above maxtag
 abbrev pub stale : Node → ℕ → ℕ → ℕ → Bool
 stale c s w t = either (ltb t (heardOf (c .heard) s w)) (both (ltb (tagOf (c .last) w) t) (ltb (c .maxtag) (tagOf (c .last) w)))

@@ -2,8 +2,7 @@
 -- the source's, addressed, and a view has an entry for each node.
 use Prim.Native.Nat.{ℕ, zero, suc}
 use mathlib.Core.List.{List, map}
-use Rattle.octets.specs.Bytes.{num}
-use Rattle.view.specs.Report.{reportBytes}
+use Rattle.view.specs.Report.{reportNumber}
 use Rattle.view.specs.declared.Report.{Report}
 use Rattle.view.specs.declared.View.{View}
 use Rattle.wire.specs.declared.Message.{Message}
@@ -23,7 +22,7 @@ use Rattle.eqaso.specs.Message as M
 use Rattle.eqaso.specs.Algorithm as A
 
 abbrev pub code : Report → ℕ
-code p = num (reportBytes p)
+code p = reportNumber p
 
 -- What a view of the code has of writer w, and of all nodes 1 to n.
 abbrev pub entryOf : View → ℕ → M.Entry

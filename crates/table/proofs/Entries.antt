@@ -52,9 +52,6 @@ entry-up t u x p h e =
     both-true (le-leb x u (le-trans (leb-true x t (both-left (leb x t) (either (leb 1 x) (isNone p)) e)) h))
     (both-right (leb x t) (either (leb 1 x) (isNone p)) e)
 
-pub within-up : (t u : ℕ) (v : View) → t ≤ u → within t v ≡ true → within u v ≡ true
-within-up t u v h e = within-all u v (λ w l k. entry-up t u (tagOf v w) (reportOf v w) h (within-at t v w e l k))
-
 -- the tag of an entry of such a view
 pub within-tag : (t : ℕ) (v : View) (w : ℕ) → within t v ≡ true → 1 ≤ w → w ≤ 16 → tagOf v w ≤ t
 within-tag t v w e l k =

@@ -1,14 +1,13 @@
 -- Laws of the size of a set. Two sets that together have more than n members share one; so two quorums meet.
 use Prim.Native.Nat.{ℕ, zero, suc, _+_, _-_, _≤_, _<_}
 use native.Mathlib.Omega.{arith}
-use mathlib.Core.Path.{_≡_, refl, sym}
+use native.Mathlib.Decide.{ℕ-discrete}
+use mathlib.Core.Path.{_≡_, refl, sym, _∙_}
 use mathlib.Core.Logic.{_⊎_, inl, inr}
 use mathlib.Core.Bool.{Bool, true, false, not, true≢false, false≢true}
 use Rattle.theory.specs.Count.{bit, count, Common}
-
-pub count-suc : (p : ℕ → Bool) (n : ℕ) → count p (suc n) ≡ bit (p (suc n)) + count p n
-unfolding count
-count-suc p n = refl
+use Rattle.theory.specs.Update.{upd}
+use Rattle.theory.proofs.Update.{upd-same, upd-other}
 
 pub count-le : (p : ℕ → Bool) (n : ℕ) → count p n ≤ n
 unfolding count
@@ -36,6 +35,18 @@ count-mono p q (suc n) h =
     let here = bit-mono (p (suc n)) (q (suc n)) (h (suc n) (omega arith) (omega arith)) in
     let rest = count-mono p q n (λ k lo hi. h k lo (omega arith)) in
     omega arith
+
+-- One node more counts at most one more.
+pub count-one : (s : ℕ → Bool) (c n : ℕ) → count (upd s c true) n ≤ suc (count s n)
+unfolding count
+count-one s c zero = omega arith
+count-one s c (suc n) = elim (ℕ-discrete (suc n) c) [
+  | yes e ↦
+      let same : count (upd s c true) n ≤ count s n = count-mono (upd s c true) s n
+      (λ k lo hi h. sym (upd-other s c true k (λ z. absurd (omega arith))) ∙ h) in
+      rw (← e, upd-same s (suc n) true) (rw e (omega arith))
+  | no e ↦ rw (upd-other s c true (suc n) e) (omega (arith, count-one s c n))
+]
 
 pub count-none : (n : ℕ) → count (λ k. false) n ≡ 0
 unfolding count

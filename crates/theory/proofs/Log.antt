@@ -38,9 +38,6 @@ module _ {ℓ} {A : Type ℓ} where
   pub placed : {x : A} {p l : List A} → (x ∷ p) ⊑ l → x ∈ l
   placed q = mem-up q (List·Memᴰ·head refl)
 
-  pub nil-no : {x : A} {a : List A} → (x ∷ a) ⊑ [] → ⊥
-  nil-no p = elim p [ ]
-
   -- An earlier state of a log that has one message more: the new log itself, or an earlier state of the old one.
   pub cons-or : {x y : A} {a b : List A} → (x ∷ a) ⊑ (y ∷ b) → ((x ≡ y) × (a ≡ b)) ⊎ ((x ∷ a) ⊑ b)
   cons-or here = inl (refl, refl)

@@ -3,7 +3,7 @@ use Prim.Native.Nat.{ℕ, zero, suc, _+_, _*_, _<_, _≤_}
 use mathlib.Core.Path.{_≡_, refl, sym, ap, ap₂, _∙_}
 use mathlib.Core.Bool.{Bool, true, false}
 use mathlib.Core.List.{List, _++_}
-use native.Mathlib.Nat.{add-zero, le-trans}
+use native.Mathlib.Nat.{add-zero}
 use native.Mathlib.Omega.{arith}
 use Rattle.octets.specs.Loop.{join}
 use lib.ListN.{length, getD, take}
@@ -147,14 +147,6 @@ module _ (n top : ℕ) (b : List ℕ) (ok : viewOk n top b ≡ true) (i : ℕ) (
   ok-report h m e =
       zero-report (part b (16 * i + 8) 8) (part-bytes b (16 * i + 8) 8 h) (length-part b (16 * i + 8) 8 (omega arith))
       (beside-zero (tagAt b i) (reportWord b i) (both-right (leb (tagAt b i) top) beside entry-ok) e)
-
-pub ok-more : (n top top′ : ℕ) (b : List ℕ) → viewOk n top b ≡ true → top ≤ top′ → viewOk n top′ b ≡ true
-unfolding viewOk
-ok-more n top top′ b ok h =
-    allTo-all n (entryOkAt top′ b)
-    (λ i l. both-true (le-leb (tagAt b i) top′ (le-trans (ok-tag n top b ok i l) h))
-    (both-right (leb (tagAt b i) top) (pick (eqb (tagAt b i) 0) (eqb (reportWord b i) 0) true)
-    (allTo-at n (entryOkAt top b) i ok l)))
 
 pub ok-written : (n top : ℕ) (v : View) (rest : List ℕ) → ((i : ℕ) → i < n → getD (v .tags) i 0 ≤ top)
     → ((i : ℕ) → i < n → getD (v .tags) i 0 ≡ 0 → getD (v .reports) i noReport ≡ noReport)

@@ -23,6 +23,10 @@ isNone p = both (eqb (p .extensions) 0) (both (eqb (p .lines) 0) (both (eqb (p .
 abbrev pub reportBytes : Report → List ℕ
 reportBytes p = be 2 (p .extensions) ++ be 2 (p .lines) ++ be 2 (p .waiting) ++ be 2 (p .wakeups)
 
+-- a report as one number: that of its eight bytes
+abbrev pub reportNumber : Report → ℕ
+reportNumber p = num (reportBytes p)
+
 unfoldable pub reportOf : List ℕ → Report
 reportOf b =
     record {

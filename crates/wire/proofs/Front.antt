@@ -7,11 +7,11 @@ use lib.ListN.{length}
 use Rattle.octets.specs.Answer.{Answer, result, refused}
 use Rattle.octets.specs.Test.{pick, both}
 use Rattle.octets.specs.Bytes.{Bytes}
-use Rattle.octets.proofs.Test.{both-true}
+use Rattle.octets.proofs.Test.{both-right}
 use Rattle.view.specs.Size.{isSize}
 use Rattle.wire.specs.Layout.{encode, allowed, size}
 use Rattle.wire.specs.Codec.{said, viewAt, front}
-use Rattle.wire.specs.Shape.{shape, shaped}
+use Rattle.wire.specs.Shape.{shape}
 use Rattle.wire.specs.declared.Message.{Message}
 use Rattle.wire.proofs.Numbers.{length-encode}
 use Rattle.wire.proofs.Shape.{shape-is}
@@ -33,6 +33,11 @@ pub first-passed : {A : Type 0} (t : Bool) (a : Answer A) (c : ℕ) (x : A) → 
 first-passed true a c x e = (refl, e)
 first-passed false a c x e = (cc, cc)
 
+-- a choice takes what it is shown to take
+picked : {A : Type 0} (t : Bool) (x y z : A) → (t ≡ true → x ≡ y) → pick t x z ≡ pick t y z
+picked true x y z f = f refl
+picked false x y z f = refl
+
 module _ (n : ℕ) (b : List ℕ) (bytes : Bytes b) (n-ok : isSize n ≡ true) where
   front-is : front n b
       ≡ pick (both (shape n b) (allowed n (said b) (viewAt n b)))
@@ -43,34 +48,14 @@ module _ (n : ℕ) (b : List ℕ) (bytes : Bytes b) (n-ok : isSize n ≡ true) w
       (ap (λ (t : Bool). pick t (result (said b, length (encode (said b) (viewAt n b)))) (refused 7))
       (shape-is n b bytes))
 
-  pub front-got : (m : Message) → result m ≡ shaped n b → allowed n m (viewAt n b) ≡ true → front n b ≡ result
-      (m, size n m)
-  front-got m e a =
-      let p = chosen (shape n b) m (said b) 7 e in
-      let s : allowed n (said b) (viewAt n b) ≡ true = ap (λ (x : Message). allowed n x (viewAt n b)) (sym (p .1))
-      ∙ a in
+  pub front-judged : front n b
+      ≡ pick (both (shape n b) (allowed n (said b) (viewAt n b))) (result (said b, size n (said b))) (refused 7)
+  front-judged =
       front-is
-      ∙ ap (λ (t : Bool). pick t (result (said b, length (encode (said b) (viewAt n b)))) (refused 7))
-      (both-true (p .0) s)
-      ∙ ap₂ (λ (x : Message) (k : ℕ). result (x, k)) (sym (p .1))
-      (length-encode n (said b) (viewAt n b) s ∙ ap (λ (x : Message). size n x) (sym (p .1)))
-
-  pub front-bad : (m : Message) → result m ≡ shaped n b → allowed n m (viewAt n b) ≡ false → front n b ≡ refused 7
-  front-bad m e a =
-      let p = chosen (shape n b) m (said b) 7 e in
-      let s : allowed n (said b) (viewAt n b) ≡ false = ap (λ (x : Message). allowed n x (viewAt n b)) (sym (p .1))
-      ∙ a in
-      front-is
-      ∙ ap₂ (λ (t u : Bool). pick (both t u) (result (said b, length (encode (said b) (viewAt n b)))) (refused 7))
-      (p .0) s
-
-  pub front-none : (c : ℕ) → refused c ≡ shaped n b → front n b ≡ refused c
-  front-none c e =
-      let p = not-chosen (shape n b) (said b) c 7 e in
-      front-is
-      ∙ ap (λ (t : Bool). pick (both t (allowed n (said b) (viewAt n b)))
-      (result (said b, length (encode (said b) (viewAt n b)))) (refused 7)) (p .0)
-      ∙ ap (λ (k : ℕ). refused k) (sym (p .1))
+      ∙ picked (both (shape n b) (allowed n (said b) (viewAt n b)))
+      (result (said b, length (encode (said b) (viewAt n b)))) (result (said b, size n (said b))) (refused 7)
+      (λ h. ap (λ (k : ℕ). result (said b, k))
+      (length-encode n (said b) (viewAt n b) (both-right (shape n b) (allowed n (said b) (viewAt n b)) h)))
 
 pub front-size : (n : ℕ) (b : List ℕ) → isSize n ≡ false → front n b ≡ refused 1
 unfolding front

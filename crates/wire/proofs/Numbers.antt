@@ -39,14 +39,3 @@ length-encode n (WriteAnswer r t) v h = refl
 length-encode n (Echo t) v h = refl
 length-encode n (Value t w p) v h = refl
 length-encode n (Good t) v h = let e : length v ≡ 16 * n = view-length n t v h in omega arith
-
--- no message is longer than a good one for sixteen nodes
-pub size-bound : (n : ℕ) (m : Message) → n ≤ 16 → size n m ≤ 274
-unfolding size
-size-bound n (Read r) l = omega arith
-size-bound n (ReadAnswer r t) l = omega arith
-size-bound n (Write r t) l = omega arith
-size-bound n (WriteAnswer r t) l = omega arith
-size-bound n (Echo t) l = omega arith
-size-bound n (Value t w p) l = omega arith
-size-bound n (Good t) l = omega arith

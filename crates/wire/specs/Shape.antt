@@ -5,12 +5,9 @@ use mathlib.Core.Bool.{Bool, false}
 use mathlib.Core.List.{List, _∷_}
 use lib.ListN.{length, getD}
 use lib.Dec.{leb, eqb}
-use Rattle.octets.specs.Answer.{Answer, result, refused}
 use Rattle.octets.specs.Test.{pick, both}
 use Rattle.octets.specs.Bytes.{be, part, same}
 use Rattle.view.specs.Size.{entrySize}
-use Rattle.wire.specs.Codec.{said}
-use Rattle.wire.specs.declared.Message.{Message}
 
 -- mark and length of a field stand at a place
 unfoldable pub headAt : List ℕ → ℕ → ℕ → ℕ → Bool
@@ -40,10 +37,3 @@ shapeAs k n b =
 
 unfoldable pub shape : ℕ → List ℕ → Bool
 shape n b = both (leb 15 (length b)) (both (headAt b 0 1 1) (shapeAs (getD b 3 0) n b))
-
--- the message of that shape, its numbers not yet judged
-abbrev pub shapedAs : ℕ → List ℕ → Answer Message
-shapedAs n b = pick (shapeAs (getD b 3 0) n b) (result (said b)) (refused 7)
-
-abbrev pub shaped : ℕ → List ℕ → Answer Message
-shaped n b = pick (shape n b) (result (said b)) (refused 7)

@@ -10,9 +10,12 @@ use view::Report;
 ghost use mathlib.Core.Path.{_≡_};
 ghost use Prim.Native.Nat.{_≤_};
 ghost use lib.ListN.{length};
+ghost use lib.Dec.{leb};
+ghost use Rattle.octets.specs.Test.{both};
 ghost use Rattle.view.specs.Size.{isSize};
-ghost use Rattle.wire.specs.Layout.{encode, allowed, size};
+ghost use Rattle.wire.specs.Layout.{encode, isRequest, isTag, allowed};
 ghost use Rattle.wire.specs.Codec.{front, decode, viewPart, answer, after};
+ghost use Rattle.wire.specs.declared.Message.the-variants.{Good};
 ghost use Rattle.wire.specs.Outcome.{parsed, found, written};
 
 // The bytes of each kind of message; a good message has a view after its head.
@@ -84,55 +87,34 @@ pub fn is_size(n: usize) -> bool
     and(1 <= n, n <= NODES)
 }
 
-// The length of a message.
-fn size_of(n: usize, m: Message) -> usize
-    requires { ⌜ n ≤ 16 ⌝ }
-    ensures { λ r. ⌜ r ≡ size n m ⌝ }
+// Whether the layout allows the numbers of a message: of one with a request, of one with a request and a tag, of a
+// value, and of a good one with the view beside it.
+pub(crate) fn is_request(x: u64) -> bool
+    ensures { λ r. ⌜ r ≡ isRequest x ⌝ }
 {
-    match m {
-        Message::Read { request: _ } => READ,
-        Message::ReadAnswer { request: _, tag: _ } => READ_ANSWER,
-        Message::Write { request: _, tag: _ } => WRITE,
-        Message::WriteAnswer { request: _, tag: _ } => WRITE_ANSWER,
-        Message::Echo { tag: _ } => ECHO,
-        Message::Value {
-            tag: _,
-            writer: _,
-            report: _,
-        } => VALUE,
-        Message::Good { tag: _ } => GOOD_HEAD + ENTRY * n,
-    }
+    and(1 <= x, x <= LIMIT)
 }
 
-// Whether the layout allows a message's numbers and the view beside it.
-fn is_allowed(n: usize, m: Message, view: &[u8]) -> bool
-    requires { ⌜ n ≤ 16 ⌝ }
-    ensures { λ r. ⌜ r ≡ allowed n m (now (view .entry)) ⌝ }
+pub(crate) fn is_pair(request: u64, tag: u64) -> bool
+    ensures { λ r. ⌜ r ≡ both (isRequest request) (isTag tag) ⌝ }
 {
-    match m {
-        Message::Read { request } => and(1 <= request, request <= LIMIT),
-        Message::ReadAnswer { request, tag } => and(
-            and(1 <= request, request <= LIMIT),
-            tag <= LIMIT,
-        ),
-        Message::Write { request, tag } => and(and(1 <= request, request <= LIMIT), tag <= LIMIT),
-        Message::WriteAnswer { request, tag } => and(
-            and(1 <= request, request <= LIMIT),
-            tag <= LIMIT,
-        ),
-        Message::Echo { tag } => and(1 <= tag, tag <= LIMIT),
-        Message::Value {
-            tag,
-            writer,
-            report: _,
-        } => { and(and(1 <= tag, tag <= LIMIT), and(1 <= writer, writer <= n)) }
-        Message::Good { tag } => {
-            if view.len() == ENTRY * n {
-                and(tag <= LIMIT, view::view_ok(n, tag, view))
-            } else {
-                false
-            }
-        }
+    and(is_request(request), tag <= LIMIT)
+}
+
+pub(crate) fn is_sent(n: usize, tag: u64, writer: usize) -> bool
+    ensures { λ r. ⌜ r ≡ both (isRequest tag) (both (leb 1 writer) (leb writer n)) ⌝ }
+{
+    and(is_request(tag), and(1 <= writer, writer <= n))
+}
+
+pub(crate) fn is_held(n: usize, tag: u64, view: &[u8]) -> bool
+    requires { ⌜ n ≤ 16 ⌝ }
+    ensures { λ r. ⌜ r ≡ allowed n (Good tag) (now (view .entry)) ⌝ }
+{
+    if view.len() == ENTRY * n {
+        and(tag <= LIMIT, view::view_ok(n, tag, view))
+    } else {
+        false
     }
 }
 
@@ -141,16 +123,7 @@ pub fn read_prefix(n: usize, b: &[u8]) -> Found
     ensures { λ r. ⌜ found r ≡ front n (now (b .entry)) ⌝ }
 {
     if is_size(n) {
-        match heads::of_shape(n, b) {
-            Parsed::Got(m) => {
-                if is_allowed(n, m, heads::view_at(n, b)) {
-                    Found::At(m, size_of(n, m))
-                } else {
-                    Found::Refused(7)
-                }
-            }
-            Parsed::Refused(c) => Found::Refused(c),
-        }
+        heads::at_front(n, b)
     } else {
         Found::Refused(1)
     }
@@ -195,16 +168,60 @@ pub fn write(n: usize, m: Message, view: &[u8], out: &mut [u8]) -> Written
         × (now (out .exit) ≡ after (written r) (encode m (now (view .entry))) (now (out .entry))) ⌝ }
 {
     if is_size(n) {
-        if is_allowed(n, m, view) {
-            let size = size_of(n, m);
-            if size <= out.len() {
-                puts::put_message(n, m, view, out);
-                Written::Length(size)
-            } else {
-                Written::Refused(12)
+        match m {
+            Message::Read { request } => {
+                if is_request(request) {
+                    puts::one(out, 1, 2, request)
+                } else {
+                    Written::Refused(7)
+                }
             }
-        } else {
-            Written::Refused(7)
+            Message::ReadAnswer { request, tag } => {
+                if is_pair(request, tag) {
+                    puts::two(out, 2, request, tag)
+                } else {
+                    Written::Refused(7)
+                }
+            }
+            Message::Write { request, tag } => {
+                if is_pair(request, tag) {
+                    puts::two(out, 3, request, tag)
+                } else {
+                    Written::Refused(7)
+                }
+            }
+            Message::WriteAnswer { request, tag } => {
+                if is_pair(request, tag) {
+                    puts::two(out, 4, request, tag)
+                } else {
+                    Written::Refused(7)
+                }
+            }
+            Message::Echo { tag } => {
+                if is_request(tag) {
+                    puts::one(out, 5, 3, tag)
+                } else {
+                    Written::Refused(7)
+                }
+            }
+            Message::Value {
+                tag,
+                writer,
+                report,
+            } => {
+                if is_sent(n, tag, writer) {
+                    puts::value(out, tag, writer as u8, report)
+                } else {
+                    Written::Refused(7)
+                }
+            }
+            Message::Good { tag } => {
+                if is_held(n, tag, view) {
+                    puts::good(out, tag, view)
+                } else {
+                    Written::Refused(7)
+                }
+            }
         }
     } else {
         Written::Refused(1)

@@ -1,100 +1,184 @@
 -- `wire::write` meets its contract.
 use borrow.Author.Needs.{needs}
 use mathlib.Core.Path.{_≡_, refl, sym, _∙_}
-use borrow.Author.Tests.{le-leb, lt-leb}
-use native.Mathlib.Omega.{arith}
+use Prim.Native.Nat.{_*_, _≤_}
 use lib.ListN.{length}
-use Rattle.wire.specs.Layout.{encode}
+use native.Mathlib.Omega.{arith}
+use Rattle.wire.specs.Layout.{encode, allowed}
 use Rattle.wire.specs.Codec.{answer}
-use Rattle.wire.proofs.Numbers.{size-most, length-encode}
+use Rattle.wire.proofs.Numbers.{size-most, writer-most, view-length}
 use Rattle.wire.proofs.write.Statement.{statement}
 use Rattle.wire.proofs.write.Tie as tie
 
-is-allowed-requires : tie.Need-is-allowed-requires
-is-allowed-requires c κs = size-most (c .before .before .before .before .args .n)
-    (sym (c .before .is-size .ensures) ∙ c .if1 .taken)
+cast-value : tie.Need-cast-value
+unfolding allowed
+cast-value c =
+    let a = c .before .before .before .before .before .before .before .before .before .before .args in
+    let g = c .before .before .before .before .m6 .given .0 in
+    let w : g .1 .0 ≤ a .n = writer-most (a .n) (g .0) (g .1 .0) (g .1 .1 .0) (a .view .now)
+    (sym (c .before .before .is-sent .ensures) ∙ c .before .if7 .taken) in
+    let l : a .n ≤ 16 = size-most (c .before .before .before .before .before .before .before .before .before .before .args .n) (sym (c .before .before .before .before .before .before .before .is-size .ensures) ∙ c .before .before .before .before .before .before .if1 .taken) in
+    omega arith
 
-size-of-requires : tie.Need-size-of-requires
-size-of-requires c κs = size-most (c .before .before .before .before .before .before .args .n)
-    (sym (c .before .before .before .is-size .ensures) ∙ c .before .before .if1 .taken)
+is-held-requires : tie.Need-is-held-requires
+is-held-requires c κs = size-most (c .before .before .before .before .before .before .before .args .n) (sym (c .before .before .before .before .is-size .ensures) ∙ c .before .before .before .if1 .taken)
 
-put-message-requires : tie.Need-put-message-requires
-put-message-requires c κs =
-    let a = c .before .before .before .before .before .before .before .before .before .args in
-    let k : c .before .before .size-of .result ≡ length (encode (a .m) (a .view .now)) =
-    c .before .before .size-of .ensures ∙ sym (length-encode (a .n) (a .m) (a .view .now)
-    (sym (c .before .before .before .before .is-allowed .ensures) ∙ c .before .before .before .if2 .taken)) in (
-      size-most (c .before .before .before .before .before .before .before .before .before .args .n)
-          (sym (c .before .before .before .before .before .before .is-size .ensures)
-          ∙ c .before .before .before .before .before .if1 .taken),
-      sym
-          (c .before .before .before .before .is-allowed .ensures) ∙ c .before .before .before .if2 .taken,
-      omega arith,
-    )
+good-requires : tie.Need-good-requires
+good-requires c κs =
+    let a = c .before .before .before .before .before .before .before .before .before .before .args in
+    let e : length (a .view .now) ≡ 16 * a .n = view-length (a .n) (c .before .before .before .before .m7 .given .0 .0) (a .view .now)
+    (sym (c .before .before .is-held .ensures) ∙ c .before .if8 .taken) in
+    let l : a .n ≤ 16 = size-most (c .before .before .before .before .before .before .before .before .before .before .args .n) (sym (c .before .before .before .before .before .before .before .is-size .ensures) ∙ c .before .before .before .before .before .before .if1 .taken) in
+    omega arith
 
 returns : tie.Need-returns
-unfolding answer
-returns c =
-    let a = c .before .before .before .before .before .before .before .before .before .before .before .before .args in
-    let k : c .before .before .before .before .before .size-of .result ≡ length (encode (a .m) (a .view .now)) =
-    c .before .before .before .before .before .size-of .ensures ∙ sym
-    (length-encode (a .n) (a .m) (a .view .now) (sym (c .before .before .before .before .before .before .before
-    .is-allowed .ensures) ∙ c .before .before .before .before .before .before .if2 .taken)) in (
-      simp (
-        sym (c .before .before .before .before .before .before .before .before .before .is-size .ensures)
-            ∙ c .before .before .before .before .before .before .before .before .if1 .taken,
-        sym
-            (c .before .before .before .before .before .before .before .is-allowed .ensures)
-            ∙ c .before .before .before .before .before .before .if2 .taken,
-        le-leb _ _
-            (rw k at (c .before .before .before .before .if3 .taken)),
-        k,
-      ),
-      c .before .before .put-message .ensures,
-    )
+unfolding answer encode allowed
+returns c = rw (c .before .before .before .before .before .before .before .m .given .1)
+    (simp (sym (c .before .before .before .before .before .before .before .before .before .before .is-size .ensures) ∙ c .before .before .before .before .before .before .before .before .before .if1 .taken, sym (c .before .before .before .before .before .is-request .ensures) ∙ c .before .before .before .before .if2 .taken)
+    (c .before .before .one .ensures))
 
 returns-2 : tie.Need-returns-2
-unfolding answer
-returns-2 c =
-    let a = c .before .before .before .before .before .before .before .before .args in
-    let k : c .before .size-of .result ≡ length (encode (a .m) (a .view .now)) =
-    c .before .size-of .ensures ∙ sym (length-encode (a .n) (a .m) (a .view .now)
-    (sym (c .before .before .before .is-allowed .ensures) ∙ c .before .before .if2 .taken)) in (
-      simp (
-        sym (c .before .before .before .before .before .is-size .ensures)
-            ∙ c .before .before .before .before .if1 .taken,
-        sym (c .before .before .before .is-allowed .ensures)
-            ∙ c .before .before .if2 .taken,
-        lt-leb _ _ (rw k at (c .if3 .left)),
-      ),
-      refl,
-    )
-
-returns-3 : tie.Need-returns-3
-unfolding answer
-returns-3 c = (
-  simp (
-    sym (c .before .before .before .is-size .ensures) ∙ c .before .before .if1 .taken,
-    sym
-        (c .before .is-allowed .ensures) ∙ c .if2 .left,
-  ),
+unfolding answer encode allowed
+returns-2 c = (
+  rw (c .before .before .before .m .given .1)
+      (simp (sym (c .before .before .before .before .before .before .is-size .ensures) ∙ c .before .before .before .before .before .if1 .taken, sym (c .before .is-request .ensures) ∙ c .if2 .left)),
   refl,
 )
 
+returns-3 : tie.Need-returns-3
+unfolding answer encode allowed
+returns-3 c = rw (c .before .before .before .before .before .before .before .m2 .given .1)
+    (simp (sym (c .before .before .before .before .before .before .before .before .before .before .is-size .ensures) ∙ c .before .before .before .before .before .before .before .before .before .if1 .taken, sym (c .before .before .before .before .before .is-pair .ensures) ∙ c .before .before .before .before .if3 .taken)
+    (c .before .before .two .ensures))
+
 returns-4 : tie.Need-returns-4
+unfolding answer encode allowed
+returns-4 c = (
+  rw (c .before .before .before .m2 .given .1)
+      (simp (sym (c .before .before .before .before .before .before .is-size .ensures) ∙ c .before .before .before .before .before .if1 .taken, sym (c .before .is-pair .ensures) ∙ c .if3 .left)),
+  refl,
+)
+
+returns-5 : tie.Need-returns-5
+unfolding answer encode allowed
+returns-5 c = rw (c .before .before .before .before .before .before .before .m3 .given .1)
+    (simp (sym (c .before .before .before .before .before .before .before .before .before .before .is-size .ensures) ∙ c .before .before .before .before .before .before .before .before .before .if1 .taken, sym (c .before .before .before .before .before .is-pair2 .ensures) ∙ c .before .before .before .before .if4 .taken)
+    (c .before .before .two2 .ensures))
+
+returns-6 : tie.Need-returns-6
+unfolding answer encode allowed
+returns-6 c = (
+  rw (c .before .before .before .m3 .given .1)
+      (simp (sym (c .before .before .before .before .before .before .is-size .ensures) ∙ c .before .before .before .before .before .if1 .taken, sym (c .before .is-pair2 .ensures) ∙ c .if4 .left)),
+  refl,
+)
+
+returns-7 : tie.Need-returns-7
+unfolding answer encode allowed
+returns-7 c = rw (c .before .before .before .before .before .before .before .m4 .given .1)
+    (simp (sym (c .before .before .before .before .before .before .before .before .before .before .is-size .ensures) ∙ c .before .before .before .before .before .before .before .before .before .if1 .taken, sym (c .before .before .before .before .before .is-pair3 .ensures) ∙ c .before .before .before .before .if5 .taken)
+    (c .before .before .two3 .ensures))
+
+returns-8 : tie.Need-returns-8
+unfolding answer encode allowed
+returns-8 c = (
+  rw (c .before .before .before .m4 .given .1)
+      (simp (sym (c .before .before .before .before .before .before .is-size .ensures) ∙ c .before .before .before .before .before .if1 .taken, sym (c .before .is-pair3 .ensures) ∙ c .if5 .left)),
+  refl,
+)
+
+returns-9 : tie.Need-returns-9
+unfolding answer encode allowed
+returns-9 c = rw (c .before .before .before .before .before .before .before .m5 .given .1)
+    (simp (sym (c .before .before .before .before .before .before .before .before .before .before .is-size .ensures) ∙ c .before .before .before .before .before .before .before .before .before .if1 .taken, sym (c .before .before .before .before .before .is-request2 .ensures) ∙ c .before .before .before .before .if6 .taken)
+    (c .before .before .one2 .ensures))
+
+returns-10 : tie.Need-returns-10
+unfolding answer encode allowed
+returns-10 c = (
+  rw (c .before .before .before .m5 .given .1)
+      (simp (sym (c .before .before .before .before .before .before .is-size .ensures) ∙ c .before .before .before .before .before .if1 .taken, sym (c .before .is-request2 .ensures) ∙ c .if6 .left)),
+  refl,
+)
+
+returns-11 : tie.Need-returns-11
+unfolding answer encode allowed
+returns-11 c = rw (c .before .before .before .before .before .before .before .m6 .given .1)
+    (simp (sym (c .before .before .before .before .before .before .before .before .before .before .is-size .ensures) ∙ c .before .before .before .before .before .before .before .before .before .if1 .taken, sym (c .before .before .before .before .before .is-sent .ensures) ∙ c .before .before .before .before .if7 .taken)
+    (c .before .before .value .ensures))
+
+returns-12 : tie.Need-returns-12
+unfolding answer encode allowed
+returns-12 c = (
+  rw (c .before .before .before .m6 .given .1)
+      (simp (sym (c .before .before .before .before .before .before .is-size .ensures) ∙ c .before .before .before .before .before .if1 .taken, sym (c .before .is-sent .ensures) ∙ c .if7 .left)),
+  refl,
+)
+
+returns-13 : tie.Need-returns-13
+unfolding answer encode allowed
+returns-13 c = rw (c .before .before .before .before .before .before .before .m7 .given .1)
+    (simp (sym (c .before .before .before .before .before .before .before .before .before .before .is-size .ensures) ∙ c .before .before .before .before .before .before .before .before .before .if1 .taken, sym (c .before .before .before .before .before .is-held .ensures) ∙ c .before .before .before .before .if8 .taken)
+    (c .before .before .good2 .ensures))
+
+returns-14 : tie.Need-returns-14
+unfolding answer encode allowed
+returns-14 c = (
+  rw (c .before .before .before .m7 .given .1)
+      (simp (sym (c .before .before .before .before .before .before .is-size .ensures) ∙ c .before .before .before .before .before .if1 .taken, sym (c .before .is-held .ensures) ∙ c .if8 .left)),
+  refl,
+)
+
+returns-15 : tie.Need-returns-15
 unfolding answer
-returns-4 c = (simp (sym (c .before .is-size .ensures) ∙ c .if1 .left), refl)
+returns-15 c = (simp (sym (c .before .is-size .ensures) ∙ c .if1 .left), refl)
 
 pub write-spec : {M : Type 1} → statement M
 write-spec =
     tie.close
     (tie.spec
     (λ c κs. search needs)
-    is-allowed-requires
-    size-of-requires
-    put-message-requires
+    (λ c. search needs)
+    (λ c κs. search needs)
+    (λ c κs. search needs)
+    (λ c. search needs)
+    (λ c κs. search needs)
+    (λ c κs. search needs)
+    (λ c. search needs)
+    (λ c κs. search needs)
+    (λ c κs. search needs)
+    (λ c. search needs)
+    (λ c κs. search needs)
+    (λ c κs. search needs)
+    (λ c. search needs)
+    (λ c κs. search needs)
+    (λ c κs. search needs)
+    (λ c. search needs)
+    (λ c κs. search needs)
+    cast-value
+    (λ c κs. search needs)
+    (λ c. search needs)
+    is-held-requires
+    good-requires
     (λ c. search needs)
     returns
     returns-2
+    (λ c. search needs)
     returns-3
-    returns-4)
+    returns-4
+    (λ c. search needs)
+    returns-5
+    returns-6
+    (λ c. search needs)
+    returns-7
+    returns-8
+    (λ c. search needs)
+    returns-9
+    returns-10
+    (λ c. search needs)
+    returns-11
+    returns-12
+    (λ c. search needs)
+    returns-13
+    returns-14
+    returns-15)

@@ -1,0 +1,51 @@
+-- `wire::puts::good` meets its contract.
+use borrow.Author.Needs.{needs}
+use mathlib.Core.Path.{_≡_, refl, sym, ap, _∙_}
+use Prim.Native.Nat.{ℕ, _+_, _/_, _%_}
+use mathlib.Core.List.{List, [], _∷_, _++_}
+use borrow.Author.Tests.{le-leb, lt-leb}
+use native.Mathlib.Omega.{arith}
+use native.Mathlib.Nat.{div-one}
+use lib.ListN.{length}
+use Rattle.octets.specs.Bytes.{be, put}
+use Rattle.octets.proofs.Put.{put-then}
+use Rattle.wire.specs.Layout.{kind, tag, view}
+use Rattle.wire.proofs.puts.good.Statement.{statement}
+use Rattle.wire.proofs.puts.good.Tie as tie
+
+returns : tie.Need-returns
+returns c =
+    let a = c .before .before .before .before .before .before .before .before .before .before .before .before .before .before .before .before .args in
+    let o = a .out .now in
+    let u = kind 7 ++ tag (a .t) in
+    let n = length (a .v .now) in
+    let h : List ℕ = 6 ∷ be 2 n in
+    let k : length (u ++ view (a .v .now)) ≡ 18 + n = omega arith in
+    let q : c .before .before .before .before .before .before .put-bytes .last .0 ≡ put (c .before .before .before .before .before .before .before .before .before .before .before .put-one .last .0) 15 h = c .before .before .before .before .before .before .put-bytes .ensures
+    ∙ ap (λ (x : ℕ). put (c .before .before .before .before .before .before .before .before .before .before .before .put-one .last .0) 15 (6 ∷ n / 256 ∷ x ∷ [])) (sym (div-one (n % 256))) in (
+      simp (k, le-leb _ _ (c .before .before .before .before .before .before .before .before .before .before .before .before .before .if1 .taken)),
+      put-then o 0 (u ++ h) (a .v .now) 18 (omega arith) refl
+          (put-then o 0 u h 15 (omega arith) refl (c .before .before .before .before .before .before .before .before .before .before .before .put-one .ensures) q) (c .before .before .put-bytes2 .ensures),
+    )
+
+returns-2 : tie.Need-returns-2
+returns-2 c =
+    let a = c .before .before .before .args in
+    let k : length (kind 7 ++ tag (a .t) ++ view (a .v .now)) ≡ 18 + length (a .v .now) = omega arith in
+    (simp (k, lt-leb _ _ (c .if1 .left)), refl)
+
+pub good-spec : {M : Type 1} → statement M
+good-spec =
+    tie.close
+    (tie.spec
+    (λ c. search needs)
+    (λ c κs. search needs)
+    (λ c. search needs)
+    (λ c. search needs)
+    (λ c. search needs)
+    (λ c κs. search needs)
+    (λ c κs. search needs)
+    (λ c. search needs)
+    (λ c. search needs)
+    returns
+    returns-2)
