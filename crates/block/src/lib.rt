@@ -13,6 +13,7 @@ ghost use Rattle.block.specs.Block.{blockSize, hasStopped, recordIn, cha
 
 // The bytes of a block, and where in it the channels stand: after the stop byte and the record.
 pub const BLOCK: usize = 73345;
+
 const CHANNELS: usize = 3169;
 // The bytes of a channel.
 const CHANNEL: usize = 4386;
