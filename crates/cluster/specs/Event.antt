@@ -1,5 +1,5 @@
--- The events of a cluster: for each of them the bytes after it, its answer, and the entries let out, in order. The
--- refusals stand in document 01's order, and the first that applies is given.
+-- The events of a cluster (document 01: a house): for each of them the bytes after it, its answer, and the entries let
+-- out, in order. The refusals stand in document 01's order, and the first that applies is given.
 use Prim.Native.Nat.{ℕ, _+_, _-_}
 use mathlib.Core.Bool.{Bool, true, false, not}
 use mathlib.Core.List.{List, []}

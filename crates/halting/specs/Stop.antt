@@ -1,4 +1,5 @@
--- The stop of a node: it takes part in nothing more, and what waits for it is gone.
+-- The stop of a node (document 01: a cabinet): it takes part in nothing more, and what waits for it is gone. 12, 2 as for
+-- every event. 3: no node has that number. 4: it has stopped. 10: f nodes have stopped.
 use Prim.Native.Nat.{ℕ}
 use mathlib.Core.Bool.{not}
 use mathlib.Core.List.{List, []}
