@@ -1,6 +1,9 @@
 //! The proved cluster beside a plain one: whether they do the same, and how fast each is.
 mod check;
 mod clock;
+// The oracle's generator, of which one function is not needed here.
+#[allow(dead_code)]
+#[path = "../../oracle/src/dice.rs"]
 mod dice;
 mod measure;
 mod plain;

@@ -20,8 +20,11 @@ slice-reshare-prefix-write : tie.Need-slice-reshare-prefix-write
 slice-reshare-prefix-write c = search needs
 
 slice-aggregate-write : tie.Need-slice-aggregate-write
-slice-aggregate-write c = let l : 16 * c .before .before .before .before .before .before .before .args .n ≤ length (c .before .before .before .write-view .last .1 .1 .0) = omega (arith, c .before .before .before .write-view .kept .1 .1 .0) in
-    sym (length-take-le (16 * c .before .before .before .before .before .before .before .args .n) (c .before .before .before .write-view .last .1 .1 .0) l)
+slice-aggregate-write c =
+    let n = c .before .before .before .before .before .before .before .args .n in
+    let w = c .before .before .before .write-view in
+    let l : 16 * n ≤ length (w .last .1 .1 .0) = omega (arith, w .kept .1 .1 .0) in
+    sym (length-take-le (16 * n) (w .last .1 .1 .0) l)
 
 write-requires : tie.Need-write-requires
 write-requires c κs = search needs
@@ -33,9 +36,12 @@ same-length-2 : tie.Need-same-length-2
 same-length-2 c = search needs
 
 returns : tie.Need-returns
-returns c = written-is (c .before .before .before .before .before .before .before .before .before .before .before .args .n) (c .before .before .before .before .before .before .before .before .before .before .before .args .m) (viewBytes (c .before .before .before .before .before .before .before .before .before .before .before .args .n) (c .before .before .before .before .before .before .before .before .before .before .before .args .v)) _ (c .before .before .before .before .before .before .before .before .before .before .before .args .s .now)
-    (front-put (c .before .before .before .before .before .before .before .before .before .before .before .args .w .now) (viewBytes (c .before .before .before .before .before .before .before .before .before .before .before .args .n) (c .before .before .before .before .before .before .before .before .before .before .before .args .v)) (16 * c .before .before .before .before .before .before .before .before .before .before .before .args .n) (length-viewBytes (c .before .before .before .before .before .before .before .before .before .before .before .args .n) (c .before .before .before .before .before .before .before .before .before .before .before .args .v))
-    (c .before .before .before .before .before .before .before .write-view .ensures)) (omega arith) (c .before .before .write .ensures .0) (c .before .before .write .ensures .1)
+returns c =
+    let x = c .before .before .before .before .before .before .before .before .before .before .before .args in
+    let v = viewBytes (x .n) (x .v) in
+    written-is (x .n) (x .m) v _ (x .s .now)
+    (front-put (x .w .now) v (16 * x .n) (length-viewBytes (x .n) (x .v)) (c .before .before .before .before .before .before .before .write-view .ensures))
+    (omega arith) (c .before .before .write .ensures .0) (c .before .before .write .ensures .1)
 
 pub write-slot-spec : {M : Type 1} → statement M
 write-slot-spec =

@@ -31,21 +31,30 @@ let-message-requires-3 : tie.Need-let-message-requires-3
 let-message-requires-3 c κs = search needs
 
 returns : tie.Need-returns
-returns c = rw (c .enum-told .given .1) (sym (let-empty (c .before .before .before .args .n) (c .before .before .before .args .a) (c .before .before .before .args .c) (c .before .before .before .args .v) (c .before .before .before .args .left) (c .before .before .before .args .b .now)))
+returns c =
+    let x = c .before .before .before .args in
+    rw (c .enum-told .given .1) (sym (let-empty (x .n) (x .a) (x .c) (x .v) (x .left) (x .b .now)))
 
 same-length : tie.Need-same-length
 same-length c = search needs
 
 returns-2 : tie.Need-returns-2
-returns-2 c = rw (c .before .before .before .before .before .s .given .1) (c .before .before .let-message .ensures
-    ∙ ap (λ (l : List Entry). letOut (c .before .before .before .before .before .before .before .before .args .n) (c .before .before .before .before .before .before .before .before .args .c) (take (c .before .before .before .before .before .before .before .before .args .left) l) (c .before .before .before .before .before .before .before .before .args .b .now)) (sym (entries-one (c .before .before .before .before .before .before .before .before .args .n) (c .before .before .before .before .before .before .before .before .args .a) (c .before .before .before .before .before .before .before .before .args .v) _)))
+returns-2 c =
+    let x = c .before .before .before .before .before .before .before .before .args in
+    rw (c .before .before .before .before .before .s .given .1) (c .before .before .let-message .ensures
+    ∙ ap (λ (l : List Entry). letOut (x .n) (x .c) (take (x .left) l) (x .b .now))
+    (sym (entries-one (x .n) (x .a) (x .v) _)))
 
 same-length-2 : tie.Need-same-length-2
 same-length-2 c = search needs
 
 returns-3 : tie.Need-returns-3
-returns-3 c = rw (c .before .before .before .before .before .before .before .before .before .before .s2 .given .1) (let-two (c .before .before .before .before .before .before .before .before .before .before .before .before .before .args .n) (c .before .before .before .before .before .before .before .before .before .before .before .before .before .args .a) (c .before .before .before .before .before .before .before .before .before .before .before .before .before .args .c) (c .before .before .before .before .before .before .before .before .before .before .before .before .before .args .left) (c .before .before .before .before .before .before .before .before .before .before .before .before .before .args .v) _ _ (c .before .before .before .before .before .before .before .before .before .before .before .before .before .args .b .now) (c .before .before .before .before .before .before .before .let-message2 .ensures)
-    (c .before .before .before .left-after .ensures (c .before .before .before .before .before .before .before .before .before .before .before .before .before .args .a) (c .before .before .before .before .before .before .before .before .before .before .before .before .before .args .v)) (c .before .before .let-message3 .ensures))
+returns-3 c =
+    let x = c .before .before .before .before .before .before .before .before .before .before .before .before .before .args in
+    rw (c .before .before .before .before .before .before .before .before .before .before .s2 .given .1)
+    (let-two (x .n) (x .a) (x .c) (x .left) (x .v) _ _ (x .b .now)
+    (c .before .before .before .before .before .before .before .let-message2 .ensures) (c .before .before .before .left-after .ensures (x .a) (x .v))
+    (c .before .before .let-message3 .ensures))
 
 pub let-sent-spec : {M : Type 1} → statement M
 let-sent-spec =

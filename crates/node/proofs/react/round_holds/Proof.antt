@@ -12,4 +12,5 @@ returns-4 c = rw (c .before .wait2 .given .1)
 pub round-holds-spec : {M : Type 1} → statement M
 round-holds-spec =
     tie.close
-    (tie.spec (λ c. search needs) (λ c. search needs) (λ c. search needs) (λ c. search needs) (λ c. search needs) (λ c. search needs) (λ c. search needs) returns-3 returns-4 (λ c. search needs))
+    (tie.spec (λ c. search needs) (λ c. search needs) (λ c. search needs) (λ c. search needs)
+    (λ c. search needs) (λ c. search needs) (λ c. search needs) returns-3 returns-4 (λ c. search needs))

@@ -21,11 +21,13 @@ returns c =
     let n = length (a .v .now) in
     let h : List ℕ = 6 ∷ be 2 n in
     let k : length (u ++ view (a .v .now)) ≡ 18 + n = omega arith in
-    let q : c .before .before .before .before .before .before .put-bytes .last .0 ≡ put (c .before .before .before .before .before .before .before .before .before .before .before .put-one .last .0) 15 h = c .before .before .before .before .before .before .put-bytes .ensures
-    ∙ ap (λ (x : ℕ). put (c .before .before .before .before .before .before .before .before .before .before .before .put-one .last .0) 15 (6 ∷ n / 256 ∷ x ∷ [])) (sym (div-one (n % 256))) in (
+    let head = c .before .before .before .before .before .before .before .before .before .before .before .put-one in
+    let field = c .before .before .before .before .before .before .put-bytes in
+    let q : field .last .0 ≡ put (head .last .0) 15 h =
+        field .ensures ∙ ap (λ (x : ℕ). put (head .last .0) 15 (6 ∷ n / 256 ∷ x ∷ [])) (sym (div-one (n % 256))) in (
       simp (k, le-leb _ _ (c .before .before .before .before .before .before .before .before .before .before .before .before .before .if1 .taken)),
       put-then o 0 (u ++ h) (a .v .now) 18 (omega arith) refl
-          (put-then o 0 u h 15 (omega arith) refl (c .before .before .before .before .before .before .before .before .before .before .before .put-one .ensures) q) (c .before .before .put-bytes2 .ensures),
+          (put-then o 0 u h 15 (omega arith) refl (head .ensures) q) (c .before .before .put-bytes2 .ensures),
     )
 
 returns-2 : tie.Need-returns-2
