@@ -29,14 +29,23 @@ kind-of-requires-3 c κs = search needs
 returns-4 : tie.Need-returns-4
 returns-4 c =
     let d = c .before .before in
-    simp (ne-eqb _ _ (d .before .before .if1 .left), ne-eqb _ _ (d .before .if2 .left), ne-eqb _ _ (d .if3 .left),
-    eq-eqb _ _ (c .before .if4 .taken), c .kind-of3 .ensures)
+    simp (
+      ne-eqb _ _ (d .before .before .if1 .left),
+      ne-eqb _ _ (d .before .if2 .left),
+      ne-eqb _ _ (d .if3 .left),
+      eq-eqb _ _ (c .before .if4 .taken),
+      c .kind-of3 .ensures,
+    )
 
 returns-5 : tie.Need-returns-5
 returns-5 c =
     let d = c .before .before in
-    simp (ne-eqb _ _ (d .before .if1 .left), ne-eqb _ _ (d .if2 .left), ne-eqb _ _ (c .before .if3 .left),
-    ne-eqb _ _ (c .if4 .left))
+    simp (
+      ne-eqb _ _ (d .before .if1 .left),
+      ne-eqb _ _ (d .if2 .left),
+      ne-eqb _ _ (c .before .if3 .left),
+      ne-eqb _ _ (c .if4 .left),
+    )
 
 pub wait-of-spec : {M : Type 1} → statement M
 wait-of-spec =

@@ -24,7 +24,7 @@ returns c =
     let head = c .before .before .before .before .before .before .before .before .before .before .before .put-one in
     let field = c .before .before .before .before .before .before .put-bytes in
     let q : field .last .0 ≡ put (head .last .0) 15 h =
-        field .ensures ∙ ap (λ (x : ℕ). put (head .last .0) 15 (6 ∷ n / 256 ∷ x ∷ [])) (sym (div-one (n % 256))) in (
+    field .ensures ∙ ap (λ (x : ℕ). put (head .last .0) 15 (6 ∷ n / 256 ∷ x ∷ [])) (sym (div-one (n % 256))) in (
       simp (k, le-leb _ _ (c .before .before .before .before .before .before .before .before .before .before .before .before .before .if1 .taken)),
       put-then o 0 (u ++ h) (a .v .now) 18 (omega arith) refl
           (put-then o 0 u h 15 (omega arith) refl (head .ensures) q) (c .before .before .put-bytes2 .ensures),
