@@ -213,7 +213,7 @@ fn codec(seed: u64, rounds: usize, tally: &mut Tally) {
         let kind = if dice.chance(950) { dice.below(7) as u64 + 1 } else { odd_number(&mut dice) };
         let number = |dice: &mut Dice| if dice.chance(800) { dice.next() >> 2 } else { odd_number(dice) };
         let writer = if dice.chance(900) { dice.below(17) as u64 } else { odd_number(&mut dice) };
-        let numbers: Numbers = [kind, number(&mut dice), number(&mut dice), writer, dice.next()];
+        let numbers: Numbers = [kind, number(&mut dice), writer, number(&mut dice), dice.next()];
         let room = if dice.chance(900) { 274 } else { dice.below(300) };
         let (mut one, mut two) = (vec![9; room], vec![9; room]);
         let told = (Proved::write(n, &numbers, &view, &mut one), Plain::write(n, &numbers, &view, &mut two));

@@ -15,6 +15,8 @@ struct Times {
 }
 
 impl Times {
+    const NONE: Times = Times { proved: 0.0, plain: 0.0 };
+
     fn of(mut proved: impl FnMut() -> f64, mut plain: impl FnMut() -> f64) -> Times {
         let mut best = Times { proved: f64::MAX, plain: f64::MAX };
         for _ in 0..RUNS {
@@ -38,13 +40,14 @@ pub fn all(longest: usize) {
     println!();
     events::growth_with_nodes();
     println!();
-    let codec = codec::messages();
+    let (codec, by_kind) = codec::messages();
     println!();
     let figures = codec::figures();
     println!();
     events::growth_with_length(longest);
     println!(
-        "\nlargest ratios: events {events:.2}, messages {codec:.2}, figures {figures:.2}; the target is {TARGET:.2}"
+        "\nlargest ratios: events {events:.2}, messages {codec:.2} (one kind alone {by_kind:.2}), figures {figures:.2}; \
+         the target is {TARGET:.2}"
     );
 }
 

@@ -15,7 +15,7 @@ pub enum Event {
     Stop { node: usize },
 }
 
-/// The numbers of a message: kind, request, tag, writer, report.
+/// The numbers of a message: kind, request, writer, tag, report.
 pub type Numbers = [u64; 5];
 
 pub type View = [u8; 256];
@@ -43,11 +43,7 @@ extern "C" {
     fn snapshot_read(n: usize, b: *const u8, len: usize, numbers: *mut Numbers) -> u8;
     fn snapshot_write(
         n: usize,
-        kind: u64,
-        request: u64,
-        tag: u64,
-        writer: usize,
-        report: u64,
+        numbers: *const Numbers,
         view: *const u8,
         view_len: usize,
         out: *mut u8,
@@ -91,21 +87,7 @@ impl Side for Proved {
     }
 
     fn write(n: usize, numbers: &Numbers, view: &[u8], out: &mut [u8]) -> usize {
-        let [kind, request, tag, writer, report] = *numbers;
-        unsafe {
-            snapshot_write(
-                n,
-                kind,
-                request,
-                tag,
-                writer as usize,
-                report,
-                view.as_ptr(),
-                view.len(),
-                out.as_mut_ptr(),
-                out.len(),
-            )
-        }
+        unsafe { snapshot_write(n, numbers, view.as_ptr(), view.len(), out.as_mut_ptr(), out.len()) }
     }
 
     fn figures(n: usize, view: &[u8], sums: &mut [u32; 4]) -> u8 {
@@ -162,19 +144,19 @@ impl Side for Plain {
         };
         *numbers = match m {
             Message::Read { request } => [1, request, 0, 0, 0],
-            Message::ReadAnswer { request, tag } => [2, request, tag, 0, 0],
-            Message::Write { request, tag } => [3, request, tag, 0, 0],
-            Message::WriteAnswer { request, tag } => [4, request, tag, 0, 0],
-            Message::Echo { tag } => [5, 0, tag, 0, 0],
-            Message::Value { tag, writer, report } => [6, 0, tag, u64::from(writer), u64::from_be_bytes(report)],
-            Message::Good { tag } => [7, 0, tag, 0, 0],
+            Message::ReadAnswer { request, tag } => [2, request, 0, tag, 0],
+            Message::Write { request, tag } => [3, request, 0, tag, 0],
+            Message::WriteAnswer { request, tag } => [4, request, 0, tag, 0],
+            Message::Echo { tag } => [5, 0, 0, tag, 0],
+            Message::Value { tag, writer, report } => [6, 0, u64::from(writer), tag, u64::from_be_bytes(report)],
+            Message::Good { tag } => [7, 0, 0, tag, 0],
         };
         0
     }
 
     #[inline(never)]
     fn write(n: usize, numbers: &Numbers, view: &[u8], out: &mut [u8]) -> usize {
-        let [kind, request, tag, writer, report] = *numbers;
+        let [kind, request, writer, tag, report] = *numbers;
         let m = match kind {
             1 => Message::Read { request },
             2 => Message::ReadAnswer { request, tag },

@@ -24,7 +24,7 @@ fn some_view(dice: &mut Dice, n: usize, top: u64) -> Vec<u8> {
 
 fn some_message(dice: &mut Dice, kind: u64) -> Case {
     let tag = dice.next() >> 2 | 1 << 62;
-    let numbers = [kind, dice.next() >> 2 | 1, tag, dice.next() % 16 + 1, dice.next()];
+    let numbers = [kind, dice.next() >> 2 | 1, dice.next() % 16 + 1, tag, dice.next()];
     let view = some_view(dice, NODES, tag);
     let mut bytes = vec![0; 274];
     let size = Plain::write(NODES, &numbers, &view, &mut bytes);
@@ -32,26 +32,40 @@ fn some_message(dice: &mut Dice, kind: u64) -> Case {
     Case { numbers, view, bytes }
 }
 
-/// Prints bytes per second by kind, and answers the largest ratio.
-pub fn messages() -> f64 {
+/// Prints bytes per second by kind and of all kinds together, and answers the largest ratio of both.
+pub fn messages() -> (f64, f64) {
     println!("messages of sixteen nodes, megabytes per second");
     println!("{:>14} {:>6} {:>12} {:>12} {:>8}", "kind", "", "proved", "plain", "ratio");
     let kinds = ["read", "read answer", "write", "write answer", "echo", "value", "good"];
     let mut dice = Dice::new(3);
-    let mut largest: f64 = 0.0;
+    let mut sums = [("read", 0.0, Times::NONE), ("write", 0.0, Times::NONE)];
+    let mut by_kind: f64 = 0.0;
     for (kind, name) in (1..).zip(kinds) {
         let cases: Vec<Case> = (0..64).map(|_| some_message(&mut dice, kind)).collect();
         let bytes = (ROUNDS * cases.iter().map(|c| c.bytes.len()).sum::<usize>()) as f64;
-        for (what, t) in [
-            ("read", Times::of(|| read_all::<Proved>(&cases), || read_all::<Plain>(&cases))),
-            ("write", Times::of(|| write_all::<Proved>(&cases), || write_all::<Plain>(&cases))),
-        ] {
-            let (proved, plain) = (bytes / t.proved / 1e6, bytes / t.plain / 1e6);
-            println!("{name:>14} {what:>6} {proved:>12.0} {plain:>12.0} {:>8.2}", t.ratio());
-            largest = largest.max(t.ratio());
+        let times = [
+            Times::of(|| read_all::<Proved>(&cases), || read_all::<Plain>(&cases)),
+            Times::of(|| write_all::<Proved>(&cases), || write_all::<Plain>(&cases)),
+        ];
+        for ((what, all_bytes, all), t) in sums.iter_mut().zip(times) {
+            print_row(name, what, bytes, &t);
+            *all_bytes += bytes;
+            all.proved += t.proved;
+            all.plain += t.plain;
+            by_kind = by_kind.max(t.ratio());
         }
     }
-    largest
+    let mut whole: f64 = 0.0;
+    for (what, bytes, t) in &sums {
+        print_row("one of each", what, *bytes, t);
+        whole = whole.max(t.ratio());
+    }
+    (whole, by_kind)
+}
+
+fn print_row(name: &str, what: &str, bytes: f64, t: &Times) {
+    let (proved, plain) = (bytes / t.proved / 1e6, bytes / t.plain / 1e6);
+    println!("{name:>14} {what:>6} {proved:>12.0} {plain:>12.0} {:>8.2}", t.ratio());
 }
 
 fn read_all<S: Side>(cases: &[Case]) -> f64 {

@@ -9,7 +9,7 @@ ghost use Prim.Native.Nat.{_≤_};
 ghost use lib.ListN.{length};
 ghost use Rattle.region.specs.Channel.{slotSize, first};
 ghost use Rattle.region.specs.Record.{recordSize, recordOf, recordBytes};
-ghost use Rattle.block.specs.Block.{blockSize, hasStopped, recordIn, channelIn, nodeIn, waitingIn, keep, takeOff, receive, halt, channelsSound, blockSound};
+ghost use Rattle.block.specs.Block.{blockSize, hasStopped, recordIn, channelIn, waitingIn, keep, takeOff, receive, halt, channelsSound, blockSound};
 
 // The bytes of a block, and where in it the channels stand: after the stop byte and the record.
 pub const BLOCK: usize = 73345;
@@ -24,14 +24,6 @@ pub fn has_stopped(k: &[u8]) -> bool
     ensures { λ r. ⌜ r ≡ hasStopped (now (k .entry)) ⌝ }
 {
     0 < k[0]
-}
-
-// The node's record.
-pub fn node_in(k: &[u8]) -> Node
-    requires { ⌜ length (now k) ≡ blockSize ⌝ }
-    ensures { λ r. ⌜ r ≡ nodeIn (now (k .entry)) ⌝ }
-{
-    region::stored::load(&k[1..CHANNELS])
 }
 
 // How many messages wait on the channel from node a.

@@ -1,5 +1,6 @@
 pub mod Handed
 pub mod Out
+pub mod Moved
 pub mod Reacted
 pub mod Room
 pub mod Settled

@@ -1,27 +1,34 @@
--- What each return of `open_at` says; and the end of every event that steps a node: refusal 11 as it is judged, and what
--- is settled without it.
+-- What each return of `open_on` says; and the end of every event that steps a node: refusals 10 and 11 as they are judged,
+-- and what is settled without 11.
 use Prim.Native.Nat.{ℕ, _≤_}
 use native.Mathlib.Omega.{arith}
 use mathlib.Core.Path.{_≡_, refl, sym, ap, ap₂, _∙_}
 use mathlib.Core.Bool.{Bool, true, false}
 use mathlib.Core.List.{List}
 use lib.ListN.{length, take}
+use Rattle.octets.specs.Test.{pick}
 use Rattle.table.specs.Loop.{all}
 use Rattle.table.specs.Quorum.{faults}
 use Rattle.record.specs.Usable.{isOpen, full}
 use Rattle.record.specs.declared.Node.{Node}
 use Rattle.record.specs.declared.Operation.{Operation}
-use Rattle.node.specs.Move.{beginStep}
+use Rattle.node.specs.Move.{begun, beginStep}
 use Rattle.node.specs.declared.Step.{Step}
+use Rattle.node.proofs.Waits.{begin-asks}
 use Rattle.entries.specs.Entries.{Entry, entries}
 use Rattle.layout.specs.Layout.{clusterSize, node}
 use Rattle.cluster.specs.declared.Extent.{Extent}
-use Rattle.cluster.specs.Event.{refuse, within, most, isCut, mayCut, stepped, roomy, commit, settle, openIn}
+use Rattle.cluster.specs.Event.{refuse, within, most, isCut, mayStop, mayCut, stepped, roomy, commit, settle, openIn}
 use Rattle.cluster.specs.Room.{roomBefore}
 use Rattle.cluster.proofs.Out.{within-most}
 use Rattle.cluster.proofs.Room.{foundIn, goneIn, room-before}
 
--- the test that the code makes is that of refusal 11
+-- the test that the code makes is that of refusal 10
+pub cut-judged : (n : ℕ) (x : Extent) (b : List ℕ) {cut r v : Bool} → cut ≡ isCut x → r ≡ pick cut (mayStop n b) true
+    → r ≡ v → mayCut n x b ≡ v
+cut-judged n x b e q h = ap (λ (t : Bool). pick t (mayStop n b) true) (sym e) ∙ sym q ∙ h
+
+-- and of refusal 11
 pub judged : (took : Bool) (n a c : ℕ) (x : Extent) (s : Step) (b : List ℕ) → n ≤ 16 → 1 ≤ a → a ≤ n → 1 ≤ c → c ≤ n
     → length b ≡ clusterSize n → length (s .node .heard) ≡ 256 → {r cut : Bool} {gone left : ℕ} → cut ≡ isCut x
     → gone ≡ goneIn took a c → left ≡ most x → r ≡ all n (roomBefore cut gone c (take left (entries n a (s .outbox))) b)
@@ -59,9 +66,10 @@ module _ (n c : ℕ) (o : Operation) (x : Extent) (b : List ℕ) (d : Node) (at 
       pub open-uncut : mayCut n x b ≡ false → openIn n c o x b ≡ refuse 10 b
       open-uncut h = rw (is-idle, ap full (sym at) ∙ more, h) refl
 
-      pub open-settles : mayCut n x b ≡ true → {s : Step} {f : ℕ} → f ≡ faults n → s ≡ beginStep f d o
+      pub open-settles : mayCut n x b ≡ true → d .n ≡ n → 1 ≤ n → {s : Step} → s ≡ begun d o
           → openIn n c o x b ≡ settle n c c x s b b
-      open-settles h {s} {f} e q =
+      open-settles h size low {s} q =
+          let asks : beginStep (faults n) d o ≡ begun d o = begin-asks (faults n) d o (omega arith) in
           rw (is-idle, ap full (sym at) ∙ more, h)
           (ap (λ (t : Step). settle n c c x t b b)
-          (sym (q ∙ ap₂ (λ (k : ℕ) (y : Node). beginStep k y o) e at)))
+          (sym (q ∙ sym asks ∙ ap (λ (y : Node). beginStep (faults n) y o) at)))

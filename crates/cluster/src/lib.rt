@@ -6,7 +6,6 @@ mod outgoing;
 use block::BLOCK;
 use handlers::is_stale_in;
 use handlers::react_in;
-use handlers::rest::must_wait;
 use judge::has_room;
 use judge::may_cut;
 use layout::copy_record_at;
@@ -17,25 +16,22 @@ use layout::is_node;
 use layout::is_sound;
 use layout::keep_at;
 use layout::keep_record_at;
-use layout::node_at;
 use layout::stopped_at;
 use layout::take_off_at;
 use layout::waiting_at;
+use moves::Effect;
+use moves::begin_in;
+use moves::is_full_in;
+use moves::is_open_in;
+use moves::move_in;
 use node::Ending;
 use node::Outbox;
 use node::Sent;
-use node::Step;
-use node::begin_step;
-use node::passes::move_on;
-use node::started_step;
 use octets::and;
 use outgoing::let_out;
 use record::Operation;
 use record::blank_node;
-use record::usable::has_open;
-use record::usable::is_full;
 use region::channel::index;
-use region::stored::load;
 use table::quorum::most_faults;
 use view::View;
 use wire::Found;
@@ -50,7 +46,6 @@ ghost use Rattle.octets.specs.Answer.{result};
 ghost use Rattle.octets.specs.Test.{pick};
 ghost use Rattle.view.specs.View.{noView};
 ghost use Rattle.node.specs.declared.Ending.the-variants.{None};
-ghost use Rattle.node.specs.declared.Sent.the-variants.{Nothing};
 ghost use Rattle.entries.specs.Entries.{entries};
 ghost use Rattle.record.specs.Record.{blank};
 ghost use Rattle.record.specs.Usable.{usable};
@@ -58,14 +53,14 @@ ghost use Rattle.octets.specs.Loop.{upTo};
 ghost use Rattle.view.specs.View.{viewOf};
 ghost use Rattle.wire.specs.Codec.{viewAt};
 ghost use Rattle.node.specs.Allowed.{lawful};
-ghost use Rattle.node.specs.Step.{started};
 ghost use Rattle.node.specs.Stale.{writerWithin};
 ghost use Rattle.region.specs.Channel.{first};
 ghost use Rattle.region.specs.Record.{recordSize, recordOf, recordBytes};
 ghost use Rattle.block.specs.Block.{keep, takeOff};
 ghost use Rattle.layout.specs.Layout.{clusterSize, node as nodeOf, channel, onBlock};
+ghost use Rattle.moves.specs.Moved.{stepOf};
 ghost use Rattle.cluster.specs.declared.Outcome.the-variants.{Refused};
-ghost use Rattle.cluster.specs.Event.{isCut, haltIf, stepped, letOut, within, most, openIn, begin as beginEvent, settle as settleEvent, handOver, deliver as deliverEvent, fresh as freshEvent};
+ghost use Rattle.cluster.specs.Event.{isCut, haltIf, letOut, within, most, openIn, begin as beginEvent, settle as settleEvent, handOver, deliver as deliverEvent, fresh as freshEvent};
 ghost use Rattle.cluster.specs.First.{reactFirst};
 ghost use Rattle.cluster.specs.Outcome.{said, tells};
 
@@ -141,19 +136,13 @@ fn halt_if(b: &mut [u8], n: usize, c: usize, cut: bool)
     }
 }
 
-// Node c takes step s: its record is written, in a cut it stops, and the entries are let out.
-fn settle(b: &mut [u8], n: usize, a: usize, c: usize, s: Step, x: Extent) -> Answer
+// What node c sends goes out, after it stopped in a cut.
+fn release(b: &mut [u8], n: usize, a: usize, c: usize, o: Outbox, x: Extent)
     requires { ⌜ (n ≤ 16) × (1 ≤ a) × (a ≤ n) × (1 ≤ c) × (c ≤ n) × (length (now b) ≡ clusterSize n) ⌝ }
-    ensures { λ r. ⌜ (said (r .outcome) ≡ result (pick (isCut x) None (s .ending)))
-        × (r .view ≡ pick (isCut x) noView (s .view))
-        × (now (b .exit) ≡ letOut n c (within x (entries n a (s .outbox))) (stepped n c x s (now (b .entry)))) ⌝ }
+    ensures { λ _. ⌜ now (b .exit) ≡ letOut n c (within x (entries n a o)) (haltIf (isCut x) n c (now (b .entry))) ⌝ }
 {
-    let cut = is_cut(x);
-    keep_at(b, c, s.node);
-    halt_if(b, n, c, cut);
-    let_out(b, n, a, c, s.outbox, allowance(x));
-    let ending = s.ending;
-    given(cut, ending, s.view)
+    halt_if(b, n, c, is_cut(x));
+    let_out(b, n, a, c, o, allowance(x));
 }
 
 // A fresh record in every block.
@@ -184,27 +173,46 @@ pub fn fresh(n: usize, b: &mut [u8]) -> Answer
     given(false, Ending::None, view::absent())
 }
 
-// Opens an operation at node c, which is alive, or refuses with 5, 6, 10, 11.
-fn open_at(b: &mut [u8], n: usize, c: usize, o: Operation, x: Extent) -> Answer
-    requires { ⌜ (n ≤ 16) × (1 ≤ c) × (c ≤ n) × (length (now b) ≡ clusterSize n) × (usable (nodeOf (now b) c) ≡ true) ⌝ }
-    ensures { λ r. ⌜ tells r (now (b .exit)) (openIn n c o x (now (b .entry))) ⌝ }
+// Opens an operation at node c, which is alive, or refuses with 5, 6, 10, 11. `r` is the room for a copy of the record of
+// c, on which the step is done.
+fn open_on<'a>(
+    b: &'a mut [u8],
+    n: usize,
+    c: usize,
+    o: Operation,
+    x: Extent,
+    r: &'a mut [u8],
+) -> Answer
+    requires { ⌜ (n ≤ 16) × (1 ≤ c) × (c ≤ n) × (length (now b) ≡ clusterSize n) × (nodeOf (now b) c .n ≡ n)
+        × (length (now r) ≡ recordSize) ⌝ }
+    ensures { λ t. ⌜ tells t (now (b .exit)) (openIn n c o x (now (b .entry))) ⌝ }
 {
-    let d = node_at(b, c);
-    let wait = d.wait;
-    if has_open(wait) {
+    copy_record_at(b, c, r);
+    if is_open_in(r) {
         return refused(5);
     }
-    if is_full(d) {
+    if is_full_in(r) {
         return refused(6);
     }
     if !may_cut(b, n, is_cut(x)) {
         return refused(10);
     }
-    let s = begin_step(most_faults(n), d, o);
-    if !has_room(b, n, c, c, is_cut(x), 0, s.outbox, allowance(x)) {
+    let e = begin_in(r, o);
+    if !has_room(b, n, c, c, is_cut(x), 0, e.outbox, allowance(x)) {
         return refused(11);
     }
-    settle(b, n, c, c, s, x)
+    keep_record_at(b, c, r);
+    release(b, n, c, c, e.outbox, x);
+    let ending = e.ending;
+    given(is_cut(x), ending, e.view)
+}
+
+fn open_at(b: &mut [u8], n: usize, c: usize, o: Operation, x: Extent) -> Answer
+    requires { ⌜ (n ≤ 16) × (1 ≤ c) × (c ≤ n) × (length (now b) ≡ clusterSize n) × (nodeOf (now b) c .n ≡ n) ⌝ }
+    ensures { λ r. ⌜ tells r (now (b .exit)) (openIn n c o x (now (b .entry))) ⌝ }
+{
+    let mut r = [0u8; 3168];
+    open_on(b, n, c, o, x, &mut r)
 }
 
 // Begins an operation at node c, or refuses with 12, 2, 3, 4, 5, 6, 10, 11.
@@ -246,52 +254,25 @@ fn gone(a: usize, c: usize) -> usize
     if a == c { 1 } else { 0 }
 }
 
-// Node c, which handled a message from a, takes step s, or refuses with 11.
-fn step_at(b: &mut [u8], n: usize, a: usize, c: usize, s: Step, x: Extent) -> Answer
-    requires { ⌜ (n ≤ 16) × (1 ≤ a) × (a ≤ n) × (1 ≤ c) × (c ≤ n) × (length (now b) ≡ clusterSize n) ⌝ }
-    ensures { λ r. ⌜ tells r (now (b .exit)) (settleEvent n a c x s (onBlock c (takeOff a) (now (b .entry))) (now (b .entry))) ⌝ }
-{
-    if !has_room(b, n, a, c, is_cut(x), gone(a, c), s.outbox, allowance(x)) {
-        return refused(11);
-    }
-    take_off_at(b, a, c);
-    settle(b, n, a, c, s, x)
-}
-
-// The outbox of a step that only handled a message from node `to`.
-fn only_handled(to: usize, sent: Sent) -> Outbox
-    ensures { λ o. ⌜ o ≡ record { to = to; handler = sent; reading = Nothing; comparing = Nothing; view = noView } ⌝ }
-{
-    Outbox {
-        to: to,
-        handler: sent,
-        reading: Sent::Nothing,
-        comparing: Sent::Nothing,
-        view: view::absent(),
-    }
-}
-
-// Node c, which handled a message from a, only sends something and waits on, or refuses with 11. `r` is its record.
-fn rest_at(b: &mut [u8], n: usize, a: usize, c: usize, r: &[u8], sent: Sent, x: Extent) -> Answer
+// Node c, which handled a message from a, takes a step with effect e, or refuses with 11. `r` is then its record.
+fn step_at(b: &mut [u8], n: usize, a: usize, c: usize, r: &[u8], e: Effect, x: Extent) -> Answer
     requires { ⌜ (n ≤ 16) × (1 ≤ a) × (a ≤ n) × (1 ≤ c) × (c ≤ n) × (length (now b) ≡ clusterSize n)
         × (length (now r) ≡ recordSize) × (now r ≡ recordBytes (recordOf (now r))) ⌝ }
-    ensures { λ t. ⌜ tells t (now (b .exit))
-        (settleEvent n a c x (started (recordOf (now (r .entry))) a sent) (onBlock c (takeOff a) (now (b .entry))) (now (b .entry))) ⌝ }
+    ensures { λ t. ⌜ tells t (now (b .exit)) (settleEvent n a c x (stepOf (recordOf (now (r .entry))) e)
+        (onBlock c (takeOff a) (now (b .entry))) (now (b .entry))) ⌝ }
 {
-    let cut = is_cut(x);
-    let o = only_handled(a, sent);
-    if !has_room(b, n, a, c, cut, gone(a, c), o, allowance(x)) {
+    if !has_room(b, n, a, c, is_cut(x), gone(a, c), e.outbox, allowance(x)) {
         return refused(11);
     }
     take_off_at(b, a, c);
     keep_record_at(b, c, r);
-    halt_if(b, n, c, cut);
-    let_out(b, n, a, c, o, allowance(x));
-    given(cut, Ending::None, view::absent())
+    release(b, n, a, c, e.outbox, x);
+    let ending = e.ending;
+    given(is_cut(x), ending, e.view)
 }
 
-// Hands the oldest message from a, which is m, to node c, or refuses with 9, 10, 11. Most steps only handle it, on a copy
-// of the record's bytes, for which `r` is the room; one that also moves the open operation on reads the record.
+// Hands the oldest message from a, which is m, to node c, or refuses with 9, 10, 11. `r` is the room for a copy of the
+// record of c, on which the step is done.
 fn hand_on<'a>(
     b: &'a mut [u8],
     n: usize,
@@ -314,11 +295,8 @@ fn hand_on<'a>(
         return refused(10);
     }
     let sent = handle_first(b, n, a, c, m, r);
-    if must_wait(r, n, most_faults(n)) {
-        return rest_at(b, n, a, c, r, sent, x);
-    }
-    let s = move_on(most_faults(n), started_step(load(r), a, sent));
-    step_at(b, n, a, c, s, x)
+    let e = move_in(r, n, most_faults(n), a, sent);
+    step_at(b, n, a, c, r, e, x)
 }
 
 fn hand_over(b: &mut [u8], n: usize, a: usize, c: usize, m: Message, x: Extent) -> Answer

@@ -4,13 +4,12 @@ use mathlib.Core.Path.{_≡_}
 use mathlib.Core.Bool.{Bool}
 use mathlib.Core.List.{List, [], _∷_}
 use lib.Dec.{eqb}
-use lib.ListN.{length}
+use lib.ListN.{length, getD}
 use Rattle.octets.specs.Answer.{Answer, result, refused}
 use Rattle.octets.specs.Test.{pick}
-use Rattle.octets.specs.Bytes.{be, put}
-use Rattle.view.specs.Report.{reportNumber, reportOf}
+use Rattle.octets.specs.Bytes.{put}
+use Rattle.view.specs.Report.{reportNumber, reportFrom}
 use Rattle.view.specs.View.{viewBytes}
-use Rattle.view.specs.declared.Report.{Report}
 use Rattle.view.specs.declared.View.{View}
 use Rattle.wire.specs.Layout.{encode}
 use Rattle.wire.specs.Codec.{answer, after}
@@ -24,10 +23,6 @@ use Rattle.node.specs.declared.Ending.the-variants.{None, Done, Scan, Spent}
 use Rattle.cluster.specs.declared.Extent.{Extent}
 use Rattle.cluster.specs.declared.Extent.the-variants.{Whole, Cut}
 use Rattle.cluster.specs.Event.{Result}
-
--- The report whose number is x.
-abbrev pub reportFrom : ℕ → Report
-reportFrom x = reportOf (be 8 x)
 
 -- How much an event lets out: all, or the first m entries of a cut.
 abbrev pub extentOf : (cut : Bool) (m : ℕ) → Extent
@@ -61,19 +56,19 @@ abbrev pub eventView : Answer Ending → View → List ℕ → List ℕ
 eventView (result e) v out = endingView e v out
 eventView (refused k) v out = out
 
--- The five numbers of a message: its kind, request number, tag, writer and report, 0 where the kind has none.
+-- The five numbers of a message: its kind, request number, writer, tag and report, 0 where the kind has none.
 abbrev pub numbers : Message → List ℕ
 numbers (Read q) = 1 ∷ q ∷ 0 ∷ 0 ∷ 0 ∷ []
-numbers (ReadAnswer q t) = 2 ∷ q ∷ t ∷ 0 ∷ 0 ∷ []
-numbers (Write q t) = 3 ∷ q ∷ t ∷ 0 ∷ 0 ∷ []
-numbers (WriteAnswer q t) = 4 ∷ q ∷ t ∷ 0 ∷ 0 ∷ []
-numbers (Echo t) = 5 ∷ 0 ∷ t ∷ 0 ∷ 0 ∷ []
-numbers (Value t w p) = 6 ∷ 0 ∷ t ∷ w ∷ reportNumber p ∷ []
-numbers (Good t) = 7 ∷ 0 ∷ t ∷ 0 ∷ 0 ∷ []
+numbers (ReadAnswer q t) = 2 ∷ q ∷ 0 ∷ t ∷ 0 ∷ []
+numbers (Write q t) = 3 ∷ q ∷ 0 ∷ t ∷ 0 ∷ []
+numbers (WriteAnswer q t) = 4 ∷ q ∷ 0 ∷ t ∷ 0 ∷ []
+numbers (Echo t) = 5 ∷ 0 ∷ 0 ∷ t ∷ 0 ∷ []
+numbers (Value t w p) = 6 ∷ 0 ∷ w ∷ t ∷ reportNumber p ∷ []
+numbers (Good t) = 7 ∷ 0 ∷ 0 ∷ t ∷ 0 ∷ []
 
 -- The message of five numbers. A kind that is none of the seven gives one that the layout never allows.
-abbrev pub messageOf : (k q t w p : ℕ) → Message
-messageOf k q t w p =
+abbrev pub messageOf : (k q w t p : ℕ) → Message
+messageOf k q w t p =
     pick (eqb k 1) (Read q)
     (pick (eqb k 2) (ReadAnswer q t)
     (pick (eqb k 3) (Write q t)
@@ -82,6 +77,9 @@ messageOf k q t w p =
     (pick (eqb k 6) (Value t w (reportFrom p))
     (pick (eqb k 7) (Good t)
     (Read 0)))))))
+
+abbrev pub messageIn : List ℕ → Message
+messageIn b = messageOf (getD b 0 0) (getD b 1 0) (getD b 2 0) (getD b 3 0) (getD b 4 0)
 
 -- Reading: 0 and the numbers of the message, or the refusal.
 abbrev pub readCode : Answer Message → ℕ

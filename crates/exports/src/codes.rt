@@ -4,33 +4,12 @@ use cluster::Extent;
 use cluster::Outcome;
 use node::Ending;
 use node::Rule;
-use view::Report;
 use wire::Message;
 ghost use mathlib.Core.Path.{_≡_};
 ghost use Prim.Native.Nat.{_≤_};
-ghost use Rattle.view.specs.Report.{reportNumber};
 ghost use Rattle.cluster.specs.Outcome.{said};
-ghost use Rattle.exports.specs.Code.{reportFrom, numbers, messageOf};
+ghost use Rattle.exports.specs.Code.{numbers, messageOf};
 ghost use Rattle.exports.specs.Code.{extentOf, ruleCode, endingCode, eventCode, eventView};
-
-// The counts are cut out of the number itself, which is quicker than by its bytes.
-pub(crate) fn report_from(x: u64) -> Report
-    ensures { λ r. ⌜ r ≡ reportFrom x ⌝ }
-{
-    Report {
-        extensions: (x / 281474976710656) as u16,
-        lines: (x / 4294967296 % 65536) as u16,
-        waiting: (x / 65536 % 65536) as u16,
-        wakeups: (x % 65536) as u16,
-    }
-}
-
-fn report_number(p: Report) -> u64
-    ensures { λ r. ⌜ r ≡ reportNumber p ⌝ }
-{
-    let d = view::report_bytes(p);
-    octets::number8(&d)
-}
 
 pub(crate) fn extent_of(cut: bool, m: usize) -> Extent
     ensures { λ r. ⌜ r ≡ extentOf cut m ⌝ }
@@ -90,21 +69,21 @@ pub(crate) fn message_numbers(m: Message) -> [u64; 5]
 {
     match m {
         Message::Read { request } => [1, request, 0, 0, 0],
-        Message::ReadAnswer { request, tag } => [2, request, tag, 0, 0],
-        Message::Write { request, tag } => [3, request, tag, 0, 0],
-        Message::WriteAnswer { request, tag } => [4, request, tag, 0, 0],
-        Message::Echo { tag } => [5, 0, tag, 0, 0],
+        Message::ReadAnswer { request, tag } => [2, request, 0, tag, 0],
+        Message::Write { request, tag } => [3, request, 0, tag, 0],
+        Message::WriteAnswer { request, tag } => [4, request, 0, tag, 0],
+        Message::Echo { tag } => [5, 0, 0, tag, 0],
         Message::Value {
             tag,
             writer,
             report,
-        } => [6, 0, tag, writer as u64, report_number(report)],
-        Message::Good { tag } => [7, 0, tag, 0, 0],
+        } => [6, 0, writer as u64, tag, view::report_number(report)],
+        Message::Good { tag } => [7, 0, 0, tag, 0],
     }
 }
 
-pub(crate) fn message_of(kind: u64, request: u64, tag: u64, writer: usize, report: u64) -> Message
-    ensures { λ r. ⌜ r ≡ messageOf kind request tag writer report ⌝ }
+pub(crate) fn message_of(kind: u64, request: u64, writer: usize, tag: u64, report: u64) -> Message
+    ensures { λ r. ⌜ r ≡ messageOf kind request writer tag report ⌝ }
 {
     match kind {
         1 => Message::Read { request: request },
@@ -124,7 +103,7 @@ pub(crate) fn message_of(kind: u64, request: u64, tag: u64, writer: usize, repor
         6 => Message::Value {
             tag: tag,
             writer: writer,
-            report: report_from(report),
+            report: view::report_from(report),
         },
         7 => Message::Good { tag: tag },
         _ => Message::Read { request: 0 },

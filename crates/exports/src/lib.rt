@@ -4,28 +4,29 @@
 // A slice passes as a pointer and a length, an array as a pointer, a bool as 0 or 1. The contracts speak of the bytes that
 // are lent: that a pointer and its length are those of memory, and that two regions lent at once do not overlap, nothing
 // here can test, and the caller owes it. An enum does not cross: an answer is a code (`eventCode` in specs/), a message
-// five numbers, a report the number of its eight bytes, high byte first, and an event is cut where `cut` says so.
+// five numbers (kind, request number, writer, tag, report), a report the number of its eight bytes, high byte first, and an event is cut where `cut` says so.
 mod codes;
 
 use codes::event_code;
 use codes::extent_of;
 use codes::message_numbers;
 use codes::message_of;
-use codes::report_from;
 use codes::show;
 use figures::Summed;
 use record::Operation;
+use view::report_from;
 use wire::Parsed;
 use wire::Written;
 ghost use mathlib.Core.Path.{_≡_};
+ghost use Rattle.view.specs.Report.{reportFrom};
 ghost use Rattle.wire.specs.Codec.{decode};
 ghost use Rattle.figures.specs.Figures.{figuresOf};
 ghost use Rattle.record.specs.declared.Operation.the-variants.{Update, Scan};
 ghost use Rattle.layout.specs.Layout.{size as sizeOf};
 ghost use Rattle.cluster.specs.Event.{begin, deliver, fresh};
 ghost use Rattle.halting.specs.Stop.{stop};
-ghost use Rattle.exports.specs.Code.{reportFrom, extentOf, eventView, leaves};
-ghost use Rattle.exports.specs.Code.{messageOf, readCode, readNumbers, wrote, figuresCode, figuresSums};
+ghost use Rattle.exports.specs.Code.{extentOf, eventView, leaves};
+ghost use Rattle.exports.specs.Code.{messageIn, readCode, readNumbers, wrote, figuresCode, figuresSums};
 
 // The bytes to lend for a cluster of n nodes; 0 where there may be none.
 #[no_mangle]
@@ -112,22 +113,20 @@ pub extern "C" fn snapshot_read(n: usize, b: &[u8], numbers: &mut [u64; 5]) -> u
     }
 }
 
-// Writes the message of these numbers, with its view if it is a good one, at the front of `out`.
+// Writes the message of five numbers, with its view if it is a good one, at the front of `out`.
 #[no_mangle]
-pub extern "C" fn snapshot_write(
-    n: usize,
-    kind: u64,
-    request: u64,
-    tag: u64,
-    writer: usize,
-    report: u64,
-    view: &[u8],
-    out: &mut [u8],
-) -> usize
-    ensures { λ r. ⌜ wrote r (now (out .exit)) n (messageOf kind request tag writer report)
+pub extern "C" fn snapshot_write(n: usize, numbers: &[u64; 5], view: &[u8], out: &mut [u8]) -> usize
+    ensures { λ r. ⌜ wrote r (now (out .exit)) n (messageIn (now (numbers .entry)))
         (now (view .entry)) (now (out .entry)) ⌝ }
 {
-    match wire::write(n, message_of(kind, request, tag, writer, report), view, out) {
+    let m = message_of(
+        numbers[0],
+        numbers[1],
+        numbers[2] as usize,
+        numbers[3],
+        numbers[4],
+    );
+    match wire::write(n, m, view, out) {
         Written::Length(k) => k,
         Written::Refused(k) => k as usize,
     }

@@ -1,7 +1,7 @@
 -- What the bytes of a record are after each handler: those of the record by value after it.
 use Prim.Native.Nat.{ℕ, _+_, _-_, _*_, _≤_, max}
 use mathlib.Core.Path.{_≡_, refl, sym, ap, ap₂, _∙_, subst}
-use mathlib.Core.Bool.{Bool, true, false, not}
+use mathlib.Core.Bool.{Bool, true, false}
 use mathlib.Core.List.{List, [], _∷_, _++_}
 use native.Mathlib.Omega.{arith}
 use lib.ListN.{length, length-set}
@@ -16,7 +16,7 @@ use Rattle.view.specs.declared.View.{View}
 use Rattle.view.proofs.ViewBytes.{view-absent}
 use Rattle.table.specs.Table.{cell, newest, put as withEntry}
 use Rattle.table.proofs.Laws.{length-tab as length-table}
-use Rattle.table.specs.Quorum.{member, with, size, isQuorum, agreeing}
+use Rattle.table.specs.Quorum.{member, with}
 use Rattle.wire.specs.declared.Message.{Message}
 use Rattle.wire.specs.declared.Message.the-variants.{Read, ReadAnswer, Write, WriteAnswer, Echo, Value, Good}
 use Rattle.record.specs.Record.{waiting}
@@ -24,17 +24,13 @@ use Rattle.record.specs.declared.Node.{Node}
 use Rattle.record.specs.declared.Wait.{Wait}
 use Rattle.record.specs.declared.Wait.the-variants.{Idle, Reading, Writing, Comparing, Borrowing}
 use Rattle.node.specs.React.{raised, readAnswered, writeAnswered, roundHolds, isNew, received, keep, react}
-use Rattle.node.specs.Move.{moveOn}
-use Rattle.node.specs.Claims.{MustWait}
 use Rattle.node.specs.Step.{started}
 use Rattle.node.specs.declared.Sent.{Sent}
-use Rattle.node.specs.declared.Step.{Step}
 use Rattle.node.proofs.Lawful.{react-started}
-use Rattle.node.proofs.Waits.{waits-still}
 use Rattle.region.specs.Record.{recordSize, heardPlace, scalar, viewPlace, viewIn, waitIn, waitBytes, recordOf, recordBytes}
 use Rattle.region.proofs.Back.{Sized, SizedNode, record-back}
 use Rattle.handlers.specs.declared.Head.{Head}
-use Rattle.handlers.specs.Handled.{entered, headOf, readWait, writeWait, stays}
+use Rattle.handlers.specs.Handled.{entered, headOf, readWait, writeWait}
 use Rattle.handlers.proofs.Sections.{Tables, tables-of, heard-put, atmax-put, kept-put, last-entry, atmax-entry, atround-entry, assembled}
 
 pub sized-view : (n : ℕ) (b : List ℕ) → n ≤ 16 → Sized (viewOf n b)
@@ -157,41 +153,6 @@ module _ (c : Node) (s q t : ℕ) where
   write-answered (Comparing k i r) e = same-wait (Comparing k i r) e
   write-answered (Borrowing k r) e = same-wait (Borrowing k r) e
 
--- ---- a step that must wait
-
-not-false : (b : Bool) → not b ≡ true → b ≡ false
-not-false true e = sym e
-not-false false e = refl
-
-must : (f : ℕ) (c : Node) (w : Wait) → stays f c w ≡ true → MustWait f c w
-must f c Idle e = tt
-must f c (Reading o a m) e = not-false (isQuorum (c .n) f (size (c .n) a)) e
-must f c (Writing k i r a) e = not-false (isQuorum (c .n) f (size (c .n) a)) e
-must f c (Comparing k i r) e = not-false (isQuorum (c .n) f (agreeing (c .n) (c .own) (c .heard) (c .atround .tags))) e
-must f c (Borrowing k r) e = not-false (leb r (c .kept)) e
-
-pub moves-not : (f : ℕ) (s : Step) → stays f (s .node) (s .node .wait) ≡ true → moveOn f s ≡ s
-unfolding moveOn
-moves-not f s e =
-    let q = waits-still f s (s .node .wait) (must f (s .node) (s .node .wait) e) in
-    rw (q .0, q .1, q .2, q .3) refl
-
--- ---- the fields that the test of the bytes reads
-
-pub wait-of : (r : List ℕ) → waitIn r ≡ recordOf r .wait
-unfolding recordOf
-wait-of r = refl
-
-pub kept-of : (r : List ℕ) → scalar r 4 ≡ recordOf r .kept
-unfolding recordOf
-kept-of r = refl
-
-pub agreeing-of : (r : List ℕ) (n : ℕ) → recordOf r .n ≡ n
-    → agreeing n (scalar r 1) (words 256 r heardPlace) (viewIn r 2 .tags)
-    ≡ agreeing (recordOf r .n) (recordOf r .own) (recordOf r .heard) (recordOf r .atround .tags)
-unfolding recordOf
-agreeing-of r n e = ap (λ (k : ℕ). agreeing k (scalar r 1) (words 256 r heardPlace) (viewIn r 2 .tags)) (sym e)
-
 -- ---- the sizes of the tables after a handler, so that the record is read back
 
 sized-pick : (b : Bool) (u v : View) → Sized u → Sized v → Sized (pick b u v)
@@ -202,7 +163,7 @@ sized-entry : (v : View) (w t : ℕ) (p : Report) → Sized v → Sized (withEnt
 sized-entry v w t p z =
     record { tags = length-set (v .tags) (w - 1) t ∙ z .tags; reports = length-set (v .reports) (w - 1) p ∙ z .reports }
 
-sized-newest : (t : ℕ) (last held : View) → Sized (newest t last held)
+pub sized-newest : (t : ℕ) (last held : View) → Sized (newest t last held)
 unfolding newest
 sized-newest t last held = record { tags = length-table 16 _; reports = length-table 16 _ }
 

@@ -8,6 +8,7 @@ use mathlib.Core.List.{List, _++_, append-assoc}
 use native.Mathlib.Nat.{mul-suc, mul-le-mul-left, lt-of-not-le, eq-or-lt-of-le}
 use native.Mathlib.Decide.{ℕ-discrete, decLe}
 use native.Mathlib.Omega.{arith}
+use lib.Dec.{leb}
 use lib.ListN.{length, getD, set, take, drop, length-set, length-drop}
 use lib.Seq.{getD-set-same, getD-set-other, take-all}
 use Rattle.octets.specs.Test.{pick}
@@ -23,12 +24,13 @@ use Rattle.view.specs.declared.Report.{Report}
 use Rattle.view.specs.declared.View.{View}
 use Rattle.view.proofs.ReportBytes.{be-part}
 use Rattle.view.proofs.ViewBytes.{length-viewBytes, view-bytes-back}
-use Rattle.table.specs.Table.{tagOf, cell, heardOf, put as withEntry}
+use Rattle.table.specs.Table.{tagOf, reportOf, cell, heardOf, newest, newestTag, newestReport, put as withEntry}
+use Rattle.table.proofs.Laws.{getD-tab as getD-table}
 use Rattle.record.specs.declared.Node.{Node}
 use Rattle.region.specs.Record.{recordSize, heardPlace, viewPlace, viewIn, numbers, waitBytes, recordBytes}
 use Rattle.region.proofs.Saved.{waits-end}
 use Rattle.region.proofs.Back.{Sized}
-use Rattle.handlers.specs.Handled.{cellPlace, entryPlace, putWhere}
+use Rattle.handlers.specs.Handled.{cellPlace, entryPlace, putWhere, newestEntry}
 
 -- ---- runs of one length after each other, one of them replaced
 
@@ -95,6 +97,15 @@ pub record Tables (r : List ℕ) (heard : List ℕ) (last atmax atround kept : V
   pub ofAtround : part r 2656 256 ≡ viewBytes 16 atround
   pub ofKept : part r 2912 256 ≡ viewBytes 16 kept
 
+whole : (s : List ℕ) (n : ℕ) → length s ≡ n → take n s ≡ s
+whole s n e = let q : length s ≤ n = omega arith in take-all n s q
+
+-- a view where it stands
+view-there : (r : List ℕ) → Bytes r → (at : ℕ) → at + 256 ≤ length r → part r at 256 ≡ viewBytes 16 (viewOf 16 (part r at 256))
+view-there r h at m =
+    let e : length (part r at 256) ≡ 256 = length-part r at 256 m in
+    sym (view-bytes-back 16 (part r at 256) (part-bytes r at 256 h) (omega arith) ∙ whole (part r at 256) 256 e)
+
 -- as they stand
 pub tables-of : (r : List ℕ) → Bytes r → length r ≡ recordSize
     → Tables r (words 256 r heardPlace) (viewIn r 0) (viewIn r 1) (viewIn r 2) (viewIn r 3)
@@ -106,19 +117,11 @@ tables-of r h l =
           (λ i m. ap (be 8) (getD-tab 256 (λ i. word r (96 + 8 * i)) i 0 m) ∙ be-part r (96 + 8 * i) 8 h (omega arith)
           ∙ sym (part-part r 96 2048 (8 * i) 8 (omega arith)))
           ∙ join-parts 256 8 (part r 96 2048) ∙ whole (part r 96 2048) 2048 (length-part r 96 2048 (omega arith)));
-      ofLast = view 2144 (omega arith);
-      ofAtmax = view 2400 (omega arith);
-      ofAtround = view 2656 (omega arith);
-      ofKept = view 2912 (omega arith);
+      ofLast = view-there r h 2144 (omega arith);
+      ofAtmax = view-there r h 2400 (omega arith);
+      ofAtround = view-there r h 2656 (omega arith);
+      ofKept = view-there r h 2912 (omega arith);
     }
-  where
-    whole : (s : List ℕ) (n : ℕ) → length s ≡ n → take n s ≡ s
-    whole s n e = let q : length s ≤ n = omega arith in take-all n s q
-
-    view : (at : ℕ) → at + 256 ≤ length r → part r at 256 ≡ viewBytes 16 (viewOf 16 (part r at 256))
-    view at m =
-        let e : length (part r at 256) ≡ 256 = length-part r at 256 m in
-        sym (view-bytes-back 16 (part r at 256) (part-bytes r at 256 h) (omega arith) ∙ whole (part r at 256) 256 e)
 
 -- what is put inside a section
 part-inner : (r : List ℕ) (at len j : ℕ) (v : List ℕ) → at + len ≤ length r → j + length v ≤ len
@@ -286,3 +289,32 @@ tag-read r i w lo hi =
 pub heard-read : (r : List ℕ) (s w : ℕ) → 1 ≤ s → s ≤ 16 → 1 ≤ w → w ≤ 16
     → word r (cellPlace s w) ≡ heardOf (words 256 r heardPlace) s w
 heard-read r s w ls hs lw hw = sym (getD-tab 256 (λ i. word r (heardPlace + 8 * i)) (cell s w) 0 (omega arith))
+
+-- ---- the newest entries, each read where it stands and all of them one after the other
+
+entry-read : (r : List ℕ) (i w : ℕ) → Bytes r → length r ≡ recordSize → i ≤ 3 → 1 ≤ w → w ≤ 16
+    → part r (entryPlace i w) 16 ≡ entryBytes (tagOf (viewIn r i) w) (reportOf (viewIn r i) w)
+unfolding viewBytes
+entry-read r i w h l b lo hi =
+    let v = viewIn r i in
+    sym (part-part r (viewPlace i) 256 (16 * (w - 1)) 16 (omega arith))
+    ∙ ap (λ (s : List ℕ). part s (16 * (w - 1)) 16) (view-there r h (viewPlace i) (omega arith))
+    ∙ part-join 16 16 (λ j. entryBytes (getD (v .tags) j 0) (getD (v .reports) j noReport)) (w - 1) (λ j. refl) (omega arith)
+
+pub newest-read : (r : List ℕ) (t w : ℕ) → Bytes r → length r ≡ recordSize → 1 ≤ w → w ≤ 16 → (b : Bool)
+    → leb (tagOf (viewIn r 0) w) t ≡ b
+    → part r (pick b (entryPlace 0 w) (entryPlace 1 w)) 16 ≡ newestEntry t (viewIn r 0) (viewIn r 1) w
+newest-read r t w h l lo hi true e = rw e (entry-read r 0 w h l (omega arith) lo hi)
+newest-read r t w h l lo hi false e = rw e (entry-read r 1 w h l (omega arith) lo hi)
+
+pub newest-bytes : (t : ℕ) (last held : View)
+    → join 16 (λ i. newestEntry t last held (i + 1)) ≡ viewBytes 16 (newest t last held)
+unfolding viewBytes newest
+newest-bytes t last held =
+    let v = newest t last held in
+    join-ext 16 (λ i. newestEntry t last held (i + 1)) _
+    (λ i l. let e : i + 1 - 1 ≡ i = omega arith in
+    ap₂ entryBytes
+    (sym (getD-table 16 (newestTag t last held) (i + 1) 0 (omega arith) (omega arith)) ∙ ap (λ (j : ℕ). getD (v .tags) j 0) e)
+    (sym (getD-table 16 (newestReport t last held) (i + 1) noReport (omega arith) (omega arith))
+    ∙ ap (λ (j : ℕ). getD (v .reports) j noReport) e))

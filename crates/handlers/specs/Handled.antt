@@ -1,15 +1,15 @@
 -- A message handled on the bytes of a record: the words that the handlers' contracts use beside those of the record.
 use Prim.Native.Nat.{ℕ, _+_, _-_, _*_, max}
-use mathlib.Core.Bool.{Bool, true, not}
+use mathlib.Core.Bool.{Bool}
 use mathlib.Core.List.{List}
-use lib.Dec.{leb, eqb}
+use lib.Dec.{eqb}
 use Rattle.octets.specs.Test.{pick}
 use Rattle.octets.specs.Bytes.{be, put}
 use Rattle.view.specs.View.{entryBytes}
 use Rattle.view.specs.declared.Report.{Report}
-use Rattle.table.specs.Table.{cell}
-use Rattle.table.specs.Quorum.{member, with, size, isQuorum, agreeing}
-use Rattle.record.specs.declared.Node.{Node}
+use Rattle.view.specs.declared.View.{View}
+use Rattle.table.specs.Table.{cell, newestTag, newestReport}
+use Rattle.table.specs.Quorum.{member, with}
 use Rattle.record.specs.declared.Wait.{Wait}
 use Rattle.record.specs.declared.Wait.the-variants.{Idle, Reading, Writing, Comparing, Borrowing}
 use Rattle.region.specs.Record.{heardPlace, viewPlace, scalar, waitIn}
@@ -25,6 +25,10 @@ entryPlace i w = viewPlace i + 16 * (w - 1)
 -- The bytes with another entry of writer w in view i, where the flag says so.
 abbrev pub putWhere : Bool → (i w t : ℕ) → Report → List ℕ → List ℕ
 putWhere flag i w t p r = pick flag (put r (entryPlace i w) (entryBytes t p)) r
+
+-- The bytes of writer w's entry in `newest`.
+abbrev pub newestEntry : (t : ℕ) (last held : View) (w : ℕ) → List ℕ
+newestEntry t last held w = entryBytes (newestTag t last held w) (newestReport t last held w)
 
 -- The bytes after a value of writer w from sender s: the tag heard, and the entries that the flags say.
 unfoldable pub entered : (s w t : ℕ) → Report → (fresh held round : Bool) → List ℕ → List ℕ
@@ -61,11 +65,3 @@ writeWait request s q t Idle = Idle
 writeWait request s q t (Reading o a m) = Reading o a m
 writeWait request s q t (Comparing k i r) = Comparing k i r
 writeWait request s q t (Borrowing k r) = Borrowing k r
-
--- The open operation does not move on: no pass does anything.
-abbrev pub stays : ℕ → Node → Wait → Bool
-stays f c Idle = true
-stays f c (Reading o a m) = not (isQuorum (c .n) f (size (c .n) a))
-stays f c (Writing k i r a) = not (isQuorum (c .n) f (size (c .n) a))
-stays f c (Comparing k i r) = not (isQuorum (c .n) f (agreeing (c .n) (c .own) (c .heard) (c .atround .tags)))
-stays f c (Borrowing k r) = not (leb r (c .kept))

@@ -1,6 +1,5 @@
 // The handlers of the seven kinds of message on the bytes of a record: what `node::react` does to a record by value,
 // done where the record lies. Few bytes change in most events, so neither is the record read whole nor written whole.
-pub mod rest;
 pub mod tables;
 
 use node::Sent;
@@ -9,9 +8,9 @@ use node::react::sent_where;
 use node::react::write_sent;
 use octets::and;
 use octets::get_word;
+use octets::put_bytes;
 use octets::put_word;
 use record::Wait;
-use region::stored::load_view;
 use region::stored::load_wait;
 use region::stored::save_head;
 use region::stored::save_view;
@@ -19,8 +18,8 @@ use table::larger;
 use table::or;
 use table::quorum::is_member;
 use table::quorum::with_member;
-use table::views::newest_view;
 use tables::heard_in;
+use tables::newest_in;
 use tables::put_where;
 use tables::tag_in;
 use view::Report;
@@ -49,7 +48,7 @@ pub struct Head {
     pub wait: Wait,
 }
 
-fn head_of(r: &[u8]) -> Head
+pub fn head_of(r: &[u8]) -> Head
     requires { ⌜ length (now r) ≡ recordSize ⌝ }
     ensures { λ h. ⌜ h ≡ headOf (now (r .entry)) ⌝ }
 {
@@ -64,7 +63,7 @@ fn head_of(r: &[u8]) -> Head
 }
 
 // The record waits for something else.
-fn waiting_in(r: &mut [u8], w: Wait)
+pub fn waiting_in(r: &mut [u8], w: Wait)
     requires { ⌜ length (now r) ≡ recordSize ⌝ }
     ensures { λ _. ⌜ now (r .exit) ≡ recordBytes (waiting (recordOf (now (r .entry))) w) ⌝ }
 {
@@ -81,7 +80,8 @@ fn raised_in(r: &mut [u8], t: u64) -> bool
     let h = head_of(r);
     let wait = h.wait;
     if h.maxtag < t {
-        save_view(r, 1, newest_view(t, load_view(r, 0), load_view(r, 1)));
+        let v = newest_in(r, t);
+        put_bytes(r, 2400, &v);
         save_head(r, h.n, h.own, t, h.request, h.kept, wait);
         return true;
     }

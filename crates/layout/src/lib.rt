@@ -12,7 +12,7 @@ ghost use Rattle.table.specs.Loop.{all, count};
 ghost use Rattle.region.specs.Channel.{slotSize, countOf, first};
 ghost use Rattle.region.specs.Record.{recordSize, recordOf, recordBytes};
 ghost use Rattle.block.specs.Block.{recordIn, keep, takeOff, receive, halt, blockSound};
-ghost use Rattle.layout.specs.Layout.{clusterSize, size as sizeOf, stated, block, stopped, node, channel, onBlock, fits, sound, isNode};
+ghost use Rattle.layout.specs.Layout.{clusterSize, size as sizeOf, stated, block, stopped, channel, onBlock, fits, sound, isNode};
 
 // The bytes to lend for a cluster of n nodes; 0 where there may be none.
 pub fn size(n: usize) -> usize
@@ -40,16 +40,6 @@ pub fn stopped_at(b: &[u8], c: usize) -> bool
     let at = 1 + BLOCK * (c - 1);
     let end = at + BLOCK;
     block::has_stopped(&b[at..end])
-}
-
-// The record of node c.
-pub fn node_at(b: &[u8], c: usize) -> Node
-    requires { ⌜ (1 ≤ c) × (clusterSize c ≤ length (now b)) ⌝ }
-    ensures { λ r. ⌜ r ≡ node (now (b .entry)) c ⌝ }
-{
-    let at = 1 + BLOCK * (c - 1);
-    let end = at + BLOCK;
-    block::node_in(&b[at..end])
 }
 
 // How many messages wait on the channel from a to c.

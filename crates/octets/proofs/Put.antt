@@ -170,6 +170,31 @@ pub put-then : (b : List ℕ) (at : ℕ) (u v : List ℕ) (k : ℕ) {y z : List 
     → y ≡ put b at u → z ≡ put y k v → z ≡ put b at (u ++ v)
 put-then b at u v k h e p q = q ∙ ap (λ (t : List ℕ). put t k v) p ∙ put-after b at u v k h e
 
+-- a run over one at the same place that is no longer
+put-again : (b : List ℕ) (at : ℕ) (w v : List ℕ) → at ≤ length b → length w ≤ length v
+    → put (put b at w) at v ≡ put b at v
+unfolding put
+put-again b at w v h l =
+    let p : List ℕ = take at b ++ w in
+    let rest : List ℕ = drop (at + length w) b in
+    let j : ℕ = length v - length w in
+    let m : length (take at b ++ w) ≡ at + length w = simp (length-append, length-take) (omega arith) in
+    let e : at + length v ≡ length p + j = omega arith in
+    let f : at + length w + j ≡ at + length v = omega arith in
+    ap₂ (λ (s t : List ℕ). s ++ v ++ t)
+    (ap (λ (t : List ℕ). take at t) (append-assoc (take at b) w rest)
+    ∙ take-at (take at b) (w ++ rest) at (length-take-le at b h))
+    (ap (λ (n : ℕ). drop n (p ++ rest)) e ∙ drop-append-add p rest j ∙ drop-drop j (at + length w) b
+    ∙ ap (λ (n : ℕ). drop n b) f)
+
+-- what is written over the end of a run covers it
+pub put-cover : (b : List ℕ) (at : ℕ) (u w v : List ℕ) (k : ℕ) {y z : List ℕ} → k + length v ≤ length b
+    → at + length u ≡ k → length w ≤ length v → y ≡ put b at (u ++ w) → z ≡ put y k v → z ≡ put b at (u ++ v)
+put-cover b at u w v k h e l p q =
+    let n : length (put b at u) ≡ length b = length-put b at u (omega arith) in
+    q ∙ ap (λ (t : List ℕ). put t k v) (p ∙ sym (put-after b at u w k (omega arith) e))
+    ∙ put-again (put b at u) k w v (omega arith) l ∙ put-after b at u v k (omega arith) e
+
 -- all of it
 pub put-over : (b v : List ℕ) → length v ≡ length b → put b 0 v ≡ v
 unfolding put

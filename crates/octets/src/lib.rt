@@ -5,7 +5,7 @@ ghost use Prim.Native.Nat.{_+_, _-_, _*_, _<_, _≤_, min};
 ghost use lib.ListN.{length, replicate};
 ghost use Rattle.octets.specs.Test.{both};
 ghost use Rattle.octets.specs.Bytes.{num, be, put};
-ghost use Rattle.octets.specs.Word.{word, words, wordBytes};
+ghost use Rattle.octets.specs.Word.{word, wordBytes};
 
 // A byte as a wide number.
 pub fn wide(x: u8) -> u64
@@ -123,18 +123,6 @@ pub fn put_word(b: &mut [u8], at: usize, x: u64)
     put_bytes(b, at, &d);
 }
 
-// Fills t with the words of b, from a place on.
-fn get_words(b: &[u8], at: usize, t: &mut [u64])
-    requires { ⌜ at + 8 * length (now t) ≤ length (now b) ⌝ }
-    ensures { λ _. ⌜ now (t .exit) ≡ words (length (now (t .entry))) (now (b .entry)) at ⌝ }
-{
-    let mut i = 0;
-    while i < t.len() {
-        t[i] = get_word(b, at + 8 * i);
-        i += 1;
-    }
-}
-
 // Writes the words of t into b, from a place on.
 pub fn put_words(b: &mut [u8], at: usize, t: &[u64])
     requires { ⌜ at + 8 * length (now t) ≤ length (now b) ⌝ }
@@ -147,16 +135,7 @@ pub fn put_words(b: &mut [u8], at: usize, t: &[u64])
     }
 }
 
-// Tables of 256 words: an array that is a field of a struct is lent whole.
-pub fn get_table256(b: &[u8], at: usize) -> [u64; 256]
-    requires { ⌜ at + 2048 ≤ length (now b) ⌝ }
-    ensures { λ r. ⌜ r ≡ words 256 (now (b .entry)) at ⌝ }
-{
-    let mut t = [0u64; 256];
-    get_words(b, at, &mut t);
-    t
-}
-
+// A table of 256 words: an array that is a field of a struct is lent whole.
 pub fn put_table256(b: &mut [u8], at: usize, t: &[u64; 256])
     requires { ⌜ at + 2048 ≤ length (now b) ⌝ }
     ensures { λ _. ⌜ now (b .exit) ≡ put (now (b .entry)) at (wordBytes (now (t .entry))) ⌝ }

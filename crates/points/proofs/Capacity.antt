@@ -139,7 +139,8 @@ module _ (b : List ℕ) (c : ℕ) (o : Operation) (fit : fits b ≡ true) (usabl
 
   settles : begin c o Whole b ≡ settle n c c Whole step b b
   settles = begin-is c o Whole b n refl fit usable ∙ begin-opens c o Whole b n (node-is n c at) stands
-      ∙ open-settles n c o Whole b (node b c) refl idle left refl refl refl
+      ∙ open-settles n c o Whole b (node b c) refl idle left refl (sound-n b usable n c refl (node-is n c at))
+      (omega (arith, at .0, at .1)) asks
 
   -- Refusal 11 counts one message more on each channel.
   judged : roomy n c (entries n c (step .outbox)) (stepped n c Whole step b) ≡ all n (roomBefore false 0 c out b)

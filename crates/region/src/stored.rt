@@ -12,7 +12,7 @@ ghost use lib.ListN.{length};
 ghost use Rattle.octets.specs.Bytes.{part, put};
 ghost use Rattle.octets.specs.Word.{wordBytes};
 ghost use Rattle.view.specs.View.{viewBytes};
-ghost use Rattle.region.specs.Record.{recordSize, scalar, kindCode, kindOf, operationOf, waitOf, waitIn, waitWords, waitReport, waitBytes, viewsBytes, viewPlace, viewIn, recordOf, recordBytes};
+ghost use Rattle.region.specs.Record.{recordSize, scalar, kindCode, kindOf, operationOf, waitOf, waitIn, waitWords, waitReport, waitBytes, viewsBytes, viewPlace, viewIn, recordBytes};
 
 fn kind_of(code: u64) -> Kind
     ensures { λ r. ⌜ r ≡ kindOf code ⌝ }
@@ -105,26 +105,6 @@ pub fn load_view(b: &[u8], i: usize) -> View
     let at = 2144 + 256 * i;
     let end = at + 256;
     view::read_view(16, &b[at..end])
-}
-
-// The record that the bytes are.
-pub fn load(b: &[u8]) -> Node
-    requires { ⌜ length (now b) ≡ recordSize ⌝ }
-    ensures { λ r. ⌜ r ≡ recordOf (now (b .entry)) ⌝ }
-{
-    Node {
-        n: word(b, 0) as usize,
-        own: word(b, 1) as usize,
-        maxtag: word(b, 2),
-        request: word(b, 3),
-        kept: word(b, 4),
-        wait: load_wait(b),
-        heard: octets::get_table256(b, 96),
-        last: load_view(b, 0),
-        atmax: load_view(b, 1),
-        atround: load_view(b, 2),
-        keptview: load_view(b, 3),
-    }
 }
 
 // The words of a wait.

@@ -7,7 +7,7 @@ use lib.ListN.{length, replicate}
 use Rattle.octets.specs.Bytes.{Bytes, num, be, part}
 use Rattle.octets.proofs.Number.{num-be-suc, be-num, be-bytes, num-zero}
 use Rattle.octets.proofs.Put.{part-add, part-all, part-bytes, length-part}
-use Rattle.view.specs.Report.{Counts, noReport, reportBytes, reportOf}
+use Rattle.view.specs.Report.{Counts, noReport, reportBytes, reportOf, reportFrom, reportNumber}
 use Rattle.view.specs.declared.Report.{Report}
 
 pub report-back : (p : Report) → reportOf (reportBytes p) ≡ p
@@ -53,3 +53,10 @@ report-bytes p h =
     (bytes-append a b (be-bytes 2 (p .extensions) (h .extensions)) (be-bytes 2 (p .lines) (h .lines)))
     (be-bytes 2 (p .waiting) (h .waiting)))
     (be-bytes 2 (p .wakeups) (h .wakeups))
+
+-- eight bytes are the report of their number, and the bytes of a report are those of its number
+pub from-number : (b : List ℕ) → Bytes b → length b ≡ 8 → reportFrom (num b) ≡ reportOf b
+from-number b h l = ap reportOf (ap (λ (k : ℕ). be k (num b)) (sym l) ∙ be-num b h)
+
+pub number-bytes : (p : Report) → Counts p → be 8 (reportNumber p) ≡ reportBytes p
+number-bytes p h = be-num (reportBytes p) (report-bytes p h)

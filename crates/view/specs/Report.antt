@@ -36,3 +36,7 @@ reportOf b =
       wakeups = num
           (part b 6 2);
     }
+
+-- the report whose number is x
+abbrev pub reportFrom : ℕ → Report
+reportFrom x = reportOf (be 8 x)

@@ -3,7 +3,7 @@ ghost use mathlib.Core.Path.{_≡_};
 ghost use Prim.Native.Nat.{_+_, _*_, _≤_};
 ghost use lib.ListN.{length};
 ghost use Rattle.octets.specs.Bytes.{put};
-ghost use Rattle.view.specs.Report.{noReport, isNone, reportBytes, reportOf};
+ghost use Rattle.view.specs.Report.{noReport, isNone, reportBytes, reportNumber, reportOf, reportFrom};
 ghost use Rattle.view.specs.View.{noView, viewBytes, viewOf, entryOk, viewOk};
 
 // The most nodes; the greatest tag and request number, 2^63 - 1; the bytes of a report and of a view's entry.
@@ -15,12 +15,13 @@ pub const REPORT: usize = 8;
 
 pub const ENTRY: usize = 16;
 
-// What one node reports: document 01's report, four counts.
+// What one node reports: document 01's report, four counts. The last is the first in memory, so that there a report lies
+// as its number does.
 pub struct Report {
-    pub extensions: u16,
-    pub lines: u16,
-    pub waiting: u16,
     pub wakeups: u16,
+    pub waiting: u16,
+    pub lines: u16,
+    pub extensions: u16,
 }
 
 // A tag and a report for each of up to sixteen nodes; tag 0 and a zero report mean no report.
@@ -58,28 +59,39 @@ pub fn absent() -> View
     }
 }
 
+// A report as one number, that of its eight bytes, and back: quicker than byte by byte.
+pub fn report_number(p: Report) -> u64
+    ensures { λ r. ⌜ r ≡ reportNumber p ⌝ }
+{
+    let high = p.extensions as u64 * 65536 + p.lines as u64;
+    let low = p.waiting as u64 * 65536 + p.wakeups as u64;
+    high * 4294967296 + low
+}
+
+pub fn report_from(x: u64) -> Report
+    ensures { λ r. ⌜ r ≡ reportFrom x ⌝ }
+{
+    Report {
+        extensions: (x / 281474976710656) as u16,
+        lines: (x / 4294967296 % 65536) as u16,
+        waiting: (x / 65536 % 65536) as u16,
+        wakeups: (x % 65536) as u16,
+    }
+}
+
 // The report that eight bytes are.
 pub fn read_report(b: &[u8]) -> Report
     requires { ⌜ length (now b) ≡ 8 ⌝ }
     ensures { λ r. ⌜ r ≡ reportOf (now (b .entry)) ⌝ }
 {
-    Report {
-        extensions: octets::number2(&b[0..2]),
-        lines: octets::number2(&b[2..4]),
-        waiting: octets::number2(&b[4..6]),
-        wakeups: octets::number2(&b[6..8]),
-    }
+    report_from(octets::number8(b))
 }
 
 // The eight bytes of a report.
 pub fn report_bytes(p: Report) -> [u8; 8]
     ensures { λ r. ⌜ r ≡ reportBytes p ⌝ }
 {
-    let a = octets::digits2(p.extensions);
-    let b = octets::digits2(p.lines);
-    let c = octets::digits2(p.waiting);
-    let d = octets::digits2(p.wakeups);
-    [a[0], a[1], b[0], b[1], c[0], c[1], d[0], d[1]]
+    octets::digits8(report_number(p))
 }
 
 // Whether an entry may stand in a view whose tags are at most `top`; `report` is the number of its report's bytes.

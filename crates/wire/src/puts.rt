@@ -6,7 +6,7 @@ use crate::VALUE;
 use crate::Written;
 use view::Report;
 ghost use mathlib.Core.Path.{_≡_};
-ghost use mathlib.Core.List.{_++_};
+ghost use mathlib.Core.List.{[], _∷_, _++_};
 ghost use Prim.Native.Nat.{_≤_};
 ghost use lib.ListN.{length};
 ghost use lib.Dec.{leb};
@@ -17,13 +17,26 @@ ghost use Rattle.wire.specs.Layout.{field, kind, tag, request, writer, r
 ghost use Rattle.wire.specs.Codec.{after};
 ghost use Rattle.wire.specs.Outcome.{written};
 
+// The head of a tag as a word: the bytes 3, 0, 8, and five for what follows.
+const TAG_HEAD: u64 = 216181578206806016;
+
+// A field of one byte and the head of one of eight, as a word: seven bytes, and one for what follows.
+fn head_word(first: u8, x: u8, mark: u8) -> u64
+    ensures { λ r. ⌜ be 8 r ≡ first ∷ 0 ∷ 1 ∷ x ∷ mark ∷ 0 ∷ 8 ∷ 0 ∷ [] ⌝ }
+{
+    octets::wide(first) * 72057594037927936
+        + 1099511627776
+        + octets::wide(x) * 4294967296
+        + octets::wide(mark) * 16777216
+        + 2048
+}
+
 // Writes a message of two fields: its kind and a number.
 fn put_one(out: &mut [u8], k: u8, mark: u8, x: u64)
     requires { ⌜ 15 ≤ length (now out) ⌝ }
     ensures { λ _. ⌜ now (out .exit) ≡ put (now (out .entry)) 0 (kind k ++ field mark (be 8 x)) ⌝ }
 {
-    let h = [1u8, 0, 1, k, mark, 0, 8];
-    octets::put_bytes(out, 0, &h);
+    octets::put_word(out, 0, head_word(1, k, mark));
     octets::put_word(out, 7, x);
 }
 
@@ -47,8 +60,7 @@ pub(crate) fn two(out: &mut [u8], k: u8, r: u64, t: u64) -> Written
 {
     if READ_ANSWER <= out.len() {
         put_one(out, k, 2, r);
-        let h = [3u8, 0, 8];
-        octets::put_bytes(out, 15, &h);
+        octets::put_word(out, 15, TAG_HEAD);
         octets::put_word(out, 18, t);
         Written::Length(READ_ANSWER)
     } else {
@@ -63,8 +75,7 @@ pub(crate) fn value(out: &mut [u8], t: u64, w: u8, p: Report) -> Written
 {
     if VALUE <= out.len() {
         put_one(out, 6, 3, t);
-        let h = [4u8, 0, 1, w, 5, 0, 8];
-        octets::put_bytes(out, 15, &h);
+        octets::put_word(out, 15, head_word(4, w, 5));
         let d = view::report_bytes(p);
         octets::put_bytes(out, 22, &d);
         Written::Length(VALUE)

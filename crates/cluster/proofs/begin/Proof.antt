@@ -5,7 +5,8 @@ use mathlib.Core.Bool.{true}
 use borrow.Author.Tests.{not-true, not-false}
 use Rattle.layout.specs.Layout.{fits, sound, isNode}
 use Rattle.layout.proofs.Check.{is-node, fits-some}
-use Rattle.cluster.proofs.Told.{refuses, becomes, n-most, n-length, n-usable, begin-unfit, begin-unsound, begin-is, begin-nowhere, begin-stopped, begin-opens}
+use Rattle.cluster.proofs.Handed.{sound-n}
+use Rattle.cluster.proofs.Told.{refuses, becomes, n-most, n-length, begin-unfit, begin-unsound, begin-is, begin-nowhere, begin-stopped, begin-opens}
 use Rattle.cluster.proofs.begin.Statement.{statement}
 use Rattle.cluster.proofs.begin.Tie as tie
 
@@ -85,7 +86,7 @@ open-at-requires c κs = let f : fits (c .before .before .before .before .before
       h .0,
       h .1,
       n-length (c .before .before .before .before .before .before .before .before .before .before .before .before .before .before .before .args .b .now) (c .before .before .before .before .before .before .index .result) (c .before .before .before .before .before .before .index .ensures .0) f s,
-      n-usable (c .before .before .before .before .before .before .before .before .before .before .before .before .before .before .before .args .b .now) (c .before .before .before .before .before .before .index .result) (c .before .before .before .before .before .before .index .ensures .0) f s (c .before .before .before .before .before .before .before .before .before .before .before .before .before .before .before .args .c) k,
+      sound-n (c .before .before .before .before .before .before .before .before .before .before .before .before .before .before .before .args .b .now) s (c .before .before .before .before .before .before .index .result) (c .before .before .before .before .before .before .before .before .before .before .before .before .before .before .before .args .c) (c .before .before .before .before .before .before .index .ensures .0) k,
     )
 
 same-length-5 : tie.Need-same-length-5

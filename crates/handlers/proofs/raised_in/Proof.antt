@@ -7,9 +7,6 @@ use mathlib.Core.Bool.{true, false}
 use lib.Dec.{ltb}
 use borrow.Author.Tests.{lt-ltb, le-ltb}
 use Rattle.octets.specs.Bytes.{put}
-use Rattle.view.specs.View.{viewBytes}
-use Rattle.view.specs.declared.View.{View}
-use Rattle.table.specs.Table.{newest}
 use Rattle.region.specs.Record.{scalar, recordOf}
 use Rattle.handlers.specs.declared.Head.{Head}
 use Rattle.handlers.proofs.Handling.{headBytes, raised-bytes}
@@ -19,29 +16,40 @@ use Rattle.handlers.proofs.raised_in.Tie as tie
 returns : tie.Need-returns
 unfolding recordOf
 returns c =
-    let a = c .before .before .before .before .before .before .before .before .before .before .before .before .before .before .before .before .before .before .args in
+    let save-head = c .before .before .save-head in
+    let put-bytes = c .before .before .before .before .before .before .put-bytes in
+    let c1 = c .before .before .before .before .before .before .before .before .before in
+    let c2 = c1 .before .before in
+    let head = c2 .before .before .head-of .ensures in
+    let c3 = c2 .before .before .before .before in
+    let a = c3 .before .args in
     let r = a .r .now in
-    let e : ltb (scalar r 2) (a .t) ≡ true = sym (ap (λ (h : Head). ltb (h .maxtag) (a .t)) (c .before .before .before .before .before .before .before .before .before .before .before .before .before .before .before .head-of .ensures)) ∙ lt-ltb _ _ (c .before .before .before .before .before .before .before .before .before .before .before .before .before .if1 .taken) in (
+    let e : ltb (scalar r 2) (a .t) ≡ true =
+    sym (ap (λ (h : Head). ltb (h .maxtag) (a .t)) head) ∙ lt-ltb _ _ (c2 .if1 .taken) in (
       sym e,
-      c .before .before .save-head .ensures
-          ∙ ap₂ (λ (x : List ℕ) (h : Head). put x 0 (headBytes h (a .t) (h .kept) (h .wait)))
-          (c .before .before .before .before .before .before .save-view .ensures ∙ ap (λ (v : View). put r 2400 (viewBytes 16 v)) (c .before .before .before .before .before .before .before .newest-view .ensures
-          ∙ ap₂ (λ (x y : View). newest (a .t) x y) (c .before .before .before .before .before .before .before .before .before .before .load-view .ensures) (c .before .before .before .before .before .before .before .before .load-view2 .ensures))) (c .before .before .before .before .before .before .before .before .before .before .before .before .before .before .before .head-of .ensures)
-          ∙ raised-bytes r (λ i. c .before .before .before .before .before .before .before .before .before .before .before .before .before .before .before .before .before .slice-known .given i .fits) (c .before .before .before .before .before .before .before .before .before .before .before .before .before .before .before .before .before .before .pre) (a .t) true e,
+      save-head .ensures ∙ ap₂ (λ (x : List ℕ) (h : Head). put x 0 (headBytes h (a .t) (h .kept) (h .wait)))
+          (put-bytes .ensures ∙ ap (put r 2400) (c1 .newest-in .ensures)) head
+          ∙ raised-bytes r (λ i. c3 .slice-known .given i .fits) (c3 .before .pre) (a .t) true e,
     )
 
 returns-2 : tie.Need-returns-2
 unfolding recordOf
 returns-2 c =
-    let a = c .before .before .before .before .before .before .before .before .before .args in
+    let save-head = c .before .before .save-head2 in
+    let c1 = c .before .before .before .before in
+    let head = c1 .before .before .head-of .ensures in
+    let c2 = c1 .before .before .before .before in
+    let a = c2 .before .args in
     let r = a .r .now in
-    let e : ltb (scalar r 2) (a .t) ≡ false = sym (ap (λ (h : Head). ltb (h .maxtag) (a .t)) (c .before .before .before .before .before .before .head-of .ensures)) ∙ le-ltb _ _ (c .before .before .before .before .if1 .left) in (
+    let e : ltb (scalar r 2) (a .t) ≡ false =
+    sym (ap (λ (h : Head). ltb (h .maxtag) (a .t)) head) ∙ le-ltb _ _ (c1 .if1 .left) in (
       sym e,
-      c .before .before .save-head2 .ensures ∙ ap (λ (h : Head). put r 0 (headBytes h (h .maxtag) (h .kept) (h .wait))) (c .before .before .before .before .before .before .head-of .ensures)
-          ∙ raised-bytes r (λ i. c .before .before .before .before .before .before .before .before .slice-known .given i .fits) (c .before .before .before .before .before .before .before .before .before .pre) (a .t) false e,
+      save-head .ensures ∙ ap (λ (h : Head). put r 0 (headBytes h (h .maxtag) (h .kept) (h .wait))) head
+          ∙ raised-bytes r (λ i. c2 .slice-known .given i .fits) (c2 .before .pre) (a .t) false e,
     )
 
 pub raised-in-spec : {M : Type 1} → statement M
 raised-in-spec =
     tie.close
-    (tie.spec (λ c κs. search needs) (λ c κs. search needs) (λ c κs. search needs) (λ c κs. search needs) (λ c κs. search needs) (λ c κs. search needs) (λ c. search needs) returns (λ c κs. search needs) (λ c. search needs) returns-2)
+    (tie.spec (λ c κs. search needs) (λ c κs. search needs) (λ c. search needs) (λ c κs. search needs) (λ c κs. search needs)
+    (λ c. search needs) returns (λ c κs. search needs) (λ c. search needs) returns-2)

@@ -1,31 +1,16 @@
 -- `view::report_bytes` meets its contract.
 use borrow.Author.Needs.{needs}
+use mathlib.Core.Path.{ap, _∙_}
+use Prim.Native.Nat.{_^_}
+use Rattle.octets.specs.Bytes.{be}
+use Rattle.view.proofs.ReportBytes.{number-bytes}
 use Rattle.view.proofs.report_bytes.Statement.{statement}
 use Rattle.view.proofs.report_bytes.Tie as tie
 
 returns : tie.Need-returns
-returns c = simp (
-  c .digits24 .ensures,
-  c .before .digits23 .ensures,
-  c .before .before .digits22 .ensures,
-  c .before
-      .before .before .digits2 .ensures,
-)
+returns c =
+    c .digits8 .ensures ∙ ap (be 8) (c .before .report-number .ensures)
+    ∙ number-bytes (c .before .before .args .p) (record { extensions = search needs; lines = search needs; waiting = search needs; wakeups = search needs })
 
 pub report-bytes-spec : {M : Type 1} → statement M
-report-bytes-spec =
-    tie.close
-    (tie.spec
-    (λ c κs. search needs)
-    (λ c κs. search needs)
-    (λ c κs. search needs)
-    (λ c κs. search needs)
-    (λ c. search needs)
-    (λ c. search needs)
-    (λ c. search needs)
-    (λ c. search needs)
-    (λ c. search needs)
-    (λ c. search needs)
-    (λ c. search needs)
-    (λ c. search needs)
-    returns)
+report-bytes-spec = tie.close (tie.spec (λ c κs. search needs) (λ c κs. search needs) returns)

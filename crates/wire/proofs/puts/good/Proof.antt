@@ -1,7 +1,7 @@
 -- `wire::puts::good` meets its contract.
 use borrow.Author.Needs.{needs}
 use mathlib.Core.Path.{_≡_, refl, sym, ap, _∙_}
-use Prim.Native.Nat.{ℕ, _+_, _/_, _%_}
+use Prim.Native.Nat.{ℕ, _+_, _/_, _%_, _≤_}
 use mathlib.Core.List.{List, [], _∷_, _++_}
 use borrow.Author.Tests.{le-leb, lt-leb}
 use native.Mathlib.Omega.{arith}
@@ -15,19 +15,24 @@ use Rattle.wire.proofs.puts.good.Tie as tie
 
 returns : tie.Need-returns
 returns c =
-    let a = c .before .before .before .before .before .before .before .before .before .before .before .before .before .before .before .before .args in
+    let c2 = c .before .before in
+    let c6 = c2 .before .before .before .before in
+    let c11 = c6 .before .before .before .before .before in
+    let c16 = c11 .before .before .before .before .before in
+    let a = c16 .args in
     let o = a .out .now in
-    let u = kind 7 ++ tag (a .t) in
     let n = length (a .v .now) in
+    let room : 18 + n ≤ length o = c11 .before .before .if1 .taken in
+    let u = kind 7 ++ tag (a .t) in
     let h : List ℕ = 6 ∷ be 2 n in
     let k : length (u ++ view (a .v .now)) ≡ 18 + n = omega arith in
-    let head = c .before .before .before .before .before .before .before .before .before .before .before .put-one in
-    let field = c .before .before .before .before .before .before .put-bytes in
+    let head = c11 .put-one in
+    let field = c6 .put-bytes in
     let q : field .last .0 ≡ put (head .last .0) 15 h =
     field .ensures ∙ ap (λ (x : ℕ). put (head .last .0) 15 (6 ∷ n / 256 ∷ x ∷ [])) (sym (div-one (n % 256))) in (
-      simp (k, le-leb _ _ (c .before .before .before .before .before .before .before .before .before .before .before .before .before .if1 .taken)),
+      simp (k, le-leb _ _ room),
       put-then o 0 (u ++ h) (a .v .now) 18 (omega arith) refl
-          (put-then o 0 u h 15 (omega arith) refl (head .ensures) q) (c .before .before .put-bytes2 .ensures),
+          (put-then o 0 u h 15 (omega arith) refl (head .ensures) q) (c2 .put-bytes2 .ensures),
     )
 
 returns-2 : tie.Need-returns-2

@@ -1,20 +1,29 @@
 -- `wire::puts::put_one` meets its contract.
 use borrow.Author.Needs.{needs}
-use mathlib.Core.Path.{refl}
-use mathlib.Core.List.{[], _∷_}
+use Prim.Native.Nat.{ℕ, _≤_}
+use mathlib.Core.Path.{refl, ap, _∙_}
+use mathlib.Core.List.{List, [], _∷_}
 use native.Mathlib.Omega.{arith}
-use Rattle.octets.specs.Bytes.{be}
-use Rattle.octets.proofs.Put.{put-then}
+use lib.ListN.{length}
+use Rattle.octets.specs.Bytes.{be, put}
+use Rattle.octets.proofs.Put.{put-cover}
 use Rattle.wire.proofs.puts.put_one.Statement.{statement}
 use Rattle.wire.proofs.puts.put_one.Tie as tie
 
 returns : tie.Need-returns
 returns c =
-    let a = c .before .before .before .before .before .before .before .before .before .before .args in
-    put-then (a .out .now) 0 (1 ∷ 0 ∷ 1 ∷ a .k ∷ a .mark ∷ 0 ∷ 8 ∷ []) (be 8 (a .x)) 7 (omega arith) refl
-    (c .before .before .before .before .before .before .put-bytes .ensures) (c .before .before .put-word .ensures)
+    let c2 = c .before .before in
+    let c6 = c2 .before .before .before .before in
+    let c7 = c6 .before in
+    let c10 = c7 .before .before .before in
+    let a = c10 .args in
+    let o = a .out .now in
+    let room : 15 ≤ length o = c10 .pre in
+    let h : List ℕ = 1 ∷ 0 ∷ 1 ∷ a .k ∷ a .mark ∷ 0 ∷ 8 ∷ [] in
+    put-cover o 0 h (0 ∷ []) (be 8 (a .x)) 7 (omega arith) refl (omega arith)
+    (c6 .put-word .ensures ∙ ap (put o 0) (c7 .head-word .ensures)) (c2 .put-word2 .ensures)
 
 pub put-one-spec : {M : Type 1} → statement M
 put-one-spec =
     tie.close
-    (tie.spec (λ c. search needs) (λ c κs. search needs) (λ c κs. search needs) (λ c. search needs) returns)
+    (tie.spec (λ c κs. search needs) (λ c κs. search needs) (λ c κs. search needs) (λ c. search needs) returns)

@@ -1,23 +1,33 @@
 -- `wire::puts::two` meets its contract.
 use borrow.Author.Needs.{needs}
 use mathlib.Core.Path.{refl}
-use mathlib.Core.List.{[], _∷_, _++_}
+use Prim.Native.Nat.{ℕ, _≤_}
+use mathlib.Core.List.{List, [], _∷_, _++_}
 use borrow.Author.Tests.{le-leb, lt-leb}
 use native.Mathlib.Omega.{arith}
+use lib.ListN.{length}
 use Rattle.octets.specs.Bytes.{be}
-use Rattle.octets.proofs.Put.{put-then}
+use Rattle.octets.proofs.Put.{put-then, put-cover}
 use Rattle.wire.specs.Layout.{kind, request}
 use Rattle.wire.proofs.puts.two.Statement.{statement}
 use Rattle.wire.proofs.puts.two.Tie as tie
 
 returns : tie.Need-returns
 returns c =
-    let a = c .before .before .before .before .before .before .before .before .before .before .before .before .before .before .before .args in
-    let u = kind (a .k) ++ request (a .r) in (
-      simp (le-leb _ _ (c .before .before .before .before .before .before .before .before .before .before .before .before .before .if1 .taken)),
-      put-then (a .out .now) 0 (u ++ (3 ∷ 0 ∷ 8 ∷ [])) (be 8 (a .t)) 18 (omega arith) refl
-          (put-then (a .out .now) 0 u (3 ∷ 0 ∷ 8 ∷ []) 15 (omega arith) refl (c .before .before .before .before .before .before .before .before .before .before .before .put-one .ensures) (c .before .before .before .before .before .before .put-bytes .ensures))
-          (c .before .before .put-word .ensures),
+    let c2 = c .before .before in
+    let c6 = c2 .before .before .before .before in
+    let c10 = c6 .before .before .before .before in
+    let c14 = c10 .before .before .before .before in
+    let a = c14 .args in
+    let o = a .out .now in
+    let room : 26 ≤ length o = c10 .before .before .if1 .taken in
+    let u = kind (a .k) ++ request (a .r) in
+    let h : List ℕ = 3 ∷ 0 ∷ 8 ∷ [] in
+    let z : List ℕ = 0 ∷ 0 ∷ 0 ∷ 0 ∷ 0 ∷ [] in (
+      simp (le-leb _ _ room),
+      put-cover o 0 (u ++ h) z (be 8 (a .t)) 18 (omega arith) refl (omega arith)
+          (put-then o 0 u (h ++ z) 15 (omega arith) refl (c10 .put-one .ensures) (c6 .put-word .ensures))
+          (c2 .put-word2 .ensures),
     )
 
 returns-2 : tie.Need-returns-2
@@ -28,7 +38,6 @@ two-spec =
     tie.close
     (tie.spec
     (λ c κs. search needs)
-    (λ c. search needs)
     (λ c κs. search needs)
     (λ c κs. search needs)
     (λ c. search needs)

@@ -1,12 +1,13 @@
 -- `wire::puts::value` meets its contract.
 use borrow.Author.Needs.{needs}
 use mathlib.Core.Path.{refl, ap, _∙_}
-use Prim.Native.Nat.{ℕ}
+use Prim.Native.Nat.{ℕ, _≤_}
 use mathlib.Core.List.{List, [], _∷_, _++_}
 use borrow.Author.Tests.{le-leb, lt-leb}
 use native.Mathlib.Omega.{arith}
+use lib.ListN.{length}
 use Rattle.octets.specs.Bytes.{put}
-use Rattle.octets.proofs.Put.{put-then}
+use Rattle.octets.proofs.Put.{put-then, put-cover}
 use Rattle.view.specs.Report.{reportBytes}
 use Rattle.wire.specs.Layout.{kind, tag}
 use Rattle.wire.proofs.puts.value.Statement.{statement}
@@ -14,14 +15,24 @@ use Rattle.wire.proofs.puts.value.Tie as tie
 
 returns : tie.Need-returns
 returns c =
-    let a = c .before .before .before .before .before .before .before .before .before .before .before .before .before .before .before .before .before .args in
+    let c2 = c .before .before in
+    let c5 = c2 .before .before .before in
+    let c8 = c5 .before .before .before in
+    let c9 = c8 .before in
+    let c13 = c9 .before .before .before .before in
+    let c17 = c13 .before .before .before .before in
+    let a = c17 .args in
     let o = a .out .now in
+    let room : 30 ≤ length o = c13 .before .before .if1 .taken in
     let u = kind 6 ++ tag (a .t) in
-    let h : List ℕ = 4 ∷ 0 ∷ 1 ∷ a .w ∷ 5 ∷ 0 ∷ 8 ∷ [] in (
-      simp (le-leb _ _ (c .before .before .before .before .before .before .before .before .before .before .before .before .before .before .before .if1 .taken)),
-      put-then o 0 (u ++ h) (reportBytes (a .p)) 22 (omega arith) refl
-          (put-then o 0 u h 15 (omega arith) refl (c .before .before .before .before .before .before .before .before .before .before .before .before .before .put-one .ensures) (c .before .before .before .before .before .before .before .before .put-bytes .ensures))
-          (c .before .before .put-bytes2 .ensures ∙ ap (λ (r : List ℕ). put (c .before .before .before .before .before .before .before .before .put-bytes .last .0) 22 r) (c .before .before .before .before .before .report-bytes .ensures)),
+    let h : List ℕ = 4 ∷ 0 ∷ 1 ∷ a .w ∷ 5 ∷ 0 ∷ 8 ∷ [] in
+    let y = c13 .put-one .last .0 in
+    let z = c8 .put-word .last .0 in (
+      simp (le-leb _ _ room),
+      put-cover o 0 (u ++ h) (0 ∷ []) (reportBytes (a .p)) 22 (omega arith) refl (omega arith)
+          (put-then o 0 u (h ++ (0 ∷ [])) 15 (omega arith) refl (c13 .put-one .ensures)
+          (c8 .put-word .ensures ∙ ap (put y 15) (c9 .head-word .ensures)))
+          (c2 .put-bytes .ensures ∙ ap (put z 22) (c5 .report-bytes .ensures)),
     )
 
 returns-2 : tie.Need-returns-2
@@ -32,7 +43,7 @@ value-spec =
     tie.close
     (tie.spec
     (λ c κs. search needs)
-    (λ c. search needs)
+    (λ c κs. search needs)
     (λ c κs. search needs)
     (λ c κs. search needs)
     (λ c. search needs)
