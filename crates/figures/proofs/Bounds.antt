@@ -5,19 +5,21 @@ use mathlib.Core.Bool.{Bool, true, false}
 use mathlib.Core.List.{List}
 use native.Mathlib.Decide.{ℕ-discrete}
 use native.Mathlib.Omega.{arith}
-use lib.ListN.{length, length-take}
+use lib.ListN.{length, getD, length-take}
 use lib.Pow.{pow-mono}
-use lib.Dec.{eqb}
-use borrow.Author.Tests.{eqb-true, eq-eqb, ne-eqb}
+use lib.Dec.{eqb, ltb}
+use borrow.Author.Tests.{eqb-true, eq-eqb, ne-eqb, le-leb, ltb-true}
 use Rattle.octets.specs.Test.{pick, both}
 use Rattle.octets.specs.Bytes.{Bytes, num, part}
 use Rattle.octets.proofs.Test.{both-left, both-right, both-true}
-use Rattle.octets.proofs.Number.{num-lt}
-use Rattle.octets.proofs.Put.{part-bytes}
-use Rattle.octets.proofs.Loop.{sumTo-le}
+use Rattle.octets.proofs.Number.{num-lt, num-eight}
+use Rattle.octets.proofs.Put.{part-bytes, getD-part, length-part}
+use Rattle.octets.specs.Loop.{allTo}
+use Rattle.octets.proofs.Loop.{sumTo-le, allTo-at, allTo-all}
+use Rattle.octets.specs.Word.{word}
 use Rattle.view.specs.Report.{noReport, reportOf}
 use Rattle.view.specs.Size.{limit}
-use Rattle.view.specs.View.{tagAt, reportAt, viewOk}
+use Rattle.view.specs.View.{tagAt, reportAt, viewOk, entryOkAt}
 use Rattle.view.proofs.ViewBytes.{ok-report}
 use Rattle.view.specs.declared.Report.{Report}
 use Rattle.figures.specs.declared.Totals.{Totals}
@@ -43,6 +45,35 @@ long-is n len =
     back h =
         let e : len ≡ 16 * n = eqb-true len (16 * n) h in
         both-true (eq-eqb (len % 16) 0 (omega arith)) (eq-eqb (len / 16) n (omega arith))
+
+-- the first byte of a tag is below 128 and the last is not 0
+abbrev pub plainAt : List ℕ → ℕ → Bool
+plainAt v i = both (ltb (getD v (16 * i) 0) 128) (ltb 0 (getD v (16 * i + 7) 0))
+
+-- such a tag may stand beside any report
+pub plain-entry : (v : List ℕ) (i : ℕ) → Bytes v → 16 * i + 8 ≤ length v → plainAt v i ≡ true → entryOkAt limit v i ≡ true
+plain-entry v i h l e =
+    let at = 16 * i in
+    let lo = ltb (getD v at 0) 128 in
+    let hi = ltb 0 (getD v (at + 7) 0) in
+    let z : at + 0 ≡ at = omega arith in
+    let s = part v at 8 in
+    let g : Bytes (part v at 8) = part-bytes v at 8 h in
+    let first : getD (part v at 8) 0 0 ≡ getD v at 0 =
+    getD-part v at 8 0 (omega arith) ∙ ap (λ (j : ℕ). getD v j 0) z in
+    let last : getD (part v at 8) 7 0 ≡ getD v (at + 7) 0 = getD-part v at 8 7 (omega arith) in
+    let k = num-eight (part v at 8) (length-part v at 8 l) in
+    let m : getD v at 0 < 128 = ltb-true _ _ (both-left lo hi e) in
+    let n : 0 < getD v (at + 7) 0 = ltb-true _ _ (both-right lo hi e) in
+    let most : word v at ≤ limit = omega (arith, k, first, m, g 1, g 2, g 3, g 4, g 5, g 6, g 7) in
+    let some : word v at ≡ 0 → ⊥ = λ x. omega (arith, k, last, n, x) in
+    rw (le-leb (word v at) limit most, ne-eqb (word v at) 0 some) refl
+
+-- tags that are all so are those of a view
+pub plain-view : (n : ℕ) (v : List ℕ) → Bytes v → 16 * n ≤ length v → allTo n (plainAt v) ≡ true → viewOk n limit v ≡ true
+unfolding viewOk
+plain-view n v h l e =
+    allTo-all n (entryOkAt limit v) (λ i m. plain-entry v i h (omega arith) (allTo-at n (plainAt v) i e m))
 
 -- an entry of a valid view shows its report, which is none beside tag 0
 pub shown-is : (n : ℕ) (v : List ℕ) → viewOk n limit v ≡ true → Bytes v → 16 * n ≤ length v → (i : ℕ) → i < n

@@ -32,6 +32,25 @@ fn is_long(n: usize, len: usize) -> bool
     octets::and(len % ENTRY == 0, len / ENTRY == n)
 }
 
+// Whether n entries are a view. A tag whose first byte is below 128 and whose last is not 0 may stand beside any report; a
+// view with another tag is looked at whole.
+fn is_view(n: usize, v: &[u8]) -> bool
+    requires { ⌜ 16 * n ≤ length (now v) ⌝ }
+    ensures { λ r. ⌜ r ≡ viewOk n limit (now (v .entry)) ⌝ }
+{
+    let mut plain = true;
+    let mut i = 0;
+    while i < n {
+        let at = ENTRY * i;
+        plain = octets::and(octets::and(v[at] < 128, 0 < v[at + 7]), plain);
+        i += 1;
+    }
+    if plain {
+        return true;
+    }
+    view::view_ok(n, LIMIT, v)
+}
+
 // The sums over n entries. What stands beside tag 0 is no report, so it adds nothing.
 fn sums(n: usize, v: &[u8]) -> Totals
     requires { ⌜ (n ≤ 16) × (16 * n ≤ length (now v)) × (viewOk n limit (now v) ≡ true) ⌝ }
@@ -67,7 +86,7 @@ pub fn figures(n: usize, v: &[u8]) -> Summed
 {
     if is_long(n, v.len()) {
         if octets::and(1 <= n, n <= NODES) {
-            if view::view_ok(n, LIMIT, v) {
+            if is_view(n, v) {
                 Summed::Sums(sums(n, v))
             } else {
                 Summed::Refused(7)

@@ -11,8 +11,8 @@ use Rattle.figures.specs.Figures.{figuresOf}
 use Rattle.figures.proofs.figures.Statement.{statement}
 use Rattle.figures.proofs.figures.Tie as tie
 
-view-ok-requires : tie.Need-view-ok-requires
-view-ok-requires c κs =
+is-view-requires : tie.Need-is-view-requires
+is-view-requires c κs =
     let a = c .before .before .before .before .before .args in
     let e : length (a .v .now) ≡ 16 * a .n = eqb-true (length (a .v .now)) (16 * a .n)
     (sym (c .before .before .before .is-long .ensures) ∙ c .before .before .if1 .taken) in
@@ -27,7 +27,7 @@ sums-requires c κs =
       leb-true (a .n) 16 (both-right (leb 1 (a .n)) (leb (a .n) 16)
           (sym (c .before .before .before .and .ensures) ∙ c .before .before .if2 .taken)),
       omega arith,
-      sym (c .before .view-ok .ensures) ∙ c .if3 .taken,
+      sym (c .before .is-view .ensures) ∙ c .if3 .taken,
     )
 
 returns : tie.Need-returns
@@ -37,7 +37,7 @@ returns c = simp (
       ∙ c .before .before .before .before .before .if1 .taken,
   sym (c .before .before .before .before .and .ensures)
       ∙ c .before .before .before .if2 .taken,
-  sym (c .before .before .view-ok .ensures)
+  sym (c .before .before .is-view .ensures)
       ∙ c .before .if3 .taken,
   c .sums .ensures,
 )
@@ -49,7 +49,7 @@ returns-2 c = simp (
       ∙ c .before .before .before .before .if1 .taken,
   sym (c .before .before .before .and .ensures)
       ∙ c .before .before .if2 .taken,
-  sym (c .before .view-ok .ensures) ∙ c .if3 .left,
+  sym (c .before .is-view .ensures) ∙ c .if3 .left,
 )
 
 returns-3 : tie.Need-returns-3
@@ -70,7 +70,7 @@ figures-spec =
     (tie.spec
     (λ c κs. search needs)
     (λ c κs. search needs)
-    view-ok-requires
+    is-view-requires
     sums-requires
     returns
     returns-2
