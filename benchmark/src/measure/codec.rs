@@ -92,18 +92,26 @@ fn write_all<S: Side>(cases: &[Case]) -> f64 {
     })
 }
 
-/// Prints figures per second, and answers the largest ratio.
+/// Prints figures per second, of views in which every node has reported and of such with a quarter of the reports absent,
+/// and answers the largest ratio.
 pub fn figures() -> f64 {
     println!("figures, views per second");
-    println!("{:>6} {:>12} {:>12} {:>8}", "nodes", "proved", "plain", "ratio");
+    println!("{:>6} {:>12} {:>12} {:>12} {:>8}", "nodes", "reports", "proved", "plain", "ratio");
     let mut dice = Dice::new(4);
     let mut largest: f64 = 0.0;
     for n in [1, 3, 5, 16] {
-        let views: Vec<Vec<u8>> = (0..64).map(|_| some_view(&mut dice, n, u64::MAX / 2)).collect();
-        let t = Times::of(|| sum_all::<Proved>(n, &views), || sum_all::<Plain>(n, &views));
-        let count = (ROUNDS * views.len()) as f64;
-        println!("{n:>6} {:>12.0} {:>12.0} {:>8.2}", count / t.proved, count / t.plain, t.ratio());
-        largest = largest.max(t.ratio());
+        for (absent, name) in [(0, "all"), (250, "some absent")] {
+            let mut views: Vec<Vec<u8>> = (0..64).map(|_| some_view(&mut dice, n, u64::MAX / 2)).collect();
+            for entry in views.iter_mut().flat_map(|v| v.chunks_exact_mut(16)) {
+                if dice.chance(absent) {
+                    entry.fill(0);
+                }
+            }
+            let t = Times::of(|| sum_all::<Proved>(n, &views), || sum_all::<Plain>(n, &views));
+            let count = (ROUNDS * views.len()) as f64;
+            println!("{n:>6} {name:>12} {:>12.0} {:>12.0} {:>8.2}", count / t.proved, count / t.plain, t.ratio());
+            largest = largest.max(t.ratio());
+        }
     }
     largest
 }

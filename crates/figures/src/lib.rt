@@ -7,6 +7,7 @@ ghost use lib.Dec.{eqb};
 ghost use Rattle.view.specs.Size.{limit};
 ghost use Rattle.view.specs.View.{viewOk};
 ghost use Rattle.figures.specs.Figures.{totals, figuresOf, summed};
+ghost use Rattle.figures.specs.Plain.{plain};
 use view::ENTRY;
 use view::LIMIT;
 use view::NODES;
@@ -32,20 +33,31 @@ fn is_long(n: usize, len: usize) -> bool
     octets::and(len % ENTRY == 0, len / ENTRY == n)
 }
 
-// Whether n entries are a view. A tag whose first byte is below 128 and whose last is not 0 may stand beside any report; a
-// view with another tag is looked at whole.
+// Whether the first and last byte of a tag and the number of the report beside it show that they may stand in a view. A tag
+// is within its limit where its first byte is below 128; beside it there may be no report, and any where its last byte is not 0.
+fn is_plain(first: u8, last: u8, report: u64) -> bool
+    ensures { λ r. ⌜ r ≡ plain first last report ⌝ }
+{
+    if report == 0 {
+        first < 128
+    } else {
+        octets::and(first < 128, 0 < last)
+    }
+}
+
+// Whether n entries are a view. One with an entry that is not plain is looked at whole.
 fn is_view(n: usize, v: &[u8]) -> bool
     requires { ⌜ 16 * n ≤ length (now v) ⌝ }
     ensures { λ r. ⌜ r ≡ viewOk n limit (now (v .entry)) ⌝ }
 {
-    let mut plain = true;
+    let mut ok = true;
     let mut i = 0;
     while i < n {
         let at = ENTRY * i;
-        plain = octets::and(octets::and(v[at] < 128, 0 < v[at + 7]), plain);
+        ok = octets::and(is_plain(v[at], v[at + 7], octets::get_word(v, at + 8)), ok);
         i += 1;
     }
-    if plain {
+    if ok {
         return true;
     }
     view::view_ok(n, LIMIT, v)

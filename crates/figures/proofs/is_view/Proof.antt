@@ -1,22 +1,24 @@
 -- `figures::is_view` meets its contract.
 use borrow.Author.Needs.{needs}
-use Prim.Native.Nat.{ℕ, _+_, _-_, _≤_}
+use Prim.Native.Nat.{ℕ, _+_, _-_, _*_, _≤_}
 use mathlib.Core.Path.{_≡_, refl, sym, ap, ap₂, _∙_}
 use mathlib.Core.List.{List}
+use lib.ListN.{getD}
 use native.Mathlib.Numerals.{add-one}
 use native.Mathlib.Omega.{arith}
 use Rattle.octets.specs.Loop.{allTo}
 use Rattle.octets.specs.Test.{both}
 use Rattle.octets.proofs.Loop.{allTo-none}
+use Rattle.figures.specs.Plain.{plain}
 use Rattle.figures.proofs.Bounds.{plainAt, plain-view}
 use Rattle.figures.proofs.is_view.Statement.{statement}
 use Rattle.figures.proofs.is_view.Tie as tie
 
 abbrev Inv-loop : tie.InvT-loop
-Inv-loop n v plain₀ i₀ plain i = (i ≤ n) × (plain ≡ allTo i (plainAt v))
+Inv-loop n v ok₀ i₀ ok i = (i ≤ n) × (ok ≡ allTo i (plainAt v))
 
 abbrev μ-loop : tie.MeasureT-loop
-μ-loop n v plain₀ i₀ plain i = n - i
+μ-loop n v ok₀ i₀ ok i = n - i
 
 loop-holds : tie.Need-loop-holds Inv-loop μ-loop
 loop-holds c = (search needs, sym (allTo-none (plainAt (c .before .args .v .now))))
@@ -28,10 +30,13 @@ judged i v = rw (add-one i) refl
 
 loop-again : tie.Need-loop-again Inv-loop μ-loop
 loop-again c =
-    let c5 = c .before .before .before .before .before in
-    let v = c5 .before .before .args .v .now in (
+    let c6 = c .before .before .before .before .before .before in
+    let v = c6 .before .before .args .v .now in
+    let i = c6 .loop .i in
+    let p : c .before .is-plain .result ≡ plainAt v i =
+    c .before .is-plain .ensures ∙ ap (plain (getD v (16 * i) 0) (getD v (16 * i + 7) 0)) (c .before .before .get-word .ensures) in (
       search needs,
-      c .and2 .ensures ∙ ap₂ both (c .before .and .ensures) (c5 .loop .inv .1) ∙ judged (c5 .loop .i) v,
+      c .and .ensures ∙ ap₂ both p (c6 .loop .inv .1) ∙ judged i v,
     )
 
 returns : tie.Need-returns Inv-loop μ-loop
@@ -48,5 +53,5 @@ pub is-view-spec : {M : Type 1} → statement M
 is-view-spec =
     tie.close
     (tie.spec Inv-loop μ-loop loop-holds (λ c. search needs) (λ c. search needs) (λ c. search needs) (λ c. search needs)
-    (λ c κs. search needs) (λ c κs. search needs) (λ c. search needs) (λ c. search needs) loop-again returns
-    (λ c κs. search needs) (λ c. search needs))
+    (λ c. search needs) (λ c κs. search needs) (λ c κs. search needs) (λ c κs. search needs) (λ c. search needs)
+    (λ c. search needs) loop-again returns (λ c κs. search needs) (λ c. search needs))
