@@ -66,10 +66,6 @@ be-bytes (suc k) x h (suc i) = be-bytes k (x % 2 ^ (8 * k)) (mod-lt x (pow-pos (
 spelled : (k : ℕ) (s : List ℕ) → length s ≡ k → num s ≡ num (tab k (λ i. getD s i 0))
 spelled k s e = ap num (sym (tab-of s 0) ∙ ap (λ (j : ℕ). tab j (λ i. getD s i 0)) e)
 
-pub num-two : (s : List ℕ) → length s ≡ 2 → num s ≡ getD s 0 0 * 256 + getD s 1 0
-unfolding tab
-num-two s e = let q : num s ≡ num (tab 2 (λ i. getD s i 0)) = spelled 2 s e in omega arith
-
 pub num-eight : (s : List ℕ) → length s ≡ 8
     → num s
     ≡ (getD s 0 0 * 16777216 + getD s 1 0 * 65536 + getD s 2 0 * 256 + getD s 3 0) * 4294967296

@@ -35,14 +35,6 @@ pub fn least(x: usize, y: usize) -> usize
     if x <= y { x } else { y }
 }
 
-// The number of two bytes.
-pub fn number2(s: &[u8]) -> u16
-    requires { ⌜ length (now s) ≡ 2 ⌝ }
-    ensures { λ r. ⌜ r ≡ num (now (s .entry)) ⌝ }
-{
-    (wide(s[0]) * 256 + wide(s[1])) as u16
-}
-
 // The number of eight bytes.
 pub fn number8(s: &[u8]) -> u64
     requires { ⌜ length (now s) ≡ 8 ⌝ }

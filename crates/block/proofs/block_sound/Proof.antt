@@ -28,8 +28,11 @@ and-requires c κs = search needs
 
 returns : tie.Need-returns
 unfolding blockSound recordIn
-returns c = c .and .ensures
-    ∙ ap₂ both (c .before .before .record-sound .ensures ∙ ap (λ (t : List ℕ). recordSound (c .before .before .before .before .before .args .n) (c .before .before .before .before .before .args .c) t) (lent (c .before .before .before .before .before .args .k .now) 1 3168 refl))
+returns c =
+    let c5 = c .before .before .before .before .before in
+    c .and .ensures
+    ∙ ap₂ both (c .before .before .record-sound .ensures ∙ ap (λ (t : List ℕ). recordSound (c5 .args .n) (c5 .args .c) t)
+    (lent (c5 .args .k .now) 1 3168 refl))
     (c .before .channels-sound .ensures)
 
 pub block-sound-spec : {M : Type 1} → statement M

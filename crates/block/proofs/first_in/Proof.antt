@@ -34,7 +34,9 @@ first-requires c κs = search needs
 
 returns : tie.Need-returns
 unfolding channelIn
-returns c = c .first .ensures ∙ ap (λ (t : List ℕ). first t) (lent (c .before .before .before .args .k .now) (channelPlace (c .before .before .before .args .a)) 4386 refl)
+returns c =
+    let c3 = c .before .before .before in
+    c .first .ensures ∙ ap (λ (t : List ℕ). first t) (lent (c3 .args .k .now) (channelPlace (c3 .args .a)) 4386 refl)
 
 pub first-in-spec : {M : Type 1} → statement M
 first-in-spec =

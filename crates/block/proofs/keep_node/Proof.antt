@@ -27,7 +27,10 @@ same-length c = search needs
 
 returns : tie.Need-returns
 unfolding keep
-returns c = lent-back (c .before .before .before .before .before .args .k .now) 1 3168 (λ (r : List ℕ). put r 0 (recordBytes (c .before .before .before .before .before .args .c))) refl (omega arith) (c .before .before .save .kept .0)
+returns c =
+    let c5 = c .before .before .before .before .before in
+    lent-back (c5 .args .k .now) 1 3168 (λ (r : List ℕ). put r 0 (recordBytes (c5 .args .c))) refl (omega arith)
+    (c .before .before .save .kept .0)
     (c .before .before .save .ensures)
 
 pub keep-node-spec : {M : Type 1} → statement M

@@ -15,12 +15,13 @@ use Rattle.block.proofs.keep_record.Tie as tie
 returns : tie.Need-returns
 unfolding keep
 returns c =
-    let k = c .before .before .before .before .before .before .args .k .now in
-    let r = c .before .before .before .before .before .before .args .r .now in
+    let c6 = c .before .before .before .before .before .before in
+    let k = c6 .args .k .now in
+    let r = c6 .args .r .now in
     let d = recordBytes (recordOf r) in
     let l : length d ≡ length (part k 1 3168) =
-    sym (ap (λ (t : List ℕ). length t) (c .before .before .before .before .before .before .pre .2)) ∙ c .before .before .before .before .before .before .pre .1 ∙ sym (length-part k 1 3168 (omega arith)) in
-    c .before .before .put-bytes .ensures ∙ ap (λ (t : List ℕ). put k 1 t) (c .before .before .before .before .before .before .pre .2 ∙ sym (put-over (part k 1 3168) d l))
+    sym (ap (λ (t : List ℕ). length t) (c6 .pre .2)) ∙ c6 .pre .1 ∙ sym (length-part k 1 3168 (omega arith)) in
+    c .before .before .put-bytes .ensures ∙ ap (λ (t : List ℕ). put k 1 t) (c6 .pre .2 ∙ sym (put-over (part k 1 3168) d l))
 
 pub keep-record-spec : {M : Type 1} → statement M
 keep-record-spec =

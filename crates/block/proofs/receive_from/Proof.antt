@@ -44,8 +44,12 @@ same-length c = search needs
 
 returns-2 : tie.Need-returns-2
 unfolding receive
-returns-2 c = rw (le-ltb _ _ (c .before .before .before .before .if1 .left))
-    (lent-back (c .before .before .before .before .before .before .before .before .args .k .now) (channelPlace (c .before .before .before .before .before .before .before .before .args .a)) 4386 (push (c .before .before .before .before .before .before .before .before .args .m .now)) refl (omega arith) (c .before .before .push .kept .0)
+returns-2 c =
+    let c4 = c .before .before .before .before in
+    let c8 = c4 .before .before .before .before in
+    rw (le-ltb _ _ (c4 .if1 .left))
+    (lent-back (c8 .args .k .now) (channelPlace (c8 .args .a)) 4386 (push (c8 .args .m .now)) refl (omega arith)
+    (c .before .before .push .kept .0)
     (c .before .before .push .ensures))
 
 pub receive-from-spec : {M : Type 1} → statement M

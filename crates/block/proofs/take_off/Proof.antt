@@ -36,7 +36,10 @@ same-length c = search needs
 
 returns : tie.Need-returns
 unfolding takeOff
-returns c = lent-back (c .before .before .before .before .before .args .k .now) (channelPlace (c .before .before .before .before .before .args .a)) 4386 pop refl (omega arith) (c .before .before .pop .kept .0) (c .before .before .pop .ensures)
+returns c =
+    let c5 = c .before .before .before .before .before in
+    lent-back (c5 .args .k .now) (channelPlace (c5 .args .a)) 4386 pop refl (omega arith) (c .before .before .pop .kept .0)
+    (c .before .before .pop .ensures)
 
 pub take-off-spec : {M : Type 1} → statement M
 take-off-spec =

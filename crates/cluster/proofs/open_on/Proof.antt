@@ -59,7 +59,8 @@ returns-3 c =
     refuses 10 (open-uncut (a .n) (a .c) (a .o) (a .x) (a .b .now) d at
     (sym (c9 .is-open-in .ensures) ∙ c5 .before .before .before .if1 .left)
     (sym (c5 .before .is-full-in .ensures) ∙ c5 .if2 .left)
-    (cut-judged (a .n) (a .x) (a .b .now) (c .before .before .before .is-cut .ensures) (c .before .before .may-cut .ensures) (not-true _ (c .before .if3 .taken)))) (c .refused3 .ensures)
+    (cut-judged (a .n) (a .x) (a .b .now) (c .before .before .before .is-cut .ensures) (c .before .before .may-cut .ensures)
+    (not-true _ (c .before .if3 .taken)))) (c .refused3 .ensures)
 
 begin-in-requires : tie.Need-begin-in-requires
 begin-in-requires c κs =
@@ -100,7 +101,8 @@ returns-4 c =
     let back : s ≡ begun d (a .o) = step-back (begun d (a .o)) (sized-begun d (a .o) (sized-of r)) (c8 .begin-in .ensures) in
     let e = open-settles (a .n) (a .c) (a .o) (a .x) b d at (sym (c17 .before .is-open-in .ensures) ∙ c17 .if1 .left)
     (sym (c12 .before .before .before .is-full-in .ensures) ∙ c12 .before .before .if2 .left)
-    (cut-judged (a .n) (a .x) b (c12 .is-cut .ensures) (c8 .before .before .before .may-cut .ensures) (not-false _ (c8 .before .before .if3 .left))) (ap (λ (y : Node). y .n) at ∙ p .4) (omega (arith, p .1, p .2)) back in
+    (cut-judged (a .n) (a .x) b (c12 .is-cut .ensures) (c8 .before .before .before .may-cut .ensures) (not-false _
+    (c8 .before .before .if3 .left))) (ap (λ (y : Node). y .n) at ∙ p .4) (omega (arith, p .1, p .2)) back in
     let j = judged false (a .n) (a .c) (a .c) (a .x) s b (p .0) (p .1) (p .2) (p .1) (p .2) (p .3) (sized-of r′ .heard)
     (c4 .is-cut2 .ensures) refl (c .before .before .before .allowance .ensures) (c .before .before .has-room .ensures) in
     refuses 11 (e ∙ settle-full (a .n) (a .c) (a .c) (a .x) s b b (sym j ∙ not-true _ (c .before .if4 .taken))) (c .refused4 .ensures)
@@ -160,7 +162,8 @@ returns-5 c =
     (e ∙ settle-commits (a .n) (a .c) (a .c) (a .x) s b b (sym j ∙ not-false _ (c11 .if4 .left))) (
       c .given .ensures .0 ∙ ap (λ (t : Bool). result (pick t None (f .ending))) cut,
       c .given .ensures .1 ∙ ap (λ (t : Bool). pick t noView (f .view)) cut,
-      c4 .release .ensures ∙ ap (λ (u : List ℕ). letOut (a .n) (a .c) (within (a .x) (entries (a .n) (a .c) (f .outbox))) (haltIf (isCut (a .x)) (a .n) (a .c) u))
+      c4 .release .ensures ∙ ap (λ (u : List ℕ). letOut (a .n) (a .c) (within (a .x) (entries (a .n) (a .c) (f .outbox)))
+          (haltIf (isCut (a .x)) (a .n) (a .c) u))
           (c8 .keep-record-at .ensures),
     )
 

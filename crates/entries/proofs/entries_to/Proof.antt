@@ -31,21 +31,23 @@ add-result-2 : tie.Need-add-result-2
 add-result-2 c = search needs
 
 returns : tie.Need-returns
-returns c = let n = c .before .before .before .before .before .args .n in
-    let a = c .before .before .before .before .before .args .a in
-    let b = c .before .before .before .before .before .args .b in
-    let v = c .before .before .before .before .before .args .o .view in
-    let x = entriesOf n a v (listed (c .before .before .before .before .before .args .o .handler)) in
-    let y = entriesOf n a v (listed (c .before .before .before .before .before .args .o .reading)) in
-    let z = entriesOf n a v (listed (c .before .before .before .before .before .args .o .comparing)) in
-    let second : c .before .before .before .before .left-past .result ≡ c .before .before .before .before .before .args .left - length x = c .before .before .before .before .left-past .ensures a v in
-    let third : c .before .before .before .left-past2 .result ≡ c .before .before .before .before .before .args .left - length x - length y =
-    c .before .before .before .left-past2 .ensures a v ∙ ap (λ (k : ℕ). k - length y) second in (
+returns c =
+    let c3 = c .before .before .before in
+    let n = c3 .before .before .args .n in
+    let a = c3 .before .before .args .a in
+    let b = c3 .before .before .args .b in
+    let v = c3 .before .before .args .o .view in
+    let x = entriesOf n a v (listed (c3 .before .before .args .o .handler)) in
+    let y = entriesOf n a v (listed (c3 .before .before .args .o .reading)) in
+    let z = entriesOf n a v (listed (c3 .before .before .args .o .comparing)) in
+    let second : c3 .before .left-past .result ≡ c3 .before .before .args .left - length x = c3 .before .left-past .ensures a v in
+    let third : c3 .left-past2 .result ≡ c3 .before .before .args .left - length x - length y =
+    c3 .left-past2 .ensures a v ∙ ap (λ (k : ℕ). k - length y) second in (
       omega (arith, c .before .before .sent-to .ensures .0, c .before .sent-to2 .ensures .0, c .sent-to3 .ensures .0),
       ap₂ (λ (s t : ℕ). s + t) (ap₂ (λ (s t : ℕ). s + t) (c .before .before .sent-to .ensures .1 v)
           (c .before .sent-to2 .ensures .1 v ∙ ap (λ (k : ℕ). goTo b (take k y)) second))
           (c .sent-to3 .ensures .1 v ∙ ap (λ (k : ℕ). goTo b (take k z)) third)
-          ∙ sym (three-to b (c .before .before .before .before .before .args .left) n a (c .before .before .before .before .before .args .o)),
+          ∙ sym (three-to b (c3 .before .before .args .left) n a (c3 .before .before .args .o)),
     )
 
 pub entries-to-spec : {M : Type 1} → statement M

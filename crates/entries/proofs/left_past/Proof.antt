@@ -34,10 +34,16 @@ returns : tie.Need-returns
 returns c = λ a v. rw (c .enum-told .given .1) (sym (nothing-left (c .before .before .args .left) (c .before .before .args .n) a v))
 
 returns-2 : tie.Need-returns-2
-returns-2 c = λ a v. rw (c .before .before .s .given .1) (c .left-after .ensures a v ∙ ap (λ (t : List Entry). c .before .before .before .before .args .left - length t) (sym (entries-one (c .before .before .before .before .args .n) a v _)))
+returns-2 c =
+    let c4 = c .before .before .before .before in
+    λ a v. rw (c .before .before .s .given .1) (c .left-after .ensures a v ∙ ap (λ
+    (t : List Entry). c4 .args .left - length t) (sym (entries-one (c4 .args .n) a v _)))
 
 returns-3 : tie.Need-returns-3
-returns-3 c = λ a v. rw (c .before .before .before .s2 .given .1) (past-two (c .before .before .before .before .before .args .left) (c .before .before .before .before .before .args .n) a v _ _ (c .before .left-after2 .ensures a v) (c .left-after3 .ensures a v))
+returns-3 c =
+    let c3 = c .before .before .before in
+    λ a v. rw (c3 .s2 .given .1) (past-two (c3 .before .before .args .left) (c3 .before .before .args .n) a v _ _
+    (c .before .left-after2 .ensures a v) (c .left-after3 .ensures a v))
 
 pub left-past-spec : {M : Type 1} → statement M
 left-past-spec =

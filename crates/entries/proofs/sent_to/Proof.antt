@@ -39,19 +39,24 @@ returns : tie.Need-returns
 returns c = (omega arith, λ v. rw (c .enum-told .given .1) (sym (nothing-to (c .before .before .args .b) (c .before .before .args .left) (c .before .before .args .n) (c .before .before .args .a) v)))
 
 returns-2 : tie.Need-returns-2
-returns-2 c = (
-  omega (arith, c .message-to .ensures .0),
-  λ v. rw (c .before .before .s .given .1) (c .message-to .ensures .1 v
-      ∙ ap (λ (t : List Entry). goTo (c .before .before .before .before .args .b) (take (c .before .before .before .before .args .left) t)) (sym (entries-one (c .before .before .before .before .args .n) (c .before .before .before .before .args .a) v _))),
-)
+returns-2 c =
+    let c4 = c .before .before .before .before in (
+      omega (arith, c .message-to .ensures .0),
+      λ v. rw (c .before .before .s .given .1) (c .message-to .ensures .1 v
+          ∙ ap (λ (t : List Entry). goTo (c4 .args .b) (take (c4 .args .left) t)) (sym (entries-one (c4 .args .n)
+          (c4 .args .a) v _))),
+    )
 
 returns-3 : tie.Need-returns-3
-returns-3 c = (
-  omega (arith, c .before .before .message-to2 .ensures .0, c .message-to3 .ensures .0),
-  λ v. rw (c .before .before .before .before .s2 .given .1)
-      (two-to (c .before .before .before .before .before .before .args .b) (c .before .before .before .before .before .before .args .left) (c .before .before .before .before .before .before .args .n) (c .before .before .before .before .before .before .args .a) v _ _ (c .before .before .message-to2 .ensures .1 v) (c .before .left-after .ensures (c .before .before .before .before .before .before .args .a) v)
-      (c .message-to3 .ensures .1 v)),
-)
+returns-3 c =
+    let c4 = c .before .before .before .before in (
+      omega (arith, c .before .before .message-to2 .ensures .0, c .message-to3 .ensures .0),
+      λ v. rw (c4 .s2 .given .1)
+          (two-to (c4 .before .before .args .b) (c4 .before .before .args .left) (c4 .before .before .args .n)
+          (c4 .before .before .args .a) v _ _ (c .before .before .message-to2 .ensures .1 v) (c .before .left-after .ensures
+          (c4 .before .before .args .a) v)
+          (c .message-to3 .ensures .1 v)),
+    )
 
 pub sent-to-spec : {M : Type 1} → statement M
 sent-to-spec =

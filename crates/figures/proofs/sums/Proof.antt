@@ -40,18 +40,24 @@ loop-holds c = (
 
 loop-again : tie.Need-loop-again Inv-loop μ-loop
 loop-again c =
-    let a = c .before .before .before .before .before .before .before .before .before .args in
+    let c4 = c .before .before .before .before in
+    let c7 = c4 .before .before .before in
+    let a = c7 .before .before .args in
     let v = a .v .now in
-    let i = c .before .before .before .before .before .before .before .loop .i in
+    let i = c7 .loop .i in
     let e : 16 * i + 8 + 8 ≡ 16 * i + 16 = omega arith in
-    let p : c .before .before .before .before .read-report .result ≡ shown v i =
-    c .before .before .before .before .read-report .ensures ∙ ap reportOf (lent v (16 * i + 8) 8 e)
-    ∙ shown-is (a .n) v (c .before .before .before .before .before .before .before .before .before .pre .2) (λ k. c .before .before .before .before .before .before .before .before .shared-slice-known .given k .fits) (c .before .before .before .before .before .before .before .before .before .pre .1) i (c .before .before .before .before .before .before .loop-test .taken) in (
+    let p : c4 .read-report .result ≡ shown v i =
+    c4 .read-report .ensures ∙ ap reportOf (lent v (16 * i + 8) 8 e)
+    ∙ shown-is (a .n) v (c7 .before .before .pre .2) (λ k. c7 .before .shared-slice-known .given k .fits)
+    (c7 .before .before .pre .1) i (c4 .before .before .loop-test .taken) in (
       search needs,
-      ap₂ (λ (x y : ℕ). x + y) (c .before .before .before .before .before .before .before .loop .inv .1) (ap (λ (q : Report). q .extensions) p) ∙ sym (sumTo-more i (λ j. shown v j .extensions)),
-      ap₂ (λ (x y : ℕ). x + y) (c .before .before .before .before .before .before .before .loop .inv .2) (ap (λ (q : Report). q .lines) p) ∙ sym (sumTo-more i (λ j. shown v j .lines)),
-      ap₂ (λ (x y : ℕ). x + y) (c .before .before .before .before .before .before .before .loop .inv .3) (ap (λ (q : Report). q .waiting) p) ∙ sym (sumTo-more i (λ j. shown v j .waiting)),
-      ap₂ (λ (x y : ℕ). x + y) (c .before .before .before .before .before .before .before .loop .inv .4) (ap (λ (q : Report). q .wakeups) p) ∙ sym (sumTo-more i (λ j. shown v j .wakeups)),
+      ap₂ (λ (x y : ℕ). x + y) (c7 .loop .inv .1) (ap (λ (q : Report). q .extensions) p) ∙ sym (sumTo-more i
+          (λ j. shown v j .extensions)),
+      ap₂ (λ (x y : ℕ). x + y) (c7 .loop .inv .2) (ap (λ (q : Report). q .lines) p) ∙ sym (sumTo-more i (λ j. shown v j .lines)),
+      ap₂ (λ (x y : ℕ). x + y) (c7 .loop .inv .3) (ap (λ (q : Report). q .waiting) p) ∙ sym (sumTo-more i
+          (λ j. shown v j .waiting)),
+      ap₂ (λ (x y : ℕ). x + y) (c7 .loop .inv .4) (ap (λ (q : Report). q .wakeups) p) ∙ sym (sumTo-more i
+          (λ j. shown v j .wakeups)),
       search needs,
       search needs,
       search needs,

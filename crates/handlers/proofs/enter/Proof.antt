@@ -10,12 +10,18 @@ use Rattle.handlers.proofs.enter.Tie as tie
 returns : tie.Need-returns
 unfolding entered
 returns c =
-    let a = c .before .before .before .before .before .before .before .before .before .before .before .before .before .before .before .before .before .args in
+    let c6 = c .before .before .before .before .before .before in
+    let c10 = c6 .before .before .before .before in
+    let c14 = c10 .before .before .before .before in
+    let c17 = c14 .before .before .before in
+    let a = c17 .args in
     c .before .before .put-where3 .ensures ∙ ap (λ (x : List ℕ). putWhere (a .round) 2 (a .w) (a .t) (a .p) x)
-    (c .before .before .before .before .before .before .put-where2 .ensures ∙ ap (λ (x : List ℕ). putWhere (a .held) 1 (a .w) (a .t) (a .p) x)
-    (c .before .before .before .before .before .before .before .before .before .before .put-where .ensures ∙ ap (λ (x : List ℕ). putWhere (a .fresh) 0 (a .w) (a .t) (a .p) x) (c .before .before .before .before .before .before .before .before .before .before .before .before .before .before .put-word .ensures)))
+    (c6 .put-where2 .ensures ∙ ap (λ (x : List ℕ). putWhere (a .held) 1 (a .w) (a .t) (a .p) x)
+    (c10 .put-where .ensures ∙ ap (λ (x : List ℕ). putWhere (a .fresh) 0 (a .w) (a .t) (a .p) x) (c14 .put-word .ensures)))
 
 pub enter-spec : {M : Type 1} → statement M
 enter-spec =
     tie.close
-    (tie.spec (λ c. search needs) (λ c. search needs) (λ c. search needs) (λ c. search needs) (λ c. search needs) (λ c. search needs) (λ c κs. search needs) (λ c κs. search needs) (λ c κs. search needs) (λ c κs. search needs) (λ c. search needs) returns)
+    (tie.spec (λ c. search needs) (λ c. search needs) (λ c. search needs) (λ c. search needs) (λ c. search needs)
+    (λ c. search needs) (λ c κs. search needs) (λ c κs. search needs) (λ c κs. search needs) (λ c κs. search needs)
+    (λ c. search needs) returns)

@@ -27,48 +27,66 @@ returns c =
     let q = c .before .before .before .before .before .before .before .before .before .m .given .0 .0 in
     rw (c .before .before .before .before .before .before .before .before .before .m .given .1) (
       ap (λ (x : ℕ). One (ReadAnswer q x)) (c .before .before .before .before .before .before .get-word .ensures),
-      c .before .before .waiting-in .ensures ∙ ap (λ (w : Wait). recordBytes (waiting (recordOf r) w)) (c .before .before .before .load-wait .ensures),
+      c .before .before .waiting-in .ensures ∙ ap (λ (w : Wait). recordBytes (waiting (recordOf r) w))
+          (c .before .before .before .load-wait .ensures),
     )
 
 returns-2 : tie.Need-returns-2
 unfolding react recordOf
 returns-2 c =
-    let a = c .before .before .before .before .before .before .before .before .before .before .before .before .before .before .args in
+    let c3 = c .before .before .before in
+    let c6 = c3 .before .before .before in
+    let c10 = c6 .before .before .before .before in
+    let c14 = c10 .before .before .before .before in
+    let a = c14 .args in
     let r = a .r .now in
-    let q = c .before .before .before .before .before .before .before .before .before .before .m2 .given .0 .0 in
-    let t = c .before .before .before .before .before .before .before .before .before .before .m2 .given .0 .1 .0 in
-    rw (c .before .before .before .before .before .before .before .before .before .before .m2 .given .1) (
+    let q = c10 .m2 .given .0 .0 in
+    let t = c10 .m2 .given .0 .1 .0 in
+    rw (c10 .m2 .given .1) (
       refl,
-      c .before .before .waiting-in2 .ensures ∙ ap (λ (w : Wait). recordBytes (waiting (recordOf r) w)) (c .before .before .before .read-wait .ensures
-          ∙ ap₂ (λ (w : Wait) (x : ℕ). readWait x (a .s) q t w) (c .before .before .before .before .before .before .load-wait2 .ensures) (c .before .before .before .before .get-word2 .ensures))
+      c .before .before .waiting-in2 .ensures ∙ ap (λ (w : Wait). recordBytes (waiting (recordOf r) w)) (c3 .read-wait .ensures
+          ∙ ap₂ (λ (w : Wait) (x : ℕ). readWait x (a .s) q t w) (c6 .load-wait2 .ensures) (c3 .before .get-word2 .ensures))
           ∙ ap recordBytes (read-answered (recordOf r) (a .s) q t (waitIn r) refl),
     )
 
 returns-3 : tie.Need-returns-3
 unfolding react
-returns-3 c = rw (c .before .before .before .before .before .before .m3 .given .1) (simp (c .write-sent .ensures, c .before .before .before .raised-in .ensures .0), c .before .before .before .raised-in .ensures .1)
+returns-3 c =
+    let c3 = c .before .before .before in
+    let c6 = c3 .before .before .before in
+    rw (c6 .m3 .given .1) (simp (c .write-sent .ensures, c3 .raised-in .ensures .0), c3 .raised-in .ensures .1)
 
 returns-4 : tie.Need-returns-4
 unfolding react recordOf
 returns-4 c =
-    let a = c .before .before .before .before .before .before .before .before .before .before .before .before .before .before .args in
+    let c3 = c .before .before .before in
+    let c6 = c3 .before .before .before in
+    let c10 = c6 .before .before .before .before in
+    let c14 = c10 .before .before .before .before in
+    let a = c14 .args in
     let r = a .r .now in
-    let q = c .before .before .before .before .before .before .before .before .before .before .m4 .given .0 .0 in
-    let t = c .before .before .before .before .before .before .before .before .before .before .m4 .given .0 .1 .0 in
-    rw (c .before .before .before .before .before .before .before .before .before .before .m4 .given .1) (
+    let q = c10 .m4 .given .0 .0 in
+    let t = c10 .m4 .given .0 .1 .0 in
+    rw (c10 .m4 .given .1) (
       refl,
-      c .before .before .waiting-in3 .ensures ∙ ap (λ (w : Wait). recordBytes (waiting (recordOf r) w)) (c .before .before .before .write-wait .ensures
-          ∙ ap₂ (λ (w : Wait) (x : ℕ). writeWait x (a .s) q t w) (c .before .before .before .before .before .before .load-wait3 .ensures) (c .before .before .before .before .get-word3 .ensures))
+      c .before .before .waiting-in3 .ensures ∙ ap (λ (w : Wait). recordBytes (waiting (recordOf r) w)) (c3 .write-wait .ensures
+          ∙ ap₂ (λ (w : Wait) (x : ℕ). writeWait x (a .s) q t w) (c6 .load-wait3 .ensures) (c3 .before .get-word3 .ensures))
           ∙ ap recordBytes (write-answered (recordOf r) (a .s) q t (waitIn r) refl),
     )
 
 returns-5 : tie.Need-returns-5
 unfolding react
-returns-5 c = rw (c .before .before .before .before .before .before .m5 .given .1) (simp (c .sent-where .ensures, c .before .before .before .raised-in2 .ensures .0), c .before .before .before .raised-in2 .ensures .1)
+returns-5 c =
+    let c3 = c .before .before .before in
+    let c6 = c3 .before .before .before in
+    rw (c6 .m5 .given .1) (simp (c .sent-where .ensures, c3 .raised-in2 .ensures .0), c3 .raised-in2 .ensures .1)
 
 returns-6 : tie.Need-returns-6
 unfolding react
-returns-6 c = rw (c .before .before .before .before .before .before .m6 .given .1) (simp (c .sent-where2 .ensures, c .before .before .before .received-in .ensures .0), c .before .before .before .received-in .ensures .1)
+returns-6 c =
+    let c3 = c .before .before .before in
+    let c6 = c3 .before .before .before in
+    rw (c6 .m6 .given .1) (simp (c .sent-where2 .ensures, c3 .received-in .ensures .0), c3 .received-in .ensures .1)
 
 returns-7 : tie.Need-returns-7
 unfolding react
@@ -77,4 +95,10 @@ returns-7 c = rw (c .before .before .before .before .before .m7 .given .1) (refl
 pub react-in-spec : {M : Type 1} → statement M
 react-in-spec =
     tie.close
-    (tie.spec (λ c. search needs) (λ c κs. search needs) (λ c κs. search needs) (λ c κs. search needs) (λ c. search needs) (λ c κs. search needs) (λ c κs. search needs) (λ c κs. search needs) (λ c κs. search needs) (λ c. search needs) (λ c κs. search needs) (λ c κs. search needs) (λ c. search needs) (λ c κs. search needs) (λ c κs. search needs) (λ c κs. search needs) (λ c κs. search needs) (λ c. search needs) (λ c κs. search needs) (λ c κs. search needs) (λ c. search needs) received-in-requires (λ c κs. search needs) (λ c. search needs) (λ c κs. search needs) (λ c. search needs) returns (λ c. search needs) returns-2 (λ c. search needs) returns-3 (λ c. search needs) returns-4 (λ c. search needs) returns-5 (λ c. search needs) returns-6 (λ c. search needs) returns-7)
+    (tie.spec (λ c. search needs) (λ c κs. search needs) (λ c κs. search needs) (λ c κs. search needs) (λ c. search needs)
+    (λ c κs. search needs) (λ c κs. search needs) (λ c κs. search needs) (λ c κs. search needs) (λ c. search needs)
+    (λ c κs. search needs) (λ c κs. search needs) (λ c. search needs) (λ c κs. search needs) (λ c κs. search needs)
+    (λ c κs. search needs) (λ c κs. search needs) (λ c. search needs) (λ c κs. search needs) (λ c κs. search needs)
+    (λ c. search needs) received-in-requires (λ c κs. search needs) (λ c. search needs) (λ c κs. search needs)
+    (λ c. search needs) returns (λ c. search needs) returns-2 (λ c. search needs) returns-3 (λ c. search needs) returns-4
+    (λ c. search needs) returns-5 (λ c. search needs) returns-6 (λ c. search needs) returns-7)

@@ -9,9 +9,12 @@ use Rattle.handlers.proofs.waiting_in.Tie as tie
 
 returns : tie.Need-returns
 returns c =
-    let a = c .before .before .before .before .before .before .before .args in
-    c .before .before .save-head .ensures ∙ ap (λ (h : Head). put (a .r .now) 0 (headBytes h (h .maxtag) (h .kept) (a .w))) (c .before .before .before .before .head-of .ensures)
-    ∙ waiting-bytes (a .r .now) (λ i. c .before .before .before .before .before .before .slice-known .given i .fits) (c .before .before .before .before .before .before .before .pre) (a .w)
+    let c4 = c .before .before .before .before in
+    let c7 = c4 .before .before .before in
+    let a = c7 .args in
+    c .before .before .save-head .ensures ∙ ap (λ (h : Head). put (a .r .now) 0 (headBytes h (h .maxtag) (h .kept) (a .w)))
+    (c4 .head-of .ensures)
+    ∙ waiting-bytes (a .r .now) (λ i. c4 .before .before .slice-known .given i .fits) (c7 .pre) (a .w)
 
 pub waiting-in-spec : {M : Type 1} → statement M
 waiting-in-spec =

@@ -6,10 +6,26 @@ use Rattle.handlers.proofs.write_wait.Statement.{statement}
 use Rattle.handlers.proofs.write_wait.Tie as tie
 
 returns : tie.Need-returns
-returns c = rw (c .before .before .before .before .before .wait .given .1) (simp (eq-eqb _ _ (c .before .before .before .if1 .taken), eq-eqb _ _ (c .before .before .if2 .taken), sym (c .before .is-member .ensures) ∙ c .if3 .taken))
+returns c =
+    let c3 = c .before .before .before in
+    rw (c3 .before .before .wait .given .1) (simp (
+      eq-eqb _ _ (c3 .if1 .taken),
+      eq-eqb _ _
+          (c .before .before .if2 .taken),
+      sym (c .before .is-member .ensures) ∙ c .if3 .taken,
+    ))
 
 returns-2 : tie.Need-returns-2
-returns-2 c = rw (c .before .before .before .before .before .before .wait .given .1) (simp (eq-eqb _ _ (c .before .before .before .before .if1 .taken), eq-eqb _ _ (c .before .before .before .if2 .taken), sym (c .before .before .is-member .ensures) ∙ c .before .if3 .left, c .with-member .ensures))
+returns-2 c =
+    let c3 = c .before .before .before in
+    let c6 = c3 .before .before .before in
+    rw (c6 .wait .given .1) (simp (
+      eq-eqb _ _ (c3 .before .if1 .taken),
+      eq-eqb _ _ (c3 .if2 .taken),
+      sym
+          (c .before .before .is-member .ensures) ∙ c .before .if3 .left,
+      c .with-member .ensures,
+    ))
 
 returns-3 : tie.Need-returns-3
 returns-3 c = rw (c .before .before .before .wait .given .1) (simp (eq-eqb _ _ (c .before .if1 .taken), ne-eqb _ _ (c .if2 .left)))
@@ -32,4 +48,6 @@ returns-8 c = rw (c .enum-told4 .given .1)
 pub write-wait-spec : {M : Type 1} → statement M
 write-wait-spec =
     tie.close
-    (tie.spec (λ c. search needs) (λ c. search needs) (λ c. search needs) (λ c κs. search needs) returns (λ c κs. search needs) returns-2 returns-3 (λ c. search needs) (λ c. search needs) returns-4 returns-5 returns-6 returns-7 returns-8)
+    (tie.spec (λ c. search needs) (λ c. search needs) (λ c. search needs) (λ c κs. search needs) returns
+    (λ c κs. search needs) returns-2 returns-3 (λ c. search needs)
+    (λ c. search needs) returns-4 returns-5 returns-6 returns-7 returns-8)

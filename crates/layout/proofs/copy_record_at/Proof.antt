@@ -12,7 +12,9 @@ use Rattle.layout.proofs.copy_record_at.Tie as tie
 returns : tie.Need-returns
 unfolding block
 returns c =
-    c .before .before .copy-record .ensures ∙ ap (λ (t : List ℕ). recordIn t) (lent (c .before .before .before .before .before .before .before .args .b .now) (blockPlace (c .before .before .before .before .before .before .before .args .c)) 73345 refl)
+    let c7 = c .before .before .before .before .before .before .before in
+    c .before .before .copy-record .ensures ∙ ap (λ (t : List ℕ). recordIn t) (lent (c7 .args .b .now) (blockPlace
+    (c7 .args .c)) 73345 refl)
 
 pub copy-record-at-spec : {M : Type 1} → statement M
 copy-record-at-spec =

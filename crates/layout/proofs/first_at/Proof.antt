@@ -35,7 +35,10 @@ first-in-requires c κs = search needs
 
 returns : tie.Need-returns
 unfolding block
-returns c = c .first-in .ensures ∙ ap (λ (t : List ℕ). first (channelIn t (c .before .before .before .args .a))) (lent (c .before .before .before .args .b .now) (blockPlace (c .before .before .before .args .c)) 73345 refl)
+returns c =
+    let c3 = c .before .before .before in
+    c .first-in .ensures ∙ ap (λ (t : List ℕ). first (channelIn t (c3 .args .a))) (lent (c3 .args .b .now) (blockPlace
+    (c3 .args .c)) 73345 refl)
 
 pub first-at-spec : {M : Type 1} → statement M
 first-at-spec =

@@ -36,7 +36,10 @@ same-length c = search needs
 
 returns : tie.Need-returns
 unfolding onBlock
-returns c = lent-back (c .before .before .before .before .before .args .b .now) (blockPlace (c .before .before .before .before .before .args .c)) 73345 (halt (c .before .before .before .before .before .args .n)) refl (omega arith) (c .before .before .halt-node .kept .0) (c .before .before .halt-node .ensures)
+returns c =
+    let c5 = c .before .before .before .before .before in
+    lent-back (c5 .args .b .now) (blockPlace (c5 .args .c)) 73345 (halt (c5 .args .n)) refl (omega arith)
+    (c .before .before .halt-node .kept .0) (c .before .before .halt-node .ensures)
 
 pub halt-at-spec : {M : Type 1} → statement M
 halt-at-spec =

@@ -24,10 +24,16 @@ add-result : tie.Need-add-result
 add-result c = search needs
 
 returns-2 : tie.Need-returns-2
-returns-2 c = sym (fits-sized (c .before .before .before .before .before .before .args .b .now) (c .before .before .index .result) (c .before .before .before .before .if1 .left) (c .before .before .index .ensures .0) (sym (c .before .and .ensures) ∙ c .if2 .taken))
+returns-2 c =
+    let c4 = c .before .before .before .before in
+    sym (fits-sized (c4 .before .before .args .b .now) (c .before .before .index .result) (c4 .if1 .left)
+    (c .before .before .index .ensures .0) (sym (c .before .and .ensures) ∙ c .if2 .taken))
 
 returns-3 : tie.Need-returns-3
-returns-3 c = sym (fits-unsized (c .before .before .before .before .before .before .args .b .now) (c .before .before .index .result) (c .before .before .before .before .if1 .left) (c .before .before .index .ensures .0) (sym (c .before .and .ensures) ∙ c .if2 .left))
+returns-3 c =
+    let c4 = c .before .before .before .before in
+    sym (fits-unsized (c4 .before .before .args .b .now) (c .before .before .index .result) (c4 .if1 .left)
+    (c .before .before .index .ensures .0) (sym (c .before .and .ensures) ∙ c .if2 .left))
 
 pub is-fit-spec : {M : Type 1} → statement M
 is-fit-spec =

@@ -19,16 +19,21 @@ and-requires : tie.Need-and-requires
 and-requires c κs = search needs
 
 blocks-sound-requires : tie.Need-blocks-sound-requires
-blocks-sound-requires c κs = (
-  is-size (c .before .before .index .result) (sym (c .before .and .ensures) ∙ c .if1 .taken) .1,
-  fits-length (c .before .before .before .before .before .args .b .now) (c .before .before .index .result) (c .before .before .before .before .before .pre) (c .before .before .index .ensures .0) (sym (c .before .and .ensures) ∙ c .if1 .taken),
-)
+blocks-sound-requires c κs =
+    let c5 = c .before .before .before .before .before in (
+      is-size (c .before .before .index .result) (sym (c .before .and .ensures) ∙ c .if1 .taken) .1,
+      fits-length (c5 .args .b .now) (c .before .before .index .result) (c5 .pre) (c .before .before .index .ensures .0) (sym
+          (c .before .and .ensures) ∙ c .if1 .taken),
+    )
 
 stopped-nodes-requires : tie.Need-stopped-nodes-requires
-stopped-nodes-requires c κs = (
-  is-size (c .before .before .before .index .result) (sym (c .before .before .and .ensures) ∙ c .before .if1 .taken) .1,
-  fits-length (c .before .before .before .before .before .before .args .b .now) (c .before .before .before .index .result) (c .before .before .before .before .before .before .pre) (c .before .before .before .index .ensures .0) (sym (c .before .before .and .ensures) ∙ c .before .if1 .taken),
-)
+stopped-nodes-requires c κs =
+    let c3 = c .before .before .before in
+    let c6 = c3 .before .before .before in (
+      is-size (c3 .index .result) (sym (c .before .before .and .ensures) ∙ c .before .if1 .taken) .1,
+      fits-length (c6 .args .b .now) (c3 .index .result) (c6 .pre) (c3 .index .ensures .0) (sym
+          (c .before .before .and .ensures) ∙ c .before .if1 .taken),
+    )
 
 most-faults-requires : tie.Need-most-faults-requires
 most-faults-requires c κs = search needs
@@ -37,12 +42,20 @@ and-requires-2 : tie.Need-and-requires-2
 and-requires-2 c κs = search needs
 
 returns : tie.Need-returns
-returns c = c .and2 .ensures
-    ∙ ap₂ both (c .before .before .before .blocks-sound .ensures) (ap₂ leb (c .before .before .stopped-nodes .ensures) (c .before .most-faults .ensures))
-    ∙ sym (sound-sized (c .before .before .before .before .before .before .before .before .before .args .b .now) (c .before .before .before .before .before .before .index .result) (c .before .before .before .before .before .before .index .ensures .0) (sym (c .before .before .before .before .before .and .ensures) ∙ c .before .before .before .before .if1 .taken))
+returns c =
+    let c3 = c .before .before .before in
+    let c6 = c3 .before .before .before in
+    let c9 = c6 .before .before .before in
+    c .and2 .ensures
+    ∙ ap₂ both (c3 .blocks-sound .ensures) (ap₂ leb (c .before .before .stopped-nodes .ensures) (c .before .most-faults .ensures))
+    ∙ sym (sound-sized (c9 .args .b .now) (c6 .index .result) (c6 .index .ensures .0) (sym
+    (c3 .before .before .and .ensures) ∙ c3 .before .if1 .taken))
 
 returns-2 : tie.Need-returns-2
-returns-2 c = sym (sound-unsized (c .before .before .before .before .before .args .b .now) (c .before .before .index .result) (c .before .before .index .ensures .0) (sym (c .before .and .ensures) ∙ c .if1 .left))
+returns-2 c =
+    let c5 = c .before .before .before .before .before in
+    sym (sound-unsized (c5 .args .b .now) (c .before .before .index .result) (c .before .before .index .ensures .0) (sym
+    (c .before .and .ensures) ∙ c .if1 .left))
 
 pub is-sound-spec : {M : Type 1} → statement M
 is-sound-spec =

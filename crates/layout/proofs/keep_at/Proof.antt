@@ -36,7 +36,10 @@ same-length c = search needs
 
 returns : tie.Need-returns
 unfolding onBlock
-returns c = lent-back (c .before .before .before .before .before .args .b .now) (blockPlace (c .before .before .before .before .before .args .c)) 73345 (keep (c .before .before .before .before .before .args .d)) refl (omega arith) (c .before .before .keep-node .kept .0) (c .before .before .keep-node .ensures)
+returns c =
+    let c5 = c .before .before .before .before .before in
+    lent-back (c5 .args .b .now) (blockPlace (c5 .args .c)) 73345 (keep (c5 .args .d)) refl (omega arith)
+    (c .before .before .keep-node .kept .0) (c .before .before .keep-node .ensures)
 
 pub keep-at-spec : {M : Type 1} → statement M
 keep-at-spec =

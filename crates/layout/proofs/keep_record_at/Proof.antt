@@ -12,7 +12,8 @@ use Rattle.layout.proofs.keep_record_at.Tie as tie
 returns : tie.Need-returns
 unfolding onBlock
 returns c =
-    lent-back (c .before .before .before .before .before .before .args .b .now) (blockPlace (c .before .before .before .before .before .before .args .c)) 73345 (keep (recordOf (c .before .before .before .before .before .before .args .r .now))) refl (omega arith)
+    let c6 = c .before .before .before .before .before .before in
+    lent-back (c6 .args .b .now) (blockPlace (c6 .args .c)) 73345 (keep (recordOf (c6 .args .r .now))) refl (omega arith)
     (c .before .before .keep-record .kept .0) (c .before .before .keep-record .ensures)
 
 pub keep-record-at-spec : {M : Type 1} → statement M

@@ -36,7 +36,10 @@ same-length c = search needs
 
 returns : tie.Need-returns
 unfolding onBlock
-returns c = lent-back (c .before .before .before .before .before .before .args .b .now) (blockPlace (c .before .before .before .before .before .before .args .c)) 73345 (receive (c .before .before .before .before .before .before .args .a) (c .before .before .before .before .before .before .args .m .now)) refl (omega arith) (c .before .before .receive-from .kept .0) (c .before .before .receive-from .ensures)
+returns c =
+    let c6 = c .before .before .before .before .before .before in
+    lent-back (c6 .args .b .now) (blockPlace (c6 .args .c)) 73345 (receive (c6 .args .a) (c6 .args .m .now)) refl
+    (omega arith) (c .before .before .receive-from .kept .0) (c .before .before .receive-from .ensures)
 
 pub receive-at-spec : {M : Type 1} → statement M
 receive-at-spec =

@@ -34,7 +34,9 @@ has-stopped-requires c κs = search needs
 
 returns : tie.Need-returns
 unfolding block
-returns c = c .has-stopped .ensures ∙ ap (λ (t : List ℕ). hasStopped t) (lent (c .before .before .before .args .b .now) (blockPlace (c .before .before .before .args .c)) 73345 refl)
+returns c =
+    let c3 = c .before .before .before in
+    c .has-stopped .ensures ∙ ap (λ (t : List ℕ). hasStopped t) (lent (c3 .args .b .now) (blockPlace (c3 .args .c)) 73345 refl)
 
 pub stopped-at-spec : {M : Type 1} → statement M
 stopped-at-spec =

@@ -36,7 +36,10 @@ same-length c = search needs
 
 returns : tie.Need-returns
 unfolding onBlock
-returns c = lent-back (c .before .before .before .before .before .args .b .now) (blockPlace (c .before .before .before .before .before .args .c)) 73345 (takeOff (c .before .before .before .before .before .args .a)) refl (omega arith) (c .before .before .take-off .kept .0) (c .before .before .take-off .ensures)
+returns c =
+    let c5 = c .before .before .before .before .before in
+    lent-back (c5 .args .b .now) (blockPlace (c5 .args .c)) 73345 (takeOff (c5 .args .a)) refl (omega arith)
+    (c .before .before .take-off .kept .0) (c .before .before .take-off .ensures)
 
 pub take-off-at-spec : {M : Type 1} → statement M
 take-off-at-spec =

@@ -34,7 +34,12 @@ waiting-in-requires c κs = search needs
 
 returns : tie.Need-returns
 unfolding block
-returns c = (c .waiting-in .ensures .0 ∙ ap (λ (t : List ℕ). waitingIn t (c .before .before .before .args .a)) (lent (c .before .before .before .args .b .now) (blockPlace (c .before .before .before .args .c)) 73345 refl), c .waiting-in .ensures .1)
+returns c =
+    let c3 = c .before .before .before in (
+      c .waiting-in .ensures .0 ∙ ap (λ (t : List ℕ). waitingIn t (c3 .args .a)) (lent (c3 .args .b .now) (blockPlace
+          (c3 .args .c)) 73345 refl),
+      c .waiting-in .ensures .1,
+    )
 
 pub waiting-at-spec : {M : Type 1} → statement M
 waiting-at-spec =

@@ -10,7 +10,10 @@ at-front-requires : tie.Need-at-front-requires
 at-front-requires c κs = size-most (c .before .before .before .args .n) (sym (c .before .is-size .ensures) ∙ c .if1 .taken)
 
 returns : tie.Need-returns
-returns c = c .at-front .ensures ∙ sym (front-judged (c .before .before .before .before .args .n) (c .before .before .before .before .args .b .now) (λ i. c .before .before .before .shared-slice-known .given i .fits)
+returns c =
+    let c3 = c .before .before .before in
+    c .at-front .ensures ∙ sym (front-judged (c3 .before .args .n) (c3 .before .args .b .now)
+    (λ i. c3 .shared-slice-known .given i .fits)
     (sym (c .before .before .is-size .ensures) ∙ c .before .if1 .taken))
 
 returns-2 : tie.Need-returns-2

@@ -22,9 +22,15 @@ same-length : tie.Need-same-length
 same-length c = search needs
 
 returns : tie.Need-returns
-returns c = let-three (c .before .before .before .before .before .before .before .before .before .before .before .before .before .before .before .args .n) (c .before .before .before .before .before .before .before .before .before .before .before .before .before .before .before .args .a) (c .before .before .before .before .before .before .before .before .before .before .before .before .before .before .before .args .c) (c .before .before .before .before .before .before .before .before .before .before .before .before .before .before .before .args .left) (c .before .before .before .before .before .before .before .before .before .before .before .before .before .before .before .args .o) (c .before .before .before .before .before .before .before .before .before .before .before .before .before .before .before .args .b .now) (c .before .before .before .before .before .before .before .before .before .before .let-sent .ensures)
-    (c .before .before .before .before .before .before .before .before .before .before .before .before .before .left-past .ensures (c .before .before .before .before .before .before .before .before .before .before .before .before .before .before .before .args .a) (c .before .before .before .before .before .before .before .before .before .before .before .before .before .before .before .args .o .view)) (c .before .before .before .before .before .before .let-sent2 .ensures)
-    (c .before .before .before .before .before .before .before .before .before .before .before .before .left-past2 .ensures (c .before .before .before .before .before .before .before .before .before .before .before .before .before .before .before .args .a) (c .before .before .before .before .before .before .before .before .before .before .before .before .before .before .before .args .o .view)) (c .before .before .let-sent3 .ensures)
+returns c =
+    let c6 = c .before .before .before .before .before .before in
+    let c10 = c6 .before .before .before .before in
+    let c13 = c10 .before .before .before in
+    let-three (c13 .before .before .args .n) (c13 .before .before .args .a) (c13 .before .before .args .c)
+    (c13 .before .before .args .left) (c13 .before .before .args .o) (c13 .before .before .args .b .now) (c10 .let-sent .ensures)
+    (c13 .left-past .ensures (c13 .before .before .args .a) (c13 .before .before .args .o .view)) (c6 .let-sent2 .ensures)
+    (c10 .before .before .left-past2 .ensures (c13 .before .before .args .a) (c13 .before .before .args .o .view))
+    (c .before .before .let-sent3 .ensures)
 
 pub let-out-spec : {M : Type 1} → statement M
 let-out-spec =

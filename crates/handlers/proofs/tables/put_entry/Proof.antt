@@ -12,12 +12,17 @@ use Rattle.handlers.proofs.tables.put_entry.Tie as tie
 
 returns : tie.Need-returns
 returns c =
-    let a = c .before .before .before .before .before .before .before .before .before .before .before .args in
+    let c5 = c .before .before .before .before .before in
+    let c8 = c5 .before .before .before in
+    let c11 = c8 .before .before .before in
+    let a = c11 .args in
     let at = entryPlace (a .i) (a .w) in
-    put-then (a .r .now) at (be 8 (a .t)) (reportBytes (a .p)) (at + 8) (omega arith) refl (c .before .before .before .before .before .before .before .before .put-word .ensures)
-    (c .before .before .put-bytes .ensures ∙ ap (put _ (at + 8)) (c .before .before .before .before .before .report-bytes .ensures))
+    put-then (a .r .now) at (be 8 (a .t)) (reportBytes (a .p)) (at + 8) (omega arith) refl (c8 .put-word .ensures)
+    (c .before .before .put-bytes .ensures ∙ ap (put _ (at + 8)) (c5 .report-bytes .ensures))
 
 pub put-entry-spec : {M : Type 1} → statement M
 put-entry-spec =
     tie.close
-    (tie.spec (λ c. search needs) (λ c. search needs) (λ c. search needs) (λ c. search needs) (λ c. search needs) (λ c κs. search needs) (λ c κs. search needs) (λ c. search needs) (λ c. search needs) (λ c κs. search needs) (λ c. search needs) returns)
+    (tie.spec (λ c. search needs) (λ c. search needs) (λ c. search needs) (λ c. search needs) (λ c. search needs)
+    (λ c κs. search needs) (λ c κs. search needs) (λ c. search needs) (λ c. search needs) (λ c κs. search needs)
+    (λ c. search needs) returns)

@@ -8,8 +8,10 @@ use Rattle.handlers.proofs.tables.put_where.Tie as tie
 
 returns : tie.Need-returns
 returns c =
-    let a = c .before .before .before .before .before .before .args in
-    c .before .before .put-entry .ensures ∙ ap (λ (t : Bool). putWhere t (a .i) (a .w) (a .t) (a .p) (a .r .now)) (sym (c .before .before .before .before .if1 .taken))
+    let c4 = c .before .before .before .before in
+    let a = c4 .before .before .args in
+    c .before .before .put-entry .ensures ∙ ap (λ (t : Bool). putWhere t (a .i) (a .w) (a .t) (a .p) (a .r .now)) (sym
+    (c4 .if1 .taken))
 
 returns-2 : tie.Need-returns-2
 returns-2 c = let a = c .before .before .args in ap (λ (t : Bool). putWhere t (a .i) (a .w) (a .t) (a .p) (a .r .now)) (sym (c .if1 .left))

@@ -7,7 +7,16 @@ use Rattle.node.proofs.passes.borrow_pass.Tie as tie
 
 returns : tie.Need-returns
 unfolding borrowPass
-returns c = rw (c .before .before .before .before .before .before .wait .given .1) (simp (le-leb _ _ (c .before .before .before .if1 .taken), c .ended-step .ensures, c .before .ending-of .ensures, c .before .before .closed-node .ensures))
+returns c =
+    let c3 = c .before .before .before in
+    let c6 = c3 .before .before .before in
+    rw (c6 .wait .given .1) (simp (
+      le-leb _ _
+          (c3 .if1 .taken),
+      c .ended-step .ensures,
+      c .before .ending-of .ensures,
+      c .before .before .closed-node .ensures,
+    ))
 
 returns-2 : tie.Need-returns-2
 unfolding borrowPass
@@ -32,4 +41,6 @@ returns-6 c = rw (c .before .before .before .wait .given .1) (simp (lt-leb _ _ (
 pub borrow-pass-spec : {M : Type 1} → statement M
 borrow-pass-spec =
     tie.close
-    (tie.spec (λ c. search needs) (λ c. search needs) (λ c. search needs) (λ c. search needs) (λ c. search needs) (λ c κs. search needs) (λ c κs. search needs) (λ c κs. search needs) returns returns-2 returns-3 returns-4 returns-5 returns-6)
+    (tie.spec (λ c. search needs) (λ c. search needs) (λ c. search needs) (λ c. search needs) (λ c. search needs)
+    (λ c κs. search needs) (λ c κs. search needs)
+    (λ c κs. search needs) returns returns-2 returns-3 returns-4 returns-5 returns-6)

@@ -13,20 +13,38 @@ agreeing-nodes-requires : tie.Need-agreeing-nodes-requires
 agreeing-nodes-requires c κs = parts _ (c .before .before .before .before .before .before .before .before .before .pre) .n-high
 
 after-good-requires : tie.Need-after-good-requires
-after-good-requires c κs = let d = c .before .before .before .before .before .before .before .before .before .before .before .before .before .args .s .node in let p = parts d (c .before .before .before .before .before .before .before .before .before .before .before .before .before .pre) in (p .request-high, comparing-most d p (c .before .before .before .before .before .before .before .before .before .before .wait .given .1) .tag)
+after-good-requires c κs =
+    let c10 = c .before .before .before .before .before .before .before .before .before .before in
+    let c13 = c10 .before .before .before in
+    let d = c13 .args .s .node in let p = parts d (c13 .pre) in (p .request-high, comparing-most d p (c10 .wait .given .1) .tag)
 
 returns : tie.Need-returns
-returns c = let s = c .before .before .before .before .before .before .before .before .before .before .before .before .before .before .args .s in
+returns c =
+    let c3 = c .before .before .before in
+    let c11 = c3 .before .before .before .before .before .before .before .before in
+    let c14 = c11 .before .before .before in
+    let s = c14 .args .s in
     c .after-good .ensures
-    ∙ compares-good (c .before .before .before .before .before .before .before .before .before .before .before .before .before .before .args .f) s (s .node) (c .before .before .before .before .before .before .before .before .before .before .before .wait .given .1) (ap (isQuorum (s .node .n) (c .before .before .before .before .before .before .before .before .before .before .before .before .before .before .args .f)) (sym (c .before .before .before .before .agreeing-nodes .ensures)) ∙ sym (c .before .before .before .is-quorum .ensures) ∙ c .before .before .if1 .taken) (le-leb _ _ (c .before .if2 .taken))
+    ∙ compares-good (c14 .args .f) s (s .node) (c11 .wait .given .1) (ap (isQuorum (s .node .n) (c14 .args .f)) (sym
+    (c3 .before .agreeing-nodes .ensures)) ∙ sym (c3 .is-quorum .ensures) ∙ c .before .before .if1 .taken) (le-leb _ _
+    (c .before .if2 .taken))
 
 after-failed-requires : tie.Need-after-failed-requires
-after-failed-requires c κs = let d = c .before .before .before .before .before .before .before .before .before .before .before .before .before .args .s .node in let p = parts d (c .before .before .before .before .before .before .before .before .before .before .before .before .before .pre) in (p .request-high, comparing-most d p (c .before .before .before .before .before .before .before .before .before .before .wait .given .1) .tag)
+after-failed-requires c κs =
+    let c10 = c .before .before .before .before .before .before .before .before .before .before in
+    let c13 = c10 .before .before .before in
+    let d = c13 .args .s .node in let p = parts d (c13 .pre) in (p .request-high, comparing-most d p (c10 .wait .given .1) .tag)
 
 returns-2 : tie.Need-returns-2
-returns-2 c = let s = c .before .before .before .before .before .before .before .before .before .before .before .before .before .before .args .s in
+returns-2 c =
+    let c3 = c .before .before .before in
+    let c11 = c3 .before .before .before .before .before .before .before .before in
+    let c14 = c11 .before .before .before in
+    let s = c14 .args .s in
     c .after-failed .ensures
-    ∙ compares-failed (c .before .before .before .before .before .before .before .before .before .before .before .before .before .before .args .f) s (s .node) (c .before .before .before .before .before .before .before .before .before .before .before .wait .given .1) (ap (isQuorum (s .node .n) (c .before .before .before .before .before .before .before .before .before .before .before .before .before .before .args .f)) (sym (c .before .before .before .before .agreeing-nodes .ensures)) ∙ sym (c .before .before .before .is-quorum .ensures) ∙ c .before .before .if1 .taken) (lt-leb _ _ (c .before .if2 .left))
+    ∙ compares-failed (c14 .args .f) s (s .node) (c11 .wait .given .1) (ap (isQuorum (s .node .n) (c14 .args .f)) (sym
+    (c3 .before .agreeing-nodes .ensures)) ∙ sym (c3 .is-quorum .ensures) ∙ c .before .before .if1 .taken) (lt-leb _ _
+    (c .before .if2 .left))
 
 returns-3 : tie.Need-returns-3
 unfolding comparePass
@@ -41,8 +59,12 @@ unfolding comparePass
 returns-5 c = rw (c .enum-told3 .given .1)
 
 returns-6 : tie.Need-returns-6
-returns-6 c = let s = c .before .before .before .before .before .before .before .before .before .before .before .before .args .s in
-    compares-not (c .before .before .before .before .before .before .before .before .before .before .before .before .args .f) s (s .node) (c .before .before .before .before .before .before .before .before .before .wait .given .1) (ap (isQuorum (s .node .n) (c .before .before .before .before .before .before .before .before .before .before .before .before .args .f)) (sym (c .before .before .agreeing-nodes .ensures)) ∙ sym (c .before .is-quorum .ensures) ∙ c .if1 .left)
+returns-6 c =
+    let c9 = c .before .before .before .before .before .before .before .before .before in
+    let c12 = c9 .before .before .before in
+    let s = c12 .args .s in
+    compares-not (c12 .args .f) s (s .node) (c9 .wait .given .1) (ap (isQuorum (s .node .n) (c12 .args .f)) (sym
+    (c .before .before .agreeing-nodes .ensures)) ∙ sym (c .before .is-quorum .ensures) ∙ c .if1 .left)
 
 returns-7 : tie.Need-returns-7
 unfolding comparePass
@@ -51,4 +73,6 @@ returns-7 c = rw (c .enum-told4 .given .1)
 pub compare-pass-spec : {M : Type 1} → statement M
 compare-pass-spec =
     tie.close
-    (tie.spec (λ c. search needs) (λ c. search needs) (λ c. search needs) (λ c. search needs) agreeing-nodes-requires (λ c κs. search needs) after-good-requires returns after-failed-requires returns-2 (λ c. search needs) returns-3 returns-4 returns-5 returns-6 returns-7)
+    (tie.spec (λ c. search needs) (λ c. search needs) (λ c. search needs) (λ c. search needs) agreeing-nodes-requires
+    (λ c κs. search needs) after-good-requires returns after-failed-requires returns-2
+    (λ c. search needs) returns-3 returns-4 returns-5 returns-6 returns-7)

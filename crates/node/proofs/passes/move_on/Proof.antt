@@ -18,9 +18,12 @@ compare-pass-requires c κs = let a = c .before .before .args in
 
 returns : tie.Need-returns
 unfolding moveOn
-returns c = let f = c .before .before .before .before .args .f in
+returns c =
+    let c3 = c .before .before .before in
+    let f = c3 .before .args .f in
     c .borrow-pass .ensures
-    ∙ ap borrows (c .before .compare-pass .ensures ∙ ap (compares f) (c .before .before .write-pass .ensures ∙ ap (writes f) (c .before .before .before .read-pass .ensures)))
+    ∙ ap borrows (c .before .compare-pass .ensures ∙ ap (compares f) (c .before .before .write-pass .ensures ∙ ap (writes f)
+    (c3 .read-pass .ensures)))
 
 pub move-on-spec : {M : Type 1} → statement M
 move-on-spec =

@@ -11,7 +11,16 @@ members-requires c κs = parts _ (c .before .before .before .before .pre) .n-hig
 
 returns : tie.Need-returns
 unfolding writePass
-returns c = rw (c .before .before .before .before .before .before .wait .given .1) (simp (← c .before .before .before .before .members .ensures, sym (c .before .before .before .is-quorum .ensures) ∙ c .before .before .if1 .taken, c .ended-step .ensures, c .before .waiting-node .ensures))
+returns c =
+    let c3 = c .before .before .before in
+    let c6 = c3 .before .before .before in
+    rw (c6 .wait .given .1) (simp (
+      ← c3 .before .members .ensures,
+      sym (c3 .is-quorum .ensures)
+          ∙ c .before .before .if1 .taken,
+      c .ended-step .ensures,
+      c .before .waiting-node .ensures,
+    ))
 
 returns-2 : tie.Need-returns-2
 unfolding writePass
@@ -23,7 +32,9 @@ returns-3 c = rw (c .enum-told2 .given .1)
 
 returns-4 : tie.Need-returns-4
 unfolding writePass
-returns-4 c = rw (c .before .before .before .before .wait .given .1) (simp (← c .before .before .members .ensures, sym (c .before .is-quorum .ensures) ∙ c .if1 .left))
+returns-4 c =
+    let c4 = c .before .before .before .before in
+    rw (c4 .wait .given .1) (simp (← c .before .before .members .ensures, sym (c .before .is-quorum .ensures) ∙ c .if1 .left))
 
 returns-5 : tie.Need-returns-5
 unfolding writePass
@@ -36,4 +47,6 @@ returns-6 c = rw (c .enum-told4 .given .1)
 pub write-pass-spec : {M : Type 1} → statement M
 write-pass-spec =
     tie.close
-    (tie.spec (λ c. search needs) (λ c. search needs) (λ c. search needs) members-requires (λ c κs. search needs) (λ c κs. search needs) (λ c κs. search needs) returns (λ c. search needs) (λ c. search needs) returns-2 returns-3 returns-4 returns-5 returns-6)
+    (tie.spec (λ c. search needs) (λ c. search needs) (λ c. search needs) members-requires (λ c κs. search needs)
+    (λ c κs. search needs) (λ c κs. search needs) returns (λ c. search needs)
+    (λ c. search needs) returns-2 returns-3 returns-4 returns-5 returns-6)

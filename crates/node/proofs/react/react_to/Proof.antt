@@ -28,7 +28,10 @@ returns-2 c = rw (c .before .before .before .m2 .given .1) (simp (c .started-ste
 
 returns-3 : tie.Need-returns-3
 unfolding react
-returns-3 c = rw (c .before .before .before .before .before .m3 .given .1) (simp (c .started-step3 .ensures, c .before .before .before .raised-node .ensures, c .before .write-sent .ensures))
+returns-3 c =
+    let c3 = c .before .before .before in
+    rw (c3 .before .before .m3 .given .1) (simp
+    (c .started-step3 .ensures, c3 .raised-node .ensures, c .before .write-sent .ensures))
 
 returns-4 : tie.Need-returns-4
 unfolding react
@@ -36,11 +39,17 @@ returns-4 c = rw (c .before .before .before .m4 .given .1) (simp (c .started-ste
 
 returns-5 : tie.Need-returns-5
 unfolding react
-returns-5 c = rw (c .before .before .before .before .before .m5 .given .1) (simp (c .started-step5 .ensures, c .before .before .before .raised-node2 .ensures, c .before .sent-where .ensures))
+returns-5 c =
+    let c3 = c .before .before .before in
+    rw (c3 .before .before .m5 .given .1) (simp
+    (c .started-step5 .ensures, c3 .raised-node2 .ensures, c .before .sent-where .ensures))
 
 returns-6 : tie.Need-returns-6
 unfolding react
-returns-6 c = rw (c .before .before .before .before .before .m6 .given .1) (simp (c .started-step6 .ensures, c .before .before .before .received-node .ensures, c .before .sent-where2 .ensures, c .before .before .tag-of .ensures))
+returns-6 c =
+    let c3 = c .before .before .before in
+    rw (c3 .before .before .m6 .given .1) (simp
+    (c .started-step6 .ensures, c3 .received-node .ensures, c .before .sent-where2 .ensures, c .before .before .tag-of .ensures))
 
 returns-7 : tie.Need-returns-7
 unfolding react
@@ -49,4 +58,9 @@ returns-7 c = rw (c .before .before .before .m7 .given .1) (simp (c .started-ste
 pub react-to-spec : {M : Type 1} → statement M
 react-to-spec =
     tie.close
-    (tie.spec (λ c. search needs) (λ c κs. search needs) (λ c. search needs) (λ c κs. search needs) (λ c κs. search needs) (λ c. search needs) (λ c κs. search needs) (λ c κs. search needs) (λ c κs. search needs) (λ c. search needs) (λ c κs. search needs) (λ c κs. search needs) (λ c. search needs) (λ c κs. search needs) (λ c κs. search needs) (λ c κs. search needs) (λ c. search needs) received-node-requires tag-of-requires (λ c κs. search needs) (λ c κs. search needs) (λ c. search needs) (λ c κs. search needs) (λ c κs. search needs) returns returns-2 returns-3 returns-4 returns-5 returns-6 returns-7)
+    (tie.spec (λ c. search needs) (λ c κs. search needs) (λ c. search needs) (λ c κs. search needs) (λ c κs. search needs)
+    (λ c. search needs) (λ c κs. search needs) (λ c κs. search needs) (λ c κs. search needs) (λ c. search needs)
+    (λ c κs. search needs) (λ c κs. search needs) (λ c. search needs) (λ c κs. search needs) (λ c κs. search needs)
+    (λ c κs. search needs) (λ c. search needs) received-node-requires tag-of-requires (λ c κs. search needs)
+    (λ c κs. search needs) (λ c. search needs) (λ c κs. search needs)
+    (λ c κs. search needs) returns returns-2 returns-3 returns-4 returns-5 returns-6 returns-7)

@@ -6,9 +6,22 @@ use Rattle.node.proofs.react.received_node.Tie as tie
 
 returns : tie.Need-returns
 unfolding received
-returns c = simp (c .put-where3 .ensures, c .before .and2 .ensures, c .before .before .round-holds .ensures, c .before .before .before .put-where2 .ensures, c .before .before .before .before .and .ensures, c .before .before .before .before .before .before .put-where .ensures, c .before .before .before .before .before .before .before .tag-of .ensures)
+returns c =
+    let c3 = c .before .before .before in
+    let c6 = c3 .before .before .before in
+    simp (
+      c .put-where3 .ensures,
+      c .before .and2 .ensures,
+      c .before .before .round-holds .ensures,
+      c3 .put-where2 .ensures,
+      c3 .before .and .ensures,
+      c6 .put-where .ensures,
+      c6 .before .tag-of .ensures,
+    )
 
 pub received-node-spec : {M : Type 1} → statement M
 received-node-spec =
     tie.close
-    (tie.spec (λ c κs. search needs) (λ c. search needs) (λ c. search needs) (λ c. search needs) (λ c. search needs) (λ c. search needs) (λ c. search needs) (λ c κs. search needs) (λ c κs. search needs) (λ c κs. search needs) (λ c κs. search needs) (λ c κs. search needs) (λ c κs. search needs) returns)
+    (tie.spec (λ c κs. search needs) (λ c. search needs) (λ c. search needs) (λ c. search needs) (λ c. search needs)
+    (λ c. search needs) (λ c. search needs) (λ c κs. search needs) (λ c κs. search needs) (λ c κs. search needs)
+    (λ c κs. search needs) (λ c κs. search needs) (λ c κs. search needs) returns)

@@ -8,11 +8,29 @@ use Rattle.node.proofs.react.write_answered.Tie as tie
 
 returns : tie.Need-returns
 unfolding writeAnswered
-returns c = rw (c .before .before .before .before .before .before .wait .given .1) (simp (eq-eqb _ _ (c .before .before .before .if1 .taken), eq-eqb _ _ (c .before .before .if2 .taken), sym (c .before .is-member .ensures) ∙ c .if3 .taken))
+returns c =
+    let c3 = c .before .before .before in
+    let c6 = c3 .before .before .before in
+    rw (c6 .wait .given .1) (simp (
+      eq-eqb _ _ (c3 .if1 .taken),
+      eq-eqb _ _ (c .before .before .if2 .taken),
+      sym
+          (c .before .is-member .ensures) ∙ c .if3 .taken,
+    ))
 
 returns-2 : tie.Need-returns-2
 unfolding writeAnswered
-returns-2 c = rw (c .before .before .before .before .before .before .before .before .wait .given .1) (simp (eq-eqb _ _ (c .before .before .before .before .before .if1 .taken), eq-eqb _ _ (c .before .before .before .before .if2 .taken), sym (c .before .before .before .is-member .ensures) ∙ c .before .before .if3 .left, c .waiting-node .ensures, c .before .with-member .ensures))
+returns-2 c =
+    let c3 = c .before .before .before in
+    let c8 = c3 .before .before .before .before .before in
+    rw (c8 .wait .given .1) (simp (
+      eq-eqb _ _ (c3 .before .before .if1 .taken),
+      eq-eqb _ _ (c3 .before .if2 .taken),
+      sym
+          (c3 .is-member .ensures) ∙ c .before .before .if3 .left,
+      c .waiting-node .ensures,
+      c .before .with-member .ensures,
+    ))
 
 returns-3 : tie.Need-returns-3
 unfolding writeAnswered
@@ -41,4 +59,6 @@ returns-8 c = rw (c .enum-told4 .given .1)
 pub write-answered-spec : {M : Type 1} → statement M
 write-answered-spec =
     tie.close
-    (tie.spec (λ c. search needs) (λ c. search needs) (λ c. search needs) (λ c κs. search needs) returns (λ c κs. search needs) (λ c κs. search needs) returns-2 returns-3 (λ c. search needs) (λ c. search needs) returns-4 returns-5 returns-6 returns-7 returns-8)
+    (tie.spec (λ c. search needs) (λ c. search needs) (λ c. search needs) (λ c κs. search needs) returns
+    (λ c κs. search needs) (λ c κs. search needs) returns-2 returns-3 (λ c. search needs)
+    (λ c. search needs) returns-4 returns-5 returns-6 returns-7 returns-8)

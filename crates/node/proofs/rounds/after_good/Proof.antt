@@ -7,13 +7,31 @@ use Rattle.node.proofs.rounds.after_good.Tie as tie
 
 returns : tie.Need-returns
 unfolding afterGood
-returns c = simp (eq-eqb _ _ (c .before .before .before .before .if1 .taken), c .after-comparing .ensures, c .before .opened-node .ensures, c .before .before .before .next-tag .ensures)
+returns c =
+    let c3 = c .before .before .before in
+    simp (
+      eq-eqb _ _
+          (c3 .before .if1 .taken),
+      c .after-comparing .ensures,
+      c .before .opened-node .ensures,
+      c3 .next-tag .ensures,
+    )
 
 returns-2 : tie.Need-returns-2
 unfolding afterGood
-returns-2 c = simp (ne-eqb _ _ (c .before .before .before .before .if1 .left), c .ended-step .ensures, c .before .before .before .after-comparing2 .ensures, c .before .before .closed-node .ensures, c .before .ending-of .ensures)
+returns-2 c =
+    let c3 = c .before .before .before in
+    simp (
+      ne-eqb _ _
+          (c3 .before .if1 .left),
+      c .ended-step .ensures,
+      c3 .after-comparing2 .ensures,
+      c .before .before .closed-node .ensures,
+      c .before .ending-of .ensures,
+    )
 
 pub after-good-spec : {M : Type 1} → statement M
 after-good-spec =
     tie.close
-    (tie.spec (λ c κs. search needs) (λ c. search needs) (λ c κs. search needs) (λ c κs. search needs) returns (λ c κs. search needs) (λ c κs. search needs) (λ c κs. search needs) (λ c κs. search needs) returns-2)
+    (tie.spec (λ c κs. search needs) (λ c. search needs) (λ c κs. search needs) (λ c κs. search needs) returns
+    (λ c κs. search needs) (λ c κs. search needs) (λ c κs. search needs) (λ c κs. search needs) returns-2)

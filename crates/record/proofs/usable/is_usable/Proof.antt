@@ -11,7 +11,15 @@ numbers-ok-requires c κs = sizes-most (c .before .before .args .c) (sym (c .bef
 
 returns : tie.Need-returns
 unfolding usable
-returns c = simp (sym (c .before .before .before .before .sizes-ok .ensures) ∙ c .before .before .before .if1 .taken, c .and .ensures, c .before .before .numbers-ok .ensures, c .before .tables-ok .ensures)
+returns c =
+    let c3 = c .before .before .before in
+    simp (
+      sym (c3 .before .sizes-ok .ensures)
+          ∙ c3 .if1 .taken,
+      c .and .ensures,
+      c .before .before .numbers-ok .ensures,
+      c .before .tables-ok .ensures,
+    )
 
 returns-2 : tie.Need-returns-2
 unfolding usable

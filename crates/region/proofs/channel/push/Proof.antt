@@ -39,7 +39,16 @@ same-length c = search needs
 
 returns : tie.Need-returns
 unfolding push
-returns c = simp (lt-ltb _ _ (c .before .before .before .before .before .before .before .if1 .taken), c .before .before .put-bytes .ensures, c .before .before .before .before .before .index .ensures .0, c .before .before .before .before .index2 .ensures .0)
+returns c =
+    let c4 = c .before .before .before .before in
+    let c7 = c4 .before .before .before in
+    simp (
+      lt-ltb _ _
+          (c7 .if1 .taken),
+      c .before .before .put-bytes .ensures,
+      c4 .before .index .ensures .0,
+      c4 .index2 .ensures .0,
+    )
 
 returns-2 : tie.Need-returns-2
 unfolding push

@@ -38,7 +38,21 @@ wait-of-requires : tie.Need-wait-of-requires
 wait-of-requires c κs = search needs
 
 returns : tie.Need-returns
-returns c = simp (c .wait-of .ensures, c .before .word6 .ensures, c .before .before .word5 .ensures, c .before .before .before .word4 .ensures, c .before .before .before .before .word3 .ensures, c .before .before .before .before .before .word2 .ensures, c .before .before .before .before .before .before .word .ensures, c .before .before .before .before .before .before .before .read-report .ensures, lent (c .before .before .before .before .before .before .before .before .before .before .args .b .now) 88 8 refl)
+returns c =
+    let c3 = c .before .before .before in
+    let c6 = c3 .before .before .before in
+    let c10 = c6 .before .before .before .before in
+    simp (
+      c .wait-of .ensures,
+      c .before .word6 .ensures,
+      c .before .before .word5 .ensures,
+      c3 .word4 .ensures,
+      c3 .before .word3 .ensures,
+      c3 .before .before .word2 .ensures,
+      c6 .word .ensures,
+      c6 .before .read-report .ensures,
+      lent (c10 .args .b .now) 88 8 refl,
+    )
 
 pub load-wait-spec : {M : Type 1} → statement M
 load-wait-spec =

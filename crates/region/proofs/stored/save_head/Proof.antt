@@ -11,9 +11,12 @@ use Rattle.region.proofs.stored.save_head.Tie as tie
 
 returns : tie.Need-returns
 returns c =
-    let a = c .before .before .before .before .before .before .before .before .before .before .args in
+    let c6 = c .before .before .before .before .before .before in
+    let c10 = c6 .before .before .before .before in
+    let a = c10 .args in
     put-then (a .b .now) 0 (wordBytes (a .n ∷ a .own ∷ a .maxtag ∷ a .request ∷ a .kept ∷ [])) (waitBytes (a .w)) 40 (omega arith)
-    (five-words (a .n) (a .own) (a .maxtag) (a .request) (a .kept)) (c .before .before .before .before .before .before .put-words .ensures) (c .before .before .save-wait .ensures)
+    (five-words (a .n) (a .own) (a .maxtag) (a .request) (a .kept)) (c6 .put-words .ensures)
+    (c .before .before .save-wait .ensures)
 
 pub save-head-spec : {M : Type 1} → statement M
 save-head-spec =

@@ -27,25 +27,30 @@ same-length : tie.Need-same-length
 same-length c = search needs
 
 returns : tie.Need-returns
-returns c = let b = c .before .before .before .before .before .before .before .before .before .before .before .before .before .before .before .before .before .args .b .now in
-    let p = viewBytes 16 (c .before .before .before .before .before .before .before .before .before .before .before .before .before .before .before .before .before .args .c .last) in
-    let q = viewBytes 16 (c .before .before .before .before .before .before .before .before .before .before .before .before .before .before .before .before .before .args .c .atmax) in
-    let r = viewBytes 16 (c .before .before .before .before .before .before .before .before .before .before .before .before .before .before .before .before .before .args .c .atround) in
-    let s = viewBytes 16 (c .before .before .before .before .before .before .before .before .before .before .before .before .before .before .before .before .before .args .c .keptview) in
-    let one : viewPlace 0 + length p ≡ viewPlace 1 = omega (arith, length-viewBytes 16 (c .before .before .before .before .before .before .before .before .before .before .before .before .before .before .before .before .before .args .c .last)) in
+returns c =
+    let c6 = c .before .before .before .before .before .before in
+    let c10 = c6 .before .before .before .before in
+    let c14 = c10 .before .before .before .before in
+    let c17 = c14 .before .before .before in
+    let b = c17 .args .b .now in
+    let p = viewBytes 16 (c17 .args .c .last) in
+    let q = viewBytes 16 (c17 .args .c .atmax) in
+    let r = viewBytes 16 (c17 .args .c .atround) in
+    let s = viewBytes 16 (c17 .args .c .keptview) in
+    let one : viewPlace 0 + length p ≡ viewPlace 1 = omega (arith, length-viewBytes 16 (c17 .args .c .last)) in
     let two : viewPlace 0 + length (p ++ q) ≡ viewPlace 2 =
-    simp length-append (omega (arith, length-viewBytes 16 (c .before .before .before .before .before .before .before .before .before .before .before .before .before .before .before .before .before .args .c .last), length-viewBytes 16 (c .before .before .before .before .before .before .before .before .before .before .before .before .before .before .before .before .before .args .c .atmax))) in
+    simp length-append (omega (arith, length-viewBytes 16 (c17 .args .c .last), length-viewBytes 16 (c17 .args .c .atmax))) in
     let three : viewPlace 0 + length (p ++ q ++ r) ≡ viewPlace 3 = simp length-append (omega (
       arith,
       length-viewBytes 16
-          (c .before .before .before .before .before .before .before .before .before .before .before .before .before .before .before .before .before .args .c .last),
-      length-viewBytes 16 (c .before .before .before .before .before .before .before .before .before .before .before .before .before .before .before .before .before .args .c .atmax),
-      length-viewBytes 16 (c .before .before .before .before .before .before .before .before .before .before .before .before .before .before .before .before .before .args .c .atround),
+          (c17 .args .c .last),
+      length-viewBytes 16 (c17 .args .c .atmax),
+      length-viewBytes 16 (c17 .args .c .atround),
     )) in
     put-then b (viewPlace 0) (p ++ q ++ r) s (viewPlace 3) (omega arith) three
     (put-then b (viewPlace 0) (p ++ q) r (viewPlace 2) (omega arith) two
-    (put-then b (viewPlace 0) p q (viewPlace 1) (omega arith) one (c .before .before .before .before .before .before .before .before .before .before .before .before .before .before .save-view .ensures) (c .before .before .before .before .before .before .before .before .before .before .save-view2 .ensures))
-    (c .before .before .before .before .before .before .save-view3 .ensures)) (c .before .before .save-view4 .ensures)
+    (put-then b (viewPlace 0) p q (viewPlace 1) (omega arith) one (c14 .save-view .ensures) (c10 .save-view2 .ensures))
+    (c6 .save-view3 .ensures)) (c .before .before .save-view4 .ensures)
 
 pub save-views-spec : {M : Type 1} → statement M
 save-views-spec =

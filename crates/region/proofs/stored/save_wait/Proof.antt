@@ -37,11 +37,16 @@ same-length : tie.Need-same-length
 same-length c = search needs
 
 returns : tie.Need-returns
-returns c = let b = c .before .before .before .before .before .before .before .before .before .before .before .before .before .before .args .b .now in
-    let w = c .before .before .before .before .before .before .before .before .before .before .before .before .before .before .args .w in
+returns c =
+    let c5 = c .before .before .before .before .before in
+    let c9 = c5 .before .before .before .before in
+    let c12 = c9 .before .before .before in
+    let b = c12 .before .before .args .b .now in
+    let w = c12 .before .before .args .w in
     put-then b 40 (wordBytes (waitWords w)) (reportBytes (waitReport w)) 88 (omega arith) (wait-end w)
-    (c .before .before .before .before .before .before .before .before .before .put-words .ensures ∙ ap (λ (t : List ℕ). put b 40 (wordBytes t)) (c .before .before .before .before .before .before .before .before .before .before .before .before .wait-words .ensures))
-    (c .before .before .put-bytes .ensures ∙ ap (put _ 88) (c .before .before .before .before .before .report-bytes .ensures ∙ ap reportBytes (c .before .before .before .before .before .before .wait-report .ensures)))
+    (c9 .put-words .ensures ∙ ap (λ (t : List ℕ). put b 40 (wordBytes t)) (c12 .wait-words .ensures))
+    (c .before .before .put-bytes .ensures ∙ ap (put _ 88) (c5 .report-bytes .ensures ∙ ap reportBytes
+    (c5 .before .wait-report .ensures)))
 
 pub save-wait-spec : {M : Type 1} → statement M
 save-wait-spec =

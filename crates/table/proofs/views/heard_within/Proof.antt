@@ -30,4 +30,5 @@ returns c = let e : c .before .loop .k ≡ 256 = omega arith in rw e at (c .befo
 pub heard-within-spec : {M : Type 1} → statement M
 heard-within-spec =
     tie.close
-    (tie.spec Inv-loop μ-loop loop-holds (λ c. search needs) (λ c. search needs) (λ c. search needs) (λ c. search needs) (λ c κs. search needs) (λ c. search needs) loop-again returns)
+    (tie.spec Inv-loop μ-loop loop-holds (λ c. search needs) (λ c. search needs) (λ c. search needs) (λ c. search needs)
+    (λ c κs. search needs) (λ c. search needs) loop-again returns)

@@ -24,11 +24,15 @@ loop-holds : tie.Need-loop-holds Inv-loop μ-loop
 loop-holds c = (search needs, filled-none _ _, filled-none _ _)
 
 loop-again : tie.Need-loop-again Inv-loop μ-loop
-loop-again c = let a = c .before .before .before .args in let w = c .before .before .loop .w in let e = c .newest-at .ensures in let i = c .before .before .loop .inv in
+loop-again c =
+    let c3 = c .before .before .before in
+    let a = c3 .args in let w = c .before .before .loop .w in let e = c .newest-at .ensures in let i = c .before .before .loop .inv in
     let b = leb (tagOf (a .last) (w + 1)) (a .t) in (
       search needs,
-      e .0 ∙ rw (i .1) (filled w (newestTag (a .t) (a .last) (a .held)) (a .held .tags) b (tagOf (a .last) (w + 1)) 0 (search needs) refl),
-      e .1 ∙ rw (i .2) (filled w (newestReport (a .t) (a .last) (a .held)) (a .held .reports) b (reportOf (a .last) (w + 1)) noReport (search (needs, length-mapped)) refl),
+      e .0 ∙ rw (i .1) (filled w (newestTag (a .t) (a .last) (a .held)) (a .held .tags) b (tagOf (a .last) (w + 1)) 0
+          (search needs) refl),
+      e .1 ∙ rw (i .2) (filled w (newestReport (a .t) (a .last) (a .held)) (a .held .reports) b (reportOf (a .last)
+          (w + 1)) noReport (search (needs, length-mapped)) refl),
     )
 
 returns : tie.Need-returns Inv-loop μ-loop

@@ -19,31 +19,43 @@ cast-writer c = omega (arith, c .shared-slice-known3 .given 18)
 
 returns : tie.Need-returns
 unfolding shapeAs said allowed size part
-returns c = let t = rw (c .before .before .before .has-head .ensures, c .before .before .is-request .ensures, c .before .before .before .before .get-word .ensures) at
+returns c =
+    let c3 = c .before .before .before in
+    let t = rw (c3 .has-head .ensures, c .before .before .is-request .ensures, c3 .before .get-word .ensures) at
     (sym (c .before .and .ensures) ∙ c .if1 .taken) in
-    rw (c .before .before .before .before .before .match .keys1)
-    (simp (t, c .before .before .before .before .get-word .ensures))
+    rw (c3 .before .before .match .keys1)
+    (simp (t, c3 .before .get-word .ensures))
 
 returns-2 : tie.Need-returns-2
 unfolding shapeAs said allowed size part
-returns-2 c = let t = rw (c .before .before .before .has-head .ensures, c .before .before .is-request .ensures, c .before .before .before .before .get-word .ensures) at
+returns-2 c =
+    let c3 = c .before .before .before in
+    let t = rw (c3 .has-head .ensures, c .before .before .is-request .ensures, c3 .before .get-word .ensures) at
     (sym (c .before .and .ensures) ∙ c .if1 .left) in
-    rw (c .before .before .before .before .before .match .keys1)
+    rw (c3 .before .before .match .keys1)
     (simp (t))
 
 returns-3 : tie.Need-returns-3
 unfolding shapeAs said allowed size part
-returns-3 c = let t = rw (c .before .before .before .has-two .ensures, c .before .before .is-pair .ensures, c .before .before .before .before .before .get-word2 .ensures, c .before .before .before .before .get-word3 .ensures) at
+returns-3 c =
+    let c3 = c .before .before .before in
+    let c6 = c3 .before .before .before in
+    let t = rw
+    (c3 .has-two .ensures, c .before .before .is-pair .ensures, c3 .before .before .get-word2 .ensures, c3 .before .get-word3 .ensures) at
     (sym (c .before .and2 .ensures) ∙ c .if3 .taken) in
-    rw (c .before .before .before .before .before .before .before .match .keys2)
-    (simp (le-leb _ _ (c .before .before .before .before .before .before .if2 .taken), t, c .before .before .before .before .before .get-word2 .ensures, c .before .before .before .before .get-word3 .ensures))
+    rw (c6 .before .match .keys2)
+    (simp (le-leb _ _ (c6 .if2 .taken), t, c3 .before .before .get-word2 .ensures, c3 .before .get-word3 .ensures))
 
 returns-4 : tie.Need-returns-4
 unfolding shapeAs said allowed size part
-returns-4 c = let t = rw (c .before .before .before .has-two .ensures, c .before .before .is-pair .ensures, c .before .before .before .before .before .get-word2 .ensures, c .before .before .before .before .get-word3 .ensures) at
+returns-4 c =
+    let c3 = c .before .before .before in
+    let c6 = c3 .before .before .before in
+    let t = rw
+    (c3 .has-two .ensures, c .before .before .is-pair .ensures, c3 .before .before .get-word2 .ensures, c3 .before .get-word3 .ensures) at
     (sym (c .before .and2 .ensures) ∙ c .if3 .left) in
-    rw (c .before .before .before .before .before .before .before .match .keys2)
-    (simp (le-leb _ _ (c .before .before .before .before .before .before .if2 .taken), t))
+    rw (c6 .before .match .keys2)
+    (simp (le-leb _ _ (c6 .if2 .taken), t))
 
 returns-5 : tie.Need-returns-5
 unfolding shapeAs said allowed size part
@@ -51,17 +63,25 @@ returns-5 c = rw (c .before .match .keys2) (simp (lt-leb _ _ (c .if2 .left)))
 
 returns-6 : tie.Need-returns-6
 unfolding shapeAs said allowed size part
-returns-6 c = let t = rw (c .before .before .before .has-two2 .ensures, c .before .before .is-pair2 .ensures, c .before .before .before .before .before .get-word4 .ensures, c .before .before .before .before .get-word5 .ensures) at
+returns-6 c =
+    let c3 = c .before .before .before in
+    let c6 = c3 .before .before .before in
+    let t = rw
+    (c3 .has-two2 .ensures, c .before .before .is-pair2 .ensures, c3 .before .before .get-word4 .ensures, c3 .before .get-word5 .ensures) at
     (sym (c .before .and3 .ensures) ∙ c .if5 .taken) in
-    rw (c .before .before .before .before .before .before .before .match .keys3)
-    (simp (le-leb _ _ (c .before .before .before .before .before .before .if4 .taken), t, c .before .before .before .before .before .get-word4 .ensures, c .before .before .before .before .get-word5 .ensures))
+    rw (c6 .before .match .keys3)
+    (simp (le-leb _ _ (c6 .if4 .taken), t, c3 .before .before .get-word4 .ensures, c3 .before .get-word5 .ensures))
 
 returns-7 : tie.Need-returns-7
 unfolding shapeAs said allowed size part
-returns-7 c = let t = rw (c .before .before .before .has-two2 .ensures, c .before .before .is-pair2 .ensures, c .before .before .before .before .before .get-word4 .ensures, c .before .before .before .before .get-word5 .ensures) at
+returns-7 c =
+    let c3 = c .before .before .before in
+    let c6 = c3 .before .before .before in
+    let t = rw
+    (c3 .has-two2 .ensures, c .before .before .is-pair2 .ensures, c3 .before .before .get-word4 .ensures, c3 .before .get-word5 .ensures) at
     (sym (c .before .and3 .ensures) ∙ c .if5 .left) in
-    rw (c .before .before .before .before .before .before .before .match .keys3)
-    (simp (le-leb _ _ (c .before .before .before .before .before .before .if4 .taken), t))
+    rw (c6 .before .match .keys3)
+    (simp (le-leb _ _ (c6 .if4 .taken), t))
 
 returns-8 : tie.Need-returns-8
 unfolding shapeAs said allowed size part
@@ -69,17 +89,25 @@ returns-8 c = rw (c .before .match .keys3) (simp (lt-leb _ _ (c .if4 .left)))
 
 returns-9 : tie.Need-returns-9
 unfolding shapeAs said allowed size part
-returns-9 c = let t = rw (c .before .before .before .has-two3 .ensures, c .before .before .is-pair3 .ensures, c .before .before .before .before .before .get-word6 .ensures, c .before .before .before .before .get-word7 .ensures) at
+returns-9 c =
+    let c3 = c .before .before .before in
+    let c6 = c3 .before .before .before in
+    let t = rw
+    (c3 .has-two3 .ensures, c .before .before .is-pair3 .ensures, c3 .before .before .get-word6 .ensures, c3 .before .get-word7 .ensures) at
     (sym (c .before .and4 .ensures) ∙ c .if7 .taken) in
-    rw (c .before .before .before .before .before .before .before .match .keys4)
-    (simp (le-leb _ _ (c .before .before .before .before .before .before .if6 .taken), t, c .before .before .before .before .before .get-word6 .ensures, c .before .before .before .before .get-word7 .ensures))
+    rw (c6 .before .match .keys4)
+    (simp (le-leb _ _ (c6 .if6 .taken), t, c3 .before .before .get-word6 .ensures, c3 .before .get-word7 .ensures))
 
 returns-10 : tie.Need-returns-10
 unfolding shapeAs said allowed size part
-returns-10 c = let t = rw (c .before .before .before .has-two3 .ensures, c .before .before .is-pair3 .ensures, c .before .before .before .before .before .get-word6 .ensures, c .before .before .before .before .get-word7 .ensures) at
+returns-10 c =
+    let c3 = c .before .before .before in
+    let c6 = c3 .before .before .before in
+    let t = rw
+    (c3 .has-two3 .ensures, c .before .before .is-pair3 .ensures, c3 .before .before .get-word6 .ensures, c3 .before .get-word7 .ensures) at
     (sym (c .before .and4 .ensures) ∙ c .if7 .left) in
-    rw (c .before .before .before .before .before .before .before .match .keys4)
-    (simp (le-leb _ _ (c .before .before .before .before .before .before .if6 .taken), t))
+    rw (c6 .before .match .keys4)
+    (simp (le-leb _ _ (c6 .if6 .taken), t))
 
 returns-11 : tie.Need-returns-11
 unfolding shapeAs said allowed size part
@@ -87,31 +115,41 @@ returns-11 c = rw (c .before .match .keys4) (simp (lt-leb _ _ (c .if6 .left)))
 
 returns-12 : tie.Need-returns-12
 unfolding shapeAs said allowed size part
-returns-12 c = let t = rw (c .before .before .before .has-head2 .ensures, c .before .before .is-request2 .ensures, c .before .before .before .before .get-word8 .ensures) at
+returns-12 c =
+    let c3 = c .before .before .before in
+    let t = rw (c3 .has-head2 .ensures, c .before .before .is-request2 .ensures, c3 .before .get-word8 .ensures) at
     (sym (c .before .and5 .ensures) ∙ c .if8 .taken) in
-    rw (c .before .before .before .before .before .match .keys5)
-    (simp (t, c .before .before .before .before .get-word8 .ensures))
+    rw (c3 .before .before .match .keys5)
+    (simp (t, c3 .before .get-word8 .ensures))
 
 returns-13 : tie.Need-returns-13
 unfolding shapeAs said allowed size part
-returns-13 c = let t = rw (c .before .before .before .has-head2 .ensures, c .before .before .is-request2 .ensures, c .before .before .before .before .get-word8 .ensures) at
+returns-13 c =
+    let c3 = c .before .before .before in
+    let t = rw (c3 .has-head2 .ensures, c .before .before .is-request2 .ensures, c3 .before .get-word8 .ensures) at
     (sym (c .before .and5 .ensures) ∙ c .if8 .left) in
-    rw (c .before .before .before .before .before .match .keys5)
+    rw (c3 .before .before .match .keys5)
     (simp (t))
 
 returns-14 : tie.Need-returns-14
 unfolding shapeAs said allowed size part
-returns-14 c = let t = rw (c .before .before .before .before .before .has-value .ensures, c .before .before .before .before .is-sent .ensures, c .before .before .before .before .before .before .before .get-word9 .ensures) at
-    (sym (c .before .before .before .and6 .ensures) ∙ c .before .before .if10 .taken) in
-    rw (c .before .before .before .before .before .before .before .before .before .match .keys6)
-    (simp (le-leb _ _ (c .before .before .before .before .before .before .before .before .if9 .taken), t, c .before .before .before .before .before .before .before .get-word9 .ensures, c .read-report .ensures))
+returns-14 c =
+    let c3 = c .before .before .before in
+    let c7 = c3 .before .before .before .before in
+    let t = rw (c3 .before .before .has-value .ensures, c3 .before .is-sent .ensures, c7 .get-word9 .ensures) at
+    (sym (c3 .and6 .ensures) ∙ c .before .before .if10 .taken) in
+    rw (c7 .before .before .match .keys6)
+    (simp (le-leb _ _ (c7 .before .if9 .taken), t, c7 .get-word9 .ensures, c .read-report .ensures))
 
 returns-15 : tie.Need-returns-15
 unfolding shapeAs said allowed size part
-returns-15 c = let t = rw (c .before .before .before .has-value .ensures, c .before .before .is-sent .ensures, c .before .before .before .before .before .get-word9 .ensures) at
+returns-15 c =
+    let c3 = c .before .before .before in
+    let c6 = c3 .before .before .before in
+    let t = rw (c3 .has-value .ensures, c .before .before .is-sent .ensures, c3 .before .before .get-word9 .ensures) at
     (sym (c .before .and6 .ensures) ∙ c .if10 .left) in
-    rw (c .before .before .before .before .before .before .before .match .keys6)
-    (simp (le-leb _ _ (c .before .before .before .before .before .before .if9 .taken), t))
+    rw (c6 .before .match .keys6)
+    (simp (le-leb _ _ (c6 .if9 .taken), t))
 
 returns-16 : tie.Need-returns-16
 unfolding shapeAs said allowed size part
@@ -120,22 +158,30 @@ returns-16 c = rw (c .before .match .keys6) (simp (lt-leb _ _ (c .if9 .left)))
 returns-17 : tie.Need-returns-17
 unfolding shapeAs said allowed size part
 returns-17 c =
-    let a = c .before .before .before .before .before .before .before .before .before .before .args in
-    let h : c .before .before .is-held .result ≡ allowed (a .n) (Good (c .before .before .before .before .before .get-word10 .result)) (viewAt (a .n) (a .b .now)) =
-    c .before .before .is-held .ensures ∙ ap (λ (v : List ℕ). allowed (a .n) (Good (c .before .before .before .before .before .get-word10 .result)) v)
+    let c4 = c .before .before .before .before in
+    let c7 = c4 .before .before .before in
+    let c10 = c7 .before .before .before in
+    let a = c10 .args in
+    let h : c .before .before .is-held .result ≡ allowed (a .n) (Good (c4 .before .get-word10 .result)) (viewAt (a .n)
+    (a .b .now)) =
+    c .before .before .is-held .ensures ∙ ap (λ (v : List ℕ). allowed (a .n) (Good (c4 .before .get-word10 .result)) v)
     (lent (a .b .now) 18 (16 * a .n) refl) in
-    let t = rw (c .before .before .before .before .has-good .ensures, h, c .before .before .before .before .before .get-word10 .ensures) at (sym (c .before .and7 .ensures) ∙ c .if12 .taken) in
-    rw (c .before .before .before .before .before .before .before .match .keys7) (simp (le-leb _ _ (c .before .before .before .before .before .before .if11 .taken), t, c .before .before .before .before .before .get-word10 .ensures))
+    let t = rw (c4 .has-good .ensures, h, c4 .before .get-word10 .ensures) at (sym (c .before .and7 .ensures) ∙ c .if12 .taken) in
+    rw (c7 .match .keys7) (simp (le-leb _ _ (c4 .before .before .if11 .taken), t, c4 .before .get-word10 .ensures))
 
 returns-18 : tie.Need-returns-18
 unfolding shapeAs said allowed size part
 returns-18 c =
-    let a = c .before .before .before .before .before .before .before .before .before .before .args in
-    let h : c .before .before .is-held .result ≡ allowed (a .n) (Good (c .before .before .before .before .before .get-word10 .result)) (viewAt (a .n) (a .b .now)) =
-    c .before .before .is-held .ensures ∙ ap (λ (v : List ℕ). allowed (a .n) (Good (c .before .before .before .before .before .get-word10 .result)) v)
+    let c4 = c .before .before .before .before in
+    let c7 = c4 .before .before .before in
+    let c10 = c7 .before .before .before in
+    let a = c10 .args in
+    let h : c .before .before .is-held .result ≡ allowed (a .n) (Good (c4 .before .get-word10 .result)) (viewAt (a .n)
+    (a .b .now)) =
+    c .before .before .is-held .ensures ∙ ap (λ (v : List ℕ). allowed (a .n) (Good (c4 .before .get-word10 .result)) v)
     (lent (a .b .now) 18 (16 * a .n) refl) in
-    let t = rw (c .before .before .before .before .has-good .ensures, h, c .before .before .before .before .before .get-word10 .ensures) at (sym (c .before .and7 .ensures) ∙ c .if12 .left) in
-    rw (c .before .before .before .before .before .before .before .match .keys7) (simp (le-leb _ _ (c .before .before .before .before .before .before .if11 .taken), t))
+    let t = rw (c4 .has-good .ensures, h, c4 .before .get-word10 .ensures) at (sym (c .before .and7 .ensures) ∙ c .if12 .left) in
+    rw (c7 .match .keys7) (simp (le-leb _ _ (c4 .before .before .if11 .taken), t))
 
 returns-19 : tie.Need-returns-19
 unfolding shapeAs said allowed size part

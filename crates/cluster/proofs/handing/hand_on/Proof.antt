@@ -1,4 +1,4 @@
--- `cluster::hand_on` meets its contract.
+-- `cluster::handing::hand_on` meets its contract.
 use borrow.Author.Needs.{needs}
 use mathlib.Core.Path.{_≡_, refl, sym, ap, _∙_}
 use native.Mathlib.Omega.{arith}
@@ -19,8 +19,8 @@ use Rattle.cluster.proofs.Handed.{hand-stale, hand-uncut, hand-settles}
 use Rattle.cluster.proofs.Moved.{sized-moved, step-bytes, step-back}
 use Rattle.cluster.proofs.Reacted.{react-usable}
 use Rattle.cluster.proofs.Settled.{cut-judged}
-use Rattle.cluster.proofs.hand_on.Statement.{statement}
-use Rattle.cluster.proofs.hand_on.Tie as tie
+use Rattle.cluster.proofs.handing.hand_on.Statement.{statement}
+use Rattle.cluster.proofs.handing.hand_on.Tie as tie
 
 is-stale-in-requires : tie.Need-is-stale-in-requires
 is-stale-in-requires c κs =
@@ -51,7 +51,8 @@ returns-2 c =
     let at : d ≡ node (a .b .now) (a .c) = ap recordOf (k .ensures) in
     refuses 10 (hand-uncut (a .n) (a .a) (a .c) (a .x) (a .b .now) (first (channel (a .b .now) (a .a) (a .c))) (a .m) d at
     (sym (c5 .before .is-stale-in .ensures) ∙ c5 .if1 .left)
-    (cut-judged (a .n) (a .x) (a .b .now) (c .before .before .before .is-cut .ensures) (c .before .before .may-cut .ensures) (not-true _ (c .before .if2 .taken))))
+    (cut-judged (a .n) (a .x) (a .b .now) (c .before .before .before .is-cut .ensures) (c .before .before .may-cut .ensures)
+    (not-true _ (c .before .if2 .taken))))
     (c .refused2 .ensures)
 
 handle-first-requires : tie.Need-handle-first-requires
@@ -135,7 +136,8 @@ returns-3 c =
     becomes (c .before .before .step-at .result) (c .before .before .step-at .last .0)
     (hand-settles (a .n) (a .a) (a .c) (a .x) (a .b .now) t (a .m) d at
     (sym (c20 .is-stale-in .ensures) ∙ c16 .before .before .before .if1 .left)
-    (cut-judged (a .n) (a .x) (a .b .now) (c16 .before .is-cut .ensures) (c16 .may-cut .ensures) (not-false _ (c12 .before .before .before .if2 .left)))
+    (cut-judged (a .n) (a .x) (a .b .now) (c16 .before .is-cut .ensures) (c16 .may-cut .ensures) (not-false _
+    (c12 .before .before .before .if2 .left)))
     (c7 .before .most-faults .ensures) refl
     (back ∙ ap (moveOn f) (reacted-step r r′ (a .a) (a .m) v z (h .ensures .1) (h .ensures .0))))
     (c .before .before .step-at .ensures)

@@ -1,7 +1,7 @@
--- `cluster::hand_over` meets its contract.
+-- `cluster::handing::hand_over` meets its contract.
 use borrow.Author.Needs.{needs}
-use Rattle.cluster.proofs.hand_over.Statement.{statement}
-use Rattle.cluster.proofs.hand_over.Tie as tie
+use Rattle.cluster.proofs.handing.hand_over.Statement.{statement}
+use Rattle.cluster.proofs.handing.hand_over.Tie as tie
 
 returns : tie.Need-returns
 returns c = c .before .before .before .hand-on .ensures

@@ -1,4 +1,4 @@
--- `cluster::step_at` meets its contract.
+-- `cluster::handing::step_at` meets its contract.
 use borrow.Author.Needs.{needs}
 use mathlib.Core.Path.{_≡_, sym, ap, _∙_}
 use mathlib.Core.Bool.{Bool, true}
@@ -18,8 +18,8 @@ use Rattle.moves.specs.Moved.{stepOf}
 use Rattle.cluster.specs.Event.{within, isCut, haltIf, letOut}
 use Rattle.cluster.proofs.Told.{refuses, becomes}
 use Rattle.cluster.proofs.Settled.{judged, settle-full, settle-commits}
-use Rattle.cluster.proofs.step_at.Statement.{statement}
-use Rattle.cluster.proofs.step_at.Tie as tie
+use Rattle.cluster.proofs.handing.step_at.Statement.{statement}
+use Rattle.cluster.proofs.handing.step_at.Tie as tie
 
 returns : tie.Need-returns
 returns c =
@@ -61,7 +61,8 @@ returns-2 c =
     (sym j ∙ not-false _ (c12 .before .before .if1 .left))) (
       c .given .ensures .0 ∙ ap (λ (t : Bool). result (pick t None (a .e .ending))) cut,
       c .given .ensures .1 ∙ ap (λ (t : Bool). pick t noView (a .e .view)) cut,
-      c4 .release .ensures ∙ ap (λ (u : List ℕ). letOut (a .n) (a .c) (within (a .x) (entries (a .n) (a .a) (a .e .outbox))) (haltIf (isCut (a .x)) (a .n) (a .c) u))
+      c4 .release .ensures ∙ ap (λ (u : List ℕ). letOut (a .n) (a .c) (within (a .x) (entries (a .n) (a .a) (a .e .outbox)))
+          (haltIf (isCut (a .x)) (a .n) (a .c) u))
           (c8 .keep-record-at .ensures ∙ ap (onBlock (a .c) (keep (recordOf (a .r .now)))) (c12 .take-off-at .ensures)),
     )
 

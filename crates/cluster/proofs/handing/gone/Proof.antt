@@ -1,8 +1,8 @@
 use borrow.Author.Needs.{needs}
-use Rattle.cluster.proofs.gone.Statement.{statement}
+use Rattle.cluster.proofs.handing.gone.Statement.{statement}
 use mathlib.Core.Path.{refl}
 use borrow.Author.Tests.{eq-eqb, ne-eqb}
-use Rattle.cluster.proofs.gone.Tie as tie
+use Rattle.cluster.proofs.handing.gone.Tie as tie
 
 returns : tie.Need-returns
 returns c = rw (eq-eqb (c .before .args .a) (c .before .args .c) (c .if1 .taken)) refl

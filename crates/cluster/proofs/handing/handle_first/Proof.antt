@@ -1,4 +1,4 @@
--- `cluster::handle_first` meets its contract.
+-- `cluster::handing::handle_first` meets its contract.
 use borrow.Author.Needs.{needs}
 use mathlib.Core.Path.{_≡_, refl, ap, _∙_}
 use Prim.Native.Nat.{ℕ, _-_, _*_}
@@ -13,8 +13,8 @@ use Rattle.node.specs.React.{react}
 use Rattle.region.specs.Record.{recordOf, recordBytes}
 use Rattle.layout.specs.Layout.{channel}
 use Rattle.layout.proofs.Blocks.{length-channel, length-first}
-use Rattle.cluster.proofs.handle_first.Statement.{statement}
-use Rattle.cluster.proofs.handle_first.Tie as tie
+use Rattle.cluster.proofs.handing.handle_first.Statement.{statement}
+use Rattle.cluster.proofs.handing.handle_first.Tie as tie
 
 part-react-in-end : tie.Need-part-react-in-end
 part-react-in-end c =
@@ -38,4 +38,5 @@ returns c =
 pub handle-first-spec : {M : Type 1} → statement M
 handle-first-spec =
     tie.close
-    (tie.spec (λ c κs. search needs) (λ c. search needs) (λ c. search needs) (λ c. search needs) (λ c. search needs) part-react-in-end (λ c κs. search needs) (λ c. search needs) returns)
+    (tie.spec (λ c κs. search needs) (λ c. search needs) (λ c. search needs) (λ c. search needs)
+    (λ c. search needs) part-react-in-end (λ c κs. search needs) (λ c. search needs) returns)
