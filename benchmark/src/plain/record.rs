@@ -117,10 +117,13 @@ impl<B: Borrow<[u8; SIZE]>> Record<B> {
         word(self.bytes(), HEARD + 128 * (s - 1) + 8 * (w - 1))
     }
 
-    /// The wait; none where its code is none of the five.
+    /// The wait; none where its code is none of the five, or the code of its kind none of the two.
     pub fn wait(&self) -> Option<Wait> {
         let b = self.bytes();
         let [code, kind, round, tag, answered, largest] = std::array::from_fn(|i| word(b, WAIT + 8 * i));
+        if code != 0 && kind > 1 {
+            return None;
+        }
         let (operation, kind) = if kind == 0 {
             (Operation::Scan, Kind::Scan)
         } else {

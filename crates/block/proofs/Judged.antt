@@ -25,7 +25,7 @@ use Rattle.view.proofs.ReportBytes.{report-bytes-back, zero-report}
 use Rattle.table.specs.Loop.{either, all}
 use Rattle.table.specs.Table.{at, tagOf, reportOf as reportIn, entryOk, entryWithin, within, heardWithin}
 use Rattle.record.specs.Usable.{roundTag, numbersWithin, numbersOk, tablesOk, usable}
-use Rattle.region.specs.Record.{heardPlace, scalar, viewIn, waitIn, recordOf, waitKnown}
+use Rattle.region.specs.Record.{heardPlace, scalar, viewIn, waitIn, recordOf, codesKnown}
 use Rattle.block.specs.Block.{recordSound}
 
 -- ---- a word within the limit
@@ -114,7 +114,7 @@ tablesWithin maxtag round kept r =
 
 abbrev judgedAs : (n own : ℕ) → List ℕ → Bool
 judgedAs n own r =
-    both (waitKnown r)
+    both (codesKnown r)
     (both (sizesWithin n own)
     (both (numbersWithin n (scalar r 2) (scalar r 3) (scalar r 4) (waitIn r))
     (tablesWithin (scalar r 2) (roundTag (waitIn r)) (scalar r 4) r)))
@@ -126,7 +126,7 @@ module _ (n c : ℕ) (r : List ℕ) where
   -- where the record states another n or number
   pub judged-other : stated ≡ false → false ≡ recordSound n c r
   unfolding recordOf
-  judged-other h = sym (ap (both (both (waitKnown r) (usable (recordOf r)))) h ∙ never (both (waitKnown r) (usable (recordOf r))))
+  judged-other h = sym (ap (both (both (codesKnown r) (usable (recordOf r)))) h ∙ never (both (codesKnown r) (usable (recordOf r))))
     where
       never : (t : Bool) → both t false ≡ false
       never true = refl
@@ -138,7 +138,7 @@ module _ (n c : ℕ) (r : List ℕ) where
   judged h e =
       e ∙ ap₂ (λ (x y : ℕ). judgedAs x y r) (sym (eqb-true (scalar r 0) n (both-left (eqb (scalar r 0) n) (eqb (scalar r 1) c) h)))
       (sym (eqb-true (scalar r 1) c (both-right (eqb (scalar r 0) n) (eqb (scalar r 1) c) h)))
-      ∙ sym (ap (both (both (waitKnown r) (usable (recordOf r)))) h ∙ only (both (waitKnown r) (usable (recordOf r))))
+      ∙ sym (ap (both (both (codesKnown r) (usable (recordOf r)))) h ∙ only (both (codesKnown r) (usable (recordOf r))))
     where
       only : (t : Bool) → both t true ≡ t
       only true = refl

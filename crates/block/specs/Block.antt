@@ -12,7 +12,7 @@ use Rattle.table.specs.Loop.{all}
 use Rattle.record.specs.Usable.{usable}
 use Rattle.record.specs.declared.Node.{Node}
 use Rattle.region.specs.Channel.{channelSize, capacity, countOf, push, pop, clear}
-use Rattle.region.specs.Record.{recordSize, recordOf, recordBytes, waitKnown}
+use Rattle.region.specs.Record.{recordSize, recordOf, recordBytes, codesKnown}
 
 abbrev pub blockSize : ℕ
 blockSize = 73345
@@ -64,7 +64,7 @@ halt n k = upTo n (λ i. onChannel (i + 1) clear) (set k 0 1)
 -- What refusal 2 asks of the block of node c of n: a usable record of that n and number, and no channel with more
 -- messages than it can hold.
 abbrev pub recordSound : ℕ → ℕ → List ℕ → Bool
-recordSound n c r = both (both (waitKnown r) (usable (recordOf r))) (both (eqb (recordOf r .n) n) (eqb (recordOf r .own) c))
+recordSound n c r = both (both (codesKnown r) (usable (recordOf r))) (both (eqb (recordOf r .n) n) (eqb (recordOf r .own) c))
 
 abbrev pub channelsSound : ℕ → List ℕ → Bool
 channelsSound n k = all n (λ a. leb (waitingIn k a) capacity)

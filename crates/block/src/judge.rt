@@ -3,6 +3,7 @@ use octets::and;
 use octets::get_word;
 use record::usable::numbers_within;
 use record::usable::round_tag;
+use region::stored::codes_known;
 use region::stored::load_wait;
 use view::LIMIT;
 use view::view_ok;
@@ -69,7 +70,7 @@ pub fn record_sound(r: &[u8], n: usize, c: usize) -> bool
         let sizes = and(and(1 <= n, n <= 16), and(1 <= c, c <= n));
         let numbers = numbers_within(n, maxtag, get_word(r, 24), kept, wait);
         let tables = tables_sound(r, maxtag, round_tag(wait), kept);
-        return and(get_word(r, 40) <= 4, and(sizes, and(numbers, tables)));
+        return and(codes_known(r), and(sizes, and(numbers, tables)));
     }
     false
 }

@@ -24,7 +24,7 @@ use Rattle.node.specs.Stale.{staleMessage}
 use Rattle.node.specs.declared.Step.{Step}
 use Rattle.node.proofs.Allowed.{allowed-lawful}
 use Rattle.region.specs.Channel.{countOf, first}
-use Rattle.region.specs.Record.{recordOf, waitKnown}
+use Rattle.region.specs.Record.{recordOf, codesKnown}
 use Rattle.block.specs.Block.{recordIn, recordSound, channelsSound, blockSound, takeOff}
 use Rattle.layout.specs.Layout.{stated, block, stopped, node, channel, onBlock, fits, sound, isNode}
 use Rattle.layout.proofs.Check.{sound-block}
@@ -37,7 +37,7 @@ unfolding blockSound
 sound-n b s n c st k =
     let r = recordIn (block b c) in
     let here = both (eqb (recordOf r .n) (stated b)) (eqb (recordOf r .own) c) in
-    let known = both (waitKnown r) (usable (recordOf r)) in
+    let known = both (codesKnown r) (usable (recordOf r)) in
     let e : here ≡ true = both-right known here
     (both-left (recordSound (stated b) c r) (channelsSound (stated b) (block b c))
     (sound-block b s c (ap (λ (j : ℕ). isNode j c) (sym st) ∙ k))) in

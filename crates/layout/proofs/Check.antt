@@ -16,7 +16,7 @@ use Rattle.table.proofs.Laws.{all-at}
 use Rattle.view.specs.Size.{isSize}
 use Rattle.record.specs.Usable.{usable}
 use Rattle.region.specs.Channel.{countOf, capacity}
-use Rattle.region.specs.Record.{recordOf, waitKnown}
+use Rattle.region.specs.Record.{recordOf, codesKnown}
 use Rattle.block.specs.Block.{recordIn, recordSound, channelsSound, blockSound}
 use Rattle.layout.specs.Layout.{clusterSize, stated, block, stopped, node, channel, fits, sound, isNode}
 
@@ -105,8 +105,8 @@ module _ (b : List ℕ) (h : sound b ≡ true) where
   pub sound-usable : (c : ℕ) → isNode (stated b) c ≡ true → usable (node b c) ≡ true
   sound-usable c k =
       let r = recordIn (block b c) in
-      both-right (waitKnown r) (usable (recordOf r))
-      (both-left (both (waitKnown r) (usable (recordOf r)))
+      both-right (codesKnown r) (usable (recordOf r))
+      (both-left (both (codesKnown r) (usable (recordOf r)))
       (both (eqb (recordOf r .n) (stated b)) (eqb (recordOf r .own) c)) (record-sound c k))
 
   pub sound-channel : (a c : ℕ) → isNode (stated b) a ≡ true → isNode (stated b) c ≡ true → countOf (channel b a c) ≤ capacity

@@ -16,7 +16,7 @@ use Rattle.table.specs.Quorum.{faults}
 use Rattle.table.proofs.Laws.{all-all}
 use Rattle.record.specs.Usable.{usable}
 use Rattle.region.specs.Channel.{capacity}
-use Rattle.region.specs.Record.{waitKnown, recordOf}
+use Rattle.region.specs.Record.{codesKnown, recordOf}
 use Rattle.block.specs.Block.{waitingIn, recordIn, nodeIn, blockSound}
 use Rattle.layout.specs.Layout.{clusterSize, block, stopped, fits, sound}
 use Rattle.cluster.specs.Event as E
@@ -54,7 +54,7 @@ module _ {n : ℕ} (low : 1 ≤ n) (small : n ≤ 16) {b : List ℕ} {σ : K.Clu
   pub is-usable : (c : ℕ) → OneTo n c → usable (nodeIn (block b c)) ≡ true
   is-usable c o =
       let r = recordIn (block b c) in
-      both-right (waitKnown r) (usable (recordOf r)) (both-left (both (waitKnown r) (usable (recordOf r)))
+      both-right (codesKnown r) (usable (recordOf r)) (both-left (both (codesKnown r) (usable (recordOf r)))
       (both (eqb (recordOf r .n) n) (eqb (recordOf r .own) c)) (M .shows .says c o .sound))
 
   pub is-checked : (r : E.Result) → E.checked b r ≡ r

@@ -5,7 +5,8 @@ use mathlib.Core.Path.{_≡_, refl, sym, ap, _∙_}
 use mathlib.Core.Bool.{true}
 use mathlib.Core.List.{List, [], _++_, append-assoc, append-nil}
 use lib.ListN.{length, getD, length-append, List·getD-eq-default}
-use lib.Dec.{leb}
+use lib.Dec.{eqb, leb}
+use Rattle.octets.specs.Test.{pick, both}
 use Rattle.octets.specs.Bytes.{num, be, part}
 use Rattle.octets.specs.Loop.{tab}
 use Rattle.octets.specs.Word.{word, words, wordBytes}
@@ -25,7 +26,7 @@ use Rattle.record.specs.declared.Kind.the-variants.{Update as Updating, Scan as
 use Rattle.record.specs.declared.Wait.{Wait}
 use Rattle.record.specs.declared.Wait.the-variants.{Idle, Reading, Writing, Comparing, Borrowing}
 use Rattle.region.specs.Record.{heardPlace, waitIn, recordBytes, recordOf, waitWords, waitReport, numbers}
-use Rattle.region.specs.Record.{waitOf, kindOf, kindCode, waitKnown}
+use Rattle.region.specs.Record.{waitOf, kindOf, kindCode, codesKnown}
 use Rattle.region.proofs.Saved.{six-words}
 
 -- A view whose lists have their sizes.
@@ -191,16 +192,21 @@ module _ (b : List ℕ) (c : Node) (z : SizedNode c) (r : Runs b c) where
     view-of (c .keptview) 2912 (z .keptview) (r .ofKept),
   ) refl
 
-  known : waitKnown b ≡ true
-  known = rw (of-wait 0 (omega arith)) (code (c .wait))
+  known : codesKnown b ≡ true
+  known = rw (of-wait 0 (omega arith), of-wait 1 (omega arith)) (codes (c .wait))
     where
-      code : (w : Wait) → leb (getD (waitWords w) 0 0) 4 ≡ true
-      code Idle = refl
-      code (Reading (Update p) a m) = refl
-      code (Reading Scan a m) = refl
-      code (Writing k i r a) = refl
-      code (Comparing k i r) = refl
-      code (Borrowing k r) = refl
+      kind : (k : Kind) → leb (kindCode k) 1 ≡ true
+      kind Updating = refl
+      kind Scanning = refl
+
+      codes : (w : Wait) → pick (eqb (getD (waitWords w) 0 0) 0) true
+          (both (leb (getD (waitWords w) 0 0) 4) (leb (getD (waitWords w) 1 0) 1)) ≡ true
+      codes Idle = refl
+      codes (Reading (Update p) a m) = refl
+      codes (Reading Scan a m) = refl
+      codes (Writing k i r a) = kind k
+      codes (Comparing k i r) = kind k
+      codes (Borrowing k r) = kind k
 
 module _ (c : Node) (z : SizedNode c) where
   runs : Runs (recordBytes c) c
@@ -213,5 +219,5 @@ module _ (c : Node) (z : SizedNode c) where
   pub record-back : recordOf (recordBytes c) ≡ c
   record-back = read-back (recordBytes c) c z runs
 
-  pub record-known : waitKnown (recordBytes c) ≡ true
+  pub record-known : codesKnown (recordBytes c) ≡ true
   record-known = known (recordBytes c) c z runs

@@ -1,10 +1,11 @@
 -- The record of a node in bytes: eleven words, the report of an update that reads, the table of tags heard, and four
--- views of sixteen entries. Every run of bytes of this length is some record; only the code of the wait can be wrong.
+-- views of sixteen entries. Every run of bytes of this length is some record; only the codes of the wait and of its kind
+-- can be wrong.
 use Prim.Native.Nat.{ℕ, _+_, _*_}
-use mathlib.Core.Bool.{Bool}
+use mathlib.Core.Bool.{Bool, true}
 use mathlib.Core.List.{List, [], _∷_, _++_}
 use lib.Dec.{eqb, leb}
-use Rattle.octets.specs.Test.{pick}
+use Rattle.octets.specs.Test.{pick, both}
 use Rattle.octets.specs.Bytes.{part}
 use Rattle.octets.specs.Word.{word, words, wordBytes}
 use Rattle.view.specs.Report.{noReport, reportBytes, reportOf}
@@ -32,7 +33,7 @@ heardPlace = 96
 abbrev pub viewPlace : ℕ → ℕ
 viewPlace i = 2144 + 256 * i
 
--- The codes of the two kinds of operation. Any number but 0 is read as an update.
+-- The codes of the two kinds of operation. A larger number is read as an update, but no usable record has one.
 abbrev pub kindCode : Kind → ℕ
 kindCode Updating = 1
 kindCode Scanning = 0
@@ -109,6 +110,6 @@ recordOf b =
       keptview = viewIn b 3;
     }
 
--- The code of the wait is one of the five.
-abbrev pub waitKnown : List ℕ → Bool
-waitKnown b = leb (scalar b 5) 4
+-- The code of the wait is one of the five, and the kind of operation is one of the two; an idle wait has no kind.
+abbrev pub codesKnown : List ℕ → Bool
+codesKnown b = pick (eqb (scalar b 5) 0) true (both (leb (scalar b 5) 4) (leb (scalar b 6) 1))

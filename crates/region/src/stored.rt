@@ -12,7 +12,7 @@ ghost use lib.ListN.{length};
 ghost use Rattle.octets.specs.Bytes.{part, put};
 ghost use Rattle.octets.specs.Word.{wordBytes};
 ghost use Rattle.view.specs.View.{viewBytes};
-ghost use Rattle.region.specs.Record.{recordSize, scalar, kindCode, kindOf, operationOf, waitOf, waitIn, waitWords, waitReport, waitBytes, viewsBytes, viewPlace, viewIn, recordBytes};
+ghost use Rattle.region.specs.Record.{recordSize, scalar, kindCode, kindOf, operationOf, waitOf, waitIn, waitWords, waitReport, waitBytes, viewsBytes, viewPlace, viewIn, recordBytes, codesKnown};
 
 fn kind_of(code: u64) -> Kind
     ensures { λ r. ⌜ r ≡ kindOf code ⌝ }
@@ -95,6 +95,18 @@ pub fn load_wait(b: &[u8]) -> Wait
         word(b, 10),
         p,
     )
+}
+
+// Whether the codes of the wait and of its kind are known; an idle wait has no kind.
+pub fn codes_known(b: &[u8]) -> bool
+    requires { ⌜ length (now b) ≡ recordSize ⌝ }
+    ensures { λ r. ⌜ r ≡ codesKnown (now (b .entry)) ⌝ }
+{
+    let code = word(b, 5);
+    if code == 0 {
+        return true;
+    }
+    octets::and(code <= 4, word(b, 6) <= 1)
 }
 
 // View i of the record.

@@ -25,7 +25,7 @@ returns c =
       c .and7 .ensures,
       c .before .and6 .ensures,
       c .before .before .and5 .ensures,
-      c3 .get-word6 .ensures,
+      c3 .codes-known .ensures,
       c3 .before .tables-sound .ensures,
       c3 .before .before .round-tag .ensures,
       c6 .numbers-within .ensures,
