@@ -29,6 +29,7 @@ demand2 n (low, small) b long = record {
       (subst (EachEncodes n c (slots (bytesAfter n b es) a c))
       (run-mirrors n low small b long es .gone a c (sym (flag es c p) ∙ down))
       (run-encoded n low small b long es a c o p));
+  remembers = λ es c p. run-mirrors n low small b long es .shows .says c p .node;
 }
   where
     end : List Event → K.Cluster

@@ -8,10 +8,12 @@ use Rattle.octets.specs.Answer.{result}
 use Rattle.table.specs.Quorum.{faults}
 use Rattle.node.specs.declared.Ending.the-variants.{None}
 use Rattle.region.specs.Channel.{waiting}
-use Rattle.layout.specs.Layout.{channel, stopped}
+use Rattle.layout.specs.Layout.{channel, stopped, node}
 use Rattle.cluster.specs.Event.{fresh}
+use Rattle.eqaso.specs.Cluster as K
 use Rattle.eqaso.specs.Order.{OneTo}
 use Rattle.eqaso.specs.Trace.{trace, waits}
+use Rattle.refine.specs.Follows.{Follows}
 use Rattle.mirror.specs.Encodes.{EachEncodes}
 use Rattle.mirror.specs.Run.{Event, event, after, meaning, traceOf, ComesUp}
 
@@ -35,3 +37,8 @@ pub record Demand2 (n : ℕ) (b : List ℕ) : Type 0 where
   -- A channel to a stopped node holds nothing.
   pub empty : (es : List Event) (a c : ℕ) → OneTo n a → OneTo n c → stopped (bytesAfter n b es) c ≡ true
       → slots (bytesAfter n b es) a c ≡ []
+  -- The record of each node, stopped ones included, remembers of the sets of the algorithm what document 01 has it remember:
+  -- of each writer the last report, the newest up to maxtag and, while a round is open, the newest up to its tag; the tags
+  -- heard; the good view that is kept; and the wait with its numbers.
+  pub remembers : (es : List Event) (c : ℕ) → OneTo n c
+      → Follows n c (K.after n (faults n) K.start (map meaning es) .nodes c) (node (bytesAfter n b es) c)

@@ -1,4 +1,6 @@
--- When the bounded record of a node follows its sets: each table says of the sets what document 01 has it remember.
+-- When the bounded record of a node follows its sets. This is document 01's "What a cabinet remembers", said of the sets
+-- that never forget: of each writer three reports, of each sender and writer the last tag heard, one good view, and the wait
+-- of the open operation with its numbers.
 use Prim.Native.Nat.{ℕ}
 use mathlib.Core.Path.{_≡_}
 use mathlib.Core.List.{List}
@@ -40,7 +42,8 @@ pub record Sized (v : View) : Type 0 where
 abbrev pub Holds : ℕ → View → ℕ → List M.Value → Type 0
 Holds n v t l = (w : ℕ) → OneTo n w → entryOf v w ≡ A.newest w t l
 
--- While a round with tag t is open, the table for it holds the newest up to t.
+-- While a round with tag t is open, in the waits writing and comparing, the table for it holds the newest up to t. While
+-- none is open document 01 has nothing remembered for one, and the table is not read.
 abbrev pub HoldsRound : ℕ → View → A.Wait → List M.Value → Type 0
 HoldsRound n v A.idle l = Unit {0}
 HoldsRound n v (A.reading op s u) l = Unit {0}
@@ -48,22 +51,24 @@ HoldsRound n v (A.writing op r t s) l = Holds n v t l
 HoldsRound n v (A.comparing op r t) l = Holds n v t l
 HoldsRound n v (A.borrowing op t) l = Unit {0}
 
--- Record c of node i of n follows the sets ν.
+-- Record c of node i of n follows the sets ν. All but `atround` holds whether a round is open or not.
 pub record Follows (n i : ℕ) (ν : A.Node) (c : Node) : Type 0 where
   pub size : c .n ≡ n
   pub own : c .own ≡ i
   pub maxtag : c .maxtag ≡ ν .maxtag
   pub request : c .request ≡ ν .request
   pub wait : SameWait n (ν .wait) (c .wait)
-  -- The last tag heard of each writer from each sender.
+  -- The last tag of each writer that came from each sender, the node itself among them; 0 where none came.
   pub heard : (k w : ℕ) → OneTo n k → OneTo n w → heardOf (c .heard) k w ≡ latest w (ν .from k) .tag
-  -- The last report of each writer, the newest up to maxtag, and the newest up to the tag of the open round.
+  -- Of each writer the last report, the newest up to maxtag, and the newest up to the tag of the open round, each with its
+  -- tag; absent where there is none.
   pub last : (w : ℕ) → OneTo n w → entryOf (c .last) w ≡ latest w (ν .all)
   pub atmax : Holds n (c .atmax) (ν .maxtag) (ν .all)
   pub atround : HoldsRound n (c .atround) (ν .wait) (ν .all)
-  -- The good message that amendment 4 keeps.
+  -- The good message that amendment 4 keeps: its tag and its view.
   pub kept : c .kept ≡ A.kept n (ν .goods) .tag
   pub keptview : viewOf n (c .keptview) ≡ A.kept n (ν .goods) .view
+  -- The tables have their sizes, whatever n is.
   pub heard-size : length (c .heard) ≡ 256
   pub last-size : Sized (c .last)
   pub atmax-size : Sized (c .atmax)
