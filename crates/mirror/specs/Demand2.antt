@@ -12,6 +12,7 @@ use Rattle.layout.specs.Layout.{channel, stopped}
 use Rattle.cluster.specs.Event.{fresh}
 use Rattle.eqaso.specs.Order.{OneTo}
 use Rattle.eqaso.specs.Trace.{trace, waits}
+use Rattle.mirror.specs.Mirrors.{channelRoom}
 use Rattle.mirror.specs.Encodes.{EachEncodes}
 use Rattle.mirror.specs.Run.{Event, event, after, meaning, traceOf, ComesUp}
 
@@ -25,7 +26,7 @@ slots b a c = waiting (λ s. s) (channel b a c)
 pub record Demand2 (n : ℕ) (b : List ℕ) : Type 0 where
   pub taken : fresh n b .answer ≡ result None
   -- Event by event the same answer, with the ending and its view, and the same list of entries let out.
-  pub same : (es : List Event) → traceOf n b es ≡ trace n (faults n) (map meaning es)
+  pub same : (es : List Event) → traceOf n b es ≡ trace n (faults n) channelRoom (map meaning es)
   -- Refusals 1, 2, 7, 9 and 12 do not come up.
   pub refusals : (es : List Event) (e : Event) → ComesUp (event e (bytesAfter n b es) .answer)
   -- What a channel to a standing node holds is, in order, the encoding of what was let out to it and not yet handed
