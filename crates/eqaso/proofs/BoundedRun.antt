@@ -2,7 +2,7 @@
 use Prim.Native.Nat.{ℕ, _+_, _<_}
 use mathlib.Core.Path.{_≡_, _∙_, ap, sym, subst}
 use mathlib.Core.Logic.{_⊎_, inl, inr}
-use mathlib.Core.Bool.{false}
+use mathlib.Core.Bool.{Bool, false}
 use mathlib.Core.List.{List, _∷_}
 use Rattle.theory.specs.Log.{_∈_}
 use Rattle.eqaso.specs.Message.{Value, Message, value}
@@ -31,12 +31,12 @@ sent-held {n} {f} {out} {γ} {i} {r} {op} {ν} c {o} {rnd} {t} e v m = go (c .ha
     go (inl x) = x
     go (inr p) = absurd (subst (λ w. Pending i r op w v) e p)
 
-module _ (n f : ℕ) (half : f + f < n) (es : List Event) where
+module _ (n f : ℕ) (room : ℕ → Bool) (half : f + f < n) (es : List Event) where
   abbrev end : Cluster
-  end = after n f start es
+  end = after n f room start es
 
-  run : Good n f end (trace n f es)
-  run = good n f half es
+  run : Good n f end (trace n f room es)
+  run = good n f room half es
 
   node-is : (c : ℕ) → run .sites c .node ≡ end .nodes c
   node-is c = ap (λ z. z c) (sym (run .same))

@@ -36,10 +36,10 @@ cut-stops s c a = go (ℕ-discrete a c) (ℕ-discrete c a)
 pub stops-is : {n f : ℕ} {σ : Cluster} {e : Event} (h : Happened n f σ e) (a : ℕ)
     → outcome h .cluster .stopped a ≡ (σ .stopped a || stopsBy e (outcome h .answer) a)
 stops-is {n} {f} {σ} (refusal k) a = sym (or-false (σ .stopped a))
-stops-is {n} {f} {σ} (began {x = whole} h i r z) a = sym (or-false (σ .stopped a))
-stops-is {n} {f} {σ} (began {c} {x = cut k} h i r z) a = cut-stops (σ .stopped) c a
-stops-is {n} {f} {σ} (delivered {x = whole} h o m rest e z) a = sym (or-false (σ .stopped a))
-stops-is {n} {f} {σ} (delivered {b} {x = cut k} h o m rest e z) a = cut-stops (σ .stopped) b a
+stops-is {n} {f} {σ} (began {x = whole} h i r) a = sym (or-false (σ .stopped a))
+stops-is {n} {f} {σ} (began {c} {x = cut k} h i r) a = cut-stops (σ .stopped) c a
+stops-is {n} {f} {σ} (delivered {x = whole} h o m rest e) a = sym (or-false (σ .stopped a))
+stops-is {n} {f} {σ} (delivered {b} {x = cut k} h o m rest e) a = cut-stops (σ .stopped) b a
 stops-is {n} {f} {σ} (ceased {c} h) a = cut-stops (σ .stopped) c a
 
 -- No more stop than may.
@@ -51,8 +51,8 @@ few-after n f c (cut k) σ h few = let one = count-one (σ .stopped) c n in let 
 pub few-is : {n f : ℕ} {σ : Cluster} {e : Event} (h : Happened n f σ e) → count (σ .stopped) n ≤ f
     → count (outcome h .cluster .stopped) n ≤ f
 few-is {n} {f} {σ} (refusal k) few = few
-few-is {n} {f} {σ} (began {c} {x} h i r z) few = few-after n f c x σ h few
-few-is {n} {f} {σ} (delivered {b} {x} h o m rest e z) few = few-after n f b x σ h few
+few-is {n} {f} {σ} (began {c} {x} h i r) few = few-after n f c x σ h few
+few-is {n} {f} {σ} (delivered {b} {x} h o m rest e) few = few-after n f b x σ h few
 few-is {n} {f} {σ} (ceased {c} h) few = few-after n f c (cut 0) σ h few
 
 -- What an event hands over from a to b, at most one message, and what it lets out.
@@ -100,13 +100,13 @@ moved {n} {f} {σ} {e} (refusal k) a b s = record {
   counted = refl;
   moves = rw (passed-none (seen e (refuse k σ)) a b refl) (append-nil (σ .channel a b));
 }
-moved {n} {f} {σ} (began {c} {op} {x} h i r z) a b s = record {
+moved {n} {f} {σ} (began {c} {op} {x} h i r) a b s = record {
   handed = [];
   counted = refl;
   moves = moves-by (halted x c (σ .stopped)) c (letOut x (entries n (beginStep n f c op (σ .nodes c) .sent)))
       (σ .channel) (σ .channel) a b [] s refl;
 }
-moved {n} {f} {σ} (delivered {a = d} {b = c} {x} h o m rest e z) a b s =
+moved {n} {f} {σ} (delivered {a = d} {b = c} {x} h o m rest e) a b s =
     let (hs, counted, is) = popped (σ .channel) d c m rest e a b in
     record {
       handed = hs;
@@ -143,8 +143,8 @@ stays {n} {f} {c} {x} {σ} h a out ν = (upd-other (σ .nodes) c ν a other, sti
 pub outside-is : {n f : ℕ} {σ : Cluster} {e : Event} (h : Happened n f σ e) (c : ℕ) → ¬ OneTo n c
     → (outcome h .cluster .nodes c ≡ σ .nodes c) × (outcome h .cluster .stopped c ≡ σ .stopped c)
 outside-is {n} {f} {σ} (refusal k) a out = (refl, refl)
-outside-is {n} {f} {σ} (began {c} {x} h i r z) a out = stays h a out _
-outside-is {n} {f} {σ} (delivered {b} {x} h o m rest e z) a out = stays h a out _
+outside-is {n} {f} {σ} (began {c} {x} h i r) a out = stays h a out _
+outside-is {n} {f} {σ} (delivered {b} {x} h o m rest e) a out = stays h a out _
 outside-is {n} {f} {σ} (ceased {c} h) a out = stays h a out (σ .nodes c)
 
 -- Only nodes send, and only to nodes but for answers.
@@ -162,7 +162,7 @@ pub passed-reach : {m : Message} {n f : ℕ} {σ : Cluster} {e : Event} (h : Hap
 unfolding sentTo
 passed-reach {m} {n} {f} {σ} {e} (refusal k) a b i =
     elim (subst (λ z. m ∈ z) (passed-none (seen e (refuse k σ)) a b refl) i) [ ]
-passed-reach {m} {n} {f} {σ} (began {c} {op} h r q z) a b i = passed-by h (beginStep n f c op (σ .nodes c) .sent) a b i
-passed-reach {m} {n} {f} {σ} (delivered {a = d} {b = c} h o k rest e z) a b i =
+passed-reach {m} {n} {f} {σ} (began {c} {op} h r q) a b i = passed-by h (beginStep n f c op (σ .nodes c) .sent) a b i
+passed-reach {m} {n} {f} {σ} (delivered {a = d} {b = c} h o k rest e) a b i =
     passed-by h (messageStep n f c d k (σ .nodes c) .sent) a b i
 passed-reach {m} {n} {f} {σ} (ceased {c} h) a b i = passed-by h [] a b i

@@ -2,7 +2,7 @@
 use Prim.Native.Nat.{ℕ, _-_, _≤_, _<_}
 use native.Mathlib.Decide.{decLe, decLt}
 use mathlib.Core.Path.{_≡_, refl, sym, subst}
-use mathlib.Core.Bool.{true, false, decide, not, _&&_, false≢true}
+use mathlib.Core.Bool.{Bool, true, false, decide, not, _&&_, false≢true}
 use mathlib.Core.List.{List, [], _∷_, _++_, append-nil, append-assoc}
 use Rattle.theory.specs.Count.{count}
 use Rattle.theory.specs.Update.{upd2}
@@ -31,24 +31,19 @@ pub record Handles (n f c : ℕ) (x : Extent) (σ : Cluster) : Type 0 where
 abbrev pub act : ℕ → ℕ → Extent → Step → (ℕ → ℕ → List Message) → Cluster → Result
 act n c x s channel σ = commit c x s (letOut x (entries n (s .sent))) channel σ
 
-abbrev pub Roomy : ℕ → ℕ → Result → Type 0
-Roomy n c r = roomy c n (r .cluster .channel) ≡ true
-
+-- An event was refused, or did what its kind does. What a channel has room for decides only between these two.
 pub data Happened (n f : ℕ) (σ : Cluster) : Event → Type 0 where
   refusal : {e : Event} (number : ℕ) → Happened n f σ e
   began : {c : ℕ} {op : Operation} {x : Extent} → Handles n f c x σ → σ .nodes c .wait ≡ idle
-      → 5 ≤ limit - σ .nodes c .request → Roomy n c (act n c x (beginStep n f c op (σ .nodes c)) (σ .channel) σ)
-      → Happened n f σ (begin c op x)
+      → 5 ≤ limit - σ .nodes c .request → Happened n f σ (begin c op x)
   delivered : {a b : ℕ} {x : Extent} → Handles n f b x σ → OneTo n a → (m : Message) (rest : List Message)
-      → σ .channel a b ≡ m ∷ rest
-      → Roomy n b (act n b x (messageStep n f b a m (σ .nodes b)) (upd2 (σ .channel) a b rest) σ)
-      → Happened n f σ (deliver a b x)
+      → σ .channel a b ≡ m ∷ rest → Happened n f σ (deliver a b x)
   ceased : {c : ℕ} → Handles n f c (cut 0) σ → Happened n f σ (stop c)
 
 abbrev pub outcome : {n f : ℕ} {σ : Cluster} {e : Event} → Happened n f σ e → Result
 outcome {n} {f} {σ} (refusal k) = refuse k σ
-outcome {n} {f} {σ} (began {c} {op} {x} h i r z) = act n c x (beginStep n f c op (σ .nodes c)) (σ .channel) σ
-outcome {n} {f} {σ} (delivered {a} {b} {x} h o m rest e z) =
+outcome {n} {f} {σ} (began {c} {op} {x} h i r) = act n c x (beginStep n f c op (σ .nodes c)) (σ .channel) σ
+outcome {n} {f} {σ} (delivered {a} {b} {x} h o m rest e) =
     act n b x (messageStep n f b a m (σ .nodes b)) (upd2 (σ .channel) a b rest) σ
 outcome {n} {f} {σ} (ceased {c} h) = act n c (cut 0) (still (σ .nodes c)) (σ .channel) σ
 
@@ -87,55 +82,56 @@ handles : (n f c : ℕ) (x : Extent) (σ : Cluster) → isNode n c ≡ true → 
 handles n f c x σ node stands may =
     record { node = is-node n c node; stands = not-true _ stands; may = may-cut n f x σ may }
 
--- Every event was refused, or did what its kind does.
-pub happened : (n f : ℕ) (e : Event) (σ : Cluster) → Found n f σ e (event n f e σ)
+pub happened : (n f : ℕ) (room : ℕ → Bool) (e : Event) (σ : Cluster) → Found n f σ e (event n f room e σ)
 unfolding event
-happened n f (begin c op x) σ =
+happened n f room (begin c op x) σ =
     demanded (holds (isNode n c)) 3 λ node.
     demanded (holds (stands σ c)) 4 λ up.
     demanded (holds (isIdle (σ .nodes c .wait))) 5 λ free.
     demanded (decLe 5 (limit - σ .nodes c .request)) 6 λ five.
     demanded (holds (mayCut n f x σ)) 10 λ may.
-    demanded (holds (roomy c n _)) 11 λ room.
-    (began (handles n f c x σ node up may) (is-idle _ free) five room, refl)
-happened n f (deliver a b x) σ =
+    demanded (holds (roomy room c n _)) 11 λ fits.
+    (began (handles n f c x σ node up may) (is-idle _ free) five, refl)
+happened n f room (deliver a b x) σ =
     demanded (holds (isNode n a && isNode n b)) 3 λ nodes.
     demanded (holds (stands σ b)) 4 λ up.
     go nodes up (σ .channel a b) refl
   where
     go : (isNode n a && isNode n b) ≡ true → stands σ b ≡ true → (l : List Message) → σ .channel a b ≡ l
-        → Found n f σ (deliver a b x) (deliverFirst n f a b x σ l)
+        → Found n f σ (deliver a b x) (deliverFirst n f room a b x σ l)
     go nodes up [] e = (refusal 8, refl)
     go nodes up (m ∷ rest) e =
         demanded (holds (mayCut n f x σ)) 10 λ may.
-        demanded (holds (roomy b n (next .cluster .channel))) 11 λ room.
-        (delivered (handles n f b x σ (two .1) up may) (is-node n a (two .0)) m rest e room, refl)
+        demanded (holds (roomy room b n (next .cluster .channel))) 11 λ fits.
+        (delivered (handles n f b x σ (two .1) up may) (is-node n a (two .0)) m rest e, refl)
       where
         next : Result
         next = act n b x (messageStep n f b a m (σ .nodes b)) (upd2 (σ .channel) a b rest) σ
 
         two : (isNode n a ≡ true) × (isNode n b ≡ true)
         two = and-both (isNode n a) (isNode n b) nodes
-happened n f (stop c) σ =
+happened n f room (stop c) σ =
     demanded (holds (isNode n c)) 3 λ node.
     demanded (holds (stands σ c)) 4 λ up.
     demanded (holds (mayStop n f σ)) 10 λ may.
     (ceased (handles n f c (cut 0) σ node up may), refl)
 
 -- What holds at the start and is kept by whatever happens, holds after every list of events.
-module _ {ℓ} (n f : ℕ) (P : Cluster → Trace → Type ℓ)
+module _ {ℓ} (n f : ℕ) (room : ℕ → Bool) (P : Cluster → Trace → Type ℓ)
     (kept : (σ : Cluster) (tr : Trace) (e : Event) (h : Happened n f σ e) → P σ tr
     → P (outcome h .cluster) (tr ++ (seen e (outcome h) ∷ []))) where
   kept-by : (σ : Cluster) (tr : Trace) (e : Event) → P σ tr
-      → P (event n f e σ .cluster) (tr ++ (seen e (event n f e σ) ∷ []))
-  kept-by σ tr e p = let (h, is) = happened n f e σ in
+      → P (event n f room e σ .cluster) (tr ++ (seen e (event n f room e σ) ∷ []))
+  kept-by σ tr e p = let (h, is) = happened n f room e σ in
       subst (λ r. P (r .cluster) (tr ++ (seen e r ∷ []))) (sym is) (kept σ tr e h p)
 
-  always-from : (σ : Cluster) (tr : Trace) (es : List Event) → P σ tr → P (after n f σ es) (tr ++ traceFrom n f σ es)
+  always-from : (σ : Cluster) (tr : Trace) (es : List Event) → P σ tr
+      → P (after n f room σ es) (tr ++ traceFrom n f room σ es)
   unfolding after traceFrom
   always-from σ tr [] p = subst (P σ) (sym (append-nil tr)) p
-  always-from σ tr (e ∷ es) p = subst (P _) (append-assoc tr (seen e (event n f e σ) ∷ []) (traceFrom n f _ es))
-      (always-from (event n f e σ .cluster) (tr ++ (seen e (event n f e σ) ∷ [])) es (kept-by σ tr e p))
+  always-from σ tr (e ∷ es) p = subst (P _)
+      (append-assoc tr (seen e (event n f room e σ) ∷ []) (traceFrom n f room _ es))
+      (always-from (event n f room e σ .cluster) (tr ++ (seen e (event n f room e σ) ∷ [])) es (kept-by σ tr e p))
 
-  pub always : P start [] → (es : List Event) → P (after n f start es) (trace n f es)
+  pub always : P start [] → (es : List Event) → P (after n f room start es) (trace n f room es)
   always p es = always-from start [] es p

@@ -3,7 +3,7 @@ use Prim.Native.Nat.{ℕ, _≤_}
 use native.Mathlib.Omega.{arith}
 use mathlib.Core.Path.{_≡_, refl, ap, sym, subst, _∙_}
 use mathlib.Core.Logic.{inl, inr}
-use mathlib.Core.Bool.{false, _||_}
+use mathlib.Core.Bool.{Bool, false, _||_}
 use mathlib.Core.List.{List, [], _∷_, _++_, append-assoc, List·Memᴰ·append-cases}
 use lib.ListN.{length, length-append}
 use lib.Seq.{drop-at}
@@ -72,13 +72,13 @@ linked-start n f = record {
   outside = λ c out. (refl, refl);
 }
 
-pub linked : (n f : ℕ) (es : List Event) → Linked n f (after n f start es) (trace n f es)
-linked n f = always n f (Linked n f) (linked-kept n f) (linked-start n f)
+pub linked : (n f : ℕ) (room : ℕ → Bool) (es : List Event) → Linked n f (after n f room start es) (trace n f room es)
+linked n f room = always n f room (Linked n f) (linked-kept n f) (linked-start n f)
 
 -- What holds at the start, and is kept by whatever happens where state and trace are linked, holds always.
-pub always-linked {ℓ} : (n f : ℕ) (P : Cluster → Trace → Type ℓ) → P start []
+pub always-linked {ℓ} : (n f : ℕ) (room : ℕ → Bool) (P : Cluster → Trace → Type ℓ) → P start []
     → ((σ : Cluster) (tr : Trace) (e : Event) (h : Happened n f σ e) → Linked n f σ tr → P σ tr
     → P (outcome h .cluster) (tr ++ (seen e (outcome h) ∷ [])))
-    → (es : List Event) → P (after n f start es) (trace n f es)
-always-linked n f P p kept es = always n f (λ σ tr. Linked n f σ tr × P σ tr)
+    → (es : List Event) → P (after n f room start es) (trace n f room es)
+always-linked n f room P p kept es = always n f room (λ σ tr. Linked n f σ tr × P σ tr)
     (λ σ tr e h (L, q). (linked-kept n f σ tr e h L, kept σ tr e h L q)) (linked-start n f, p) es .1

@@ -1,5 +1,6 @@
 -- The first half of demand 3: every list of events has a single order of its operations.
 use Prim.Native.Nat.{ℕ, _+_, _<_}
+use mathlib.Core.Bool.{Bool}
 use mathlib.Core.List.{List}
 use Rattle.eqaso.specs.Cluster.{Event}
 use Rattle.eqaso.specs.Trace.{trace}
@@ -7,5 +8,5 @@ use Rattle.eqaso.specs.Order.{SingleOrder}
 use Rattle.eqaso.proofs.Single.{single-order}
 use Rattle.eqaso.proofs.Run.{good}
 
-pub one-order : (n f : ℕ) → f + f < n → (es : List Event) → SingleOrder n (trace n f es)
-one-order n f half es = single-order (good n f half es .kept)
+pub one-order : (n f : ℕ) (room : ℕ → Bool) → f + f < n → (es : List Event) → SingleOrder n (trace n f room es)
+one-order n f room half es = single-order (good n f room half es .kept)

@@ -4,7 +4,7 @@ use Prim.Native.Nat.{ℕ, suc, max}
 use native.Mathlib.Decide.{ℕ-discrete}
 use mathlib.Core.Path.{_≡_, refl, sym, _∙_, ap, subst}
 use mathlib.Core.Logic.{_⊎_, inl, inr}
-use mathlib.Core.Bool.{cond, decide}
+use mathlib.Core.Bool.{Bool, cond, decide}
 use mathlib.Core.List.{List, [], _∷_, _++_, List·Memᴰ·head, List·Memᴰ·tail, Memᴰ·append-left, Memᴰ·append-right}
 use mathlib.Core.List.{List·Memᴰ·append-cases}
 use Rattle.theory.specs.Update.{upd, upd2}
@@ -146,11 +146,11 @@ kept : (n f : ℕ) (σ : Cluster) (tr : Trace) (e : Event) (h : Happened n f σ 
 unfolding entries
 kept n f σ tr e (refusal k) L O = subst (λ z. Origin z (tr ++ (seen e (refuse k σ) ∷ []))) (upd-self (σ .nodes) (handler e))
     (acted O (seen e (refuse k σ)) n whole [] (σ .nodes (handler e)) refl (O .held (handler e)) (λ v m. elim m [ ]))
-kept n f σ tr e (began {c} {op} {x} h i r z) L O =
+kept n f σ tr e (began {c} {op} {x} h i r) L O =
     let step = beginStep n f c op (σ .nodes c) in
     let (held, only) = begin-origin c (LetOut tr) n f op (σ .nodes c) (O .held c) in
     acted O (seen (begin c op x) (act n c x step (σ .channel) σ)) n x (step .sent) (step .node) refl held only
-kept n f σ tr e (delivered {a} {b} {x} h o m rest is z) L O =
+kept n f σ tr e (delivered {a} {b} {x} h o m rest is) L O =
     let step = messageStep n f b a m (σ .nodes b) in
     let (l, counted, out) = L .handed a b (h .stands) in
     let came : m ∈ letOutTo tr a b = subst (λ l. m ∈ l) (sym out)
@@ -163,7 +163,7 @@ kept n f σ tr e (ceased {c} h) L O =
     acted O (seen (stop c) (act n c (cut 0) (still (σ .nodes c)) (σ .channel) σ)) n (cut 0) [] (σ .nodes c) refl
     (O .held c) (λ v m. elim m [ ])
 
-pub origin : (n f : ℕ) (es : List Event) → Origin (after n f start es .nodes) (trace n f es)
+pub origin : (n f : ℕ) (room : ℕ → Bool) (es : List Event) → Origin (after n f room start es .nodes) (trace n f room es)
 unfolding letOutTo
-origin n f = always-linked n f (λ σ. Origin (σ .nodes))
+origin n f room = always-linked n f room (λ σ. Origin (σ .nodes))
     (record { held = λ c v m. elim m [ ]; sent = λ a b v i. elim i [ ] }) (kept n f)

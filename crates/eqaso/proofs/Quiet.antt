@@ -1,10 +1,10 @@
 -- The second half of demand 3: where no message waits for a standing node, no operation is open.
 use Prim.Native.Nat.{ℕ, _+_, _<_}
 use mathlib.Core.Path.{_≡_, refl, sym, subst, ap, _∙_}
-use mathlib.Core.Bool.{false}
+use mathlib.Core.Bool.{Bool, false}
 use mathlib.Core.List.{List}
 use Rattle.eqaso.specs.Algorithm.{idle}
-use Rattle.eqaso.specs.Cluster.{Event, Cluster}
+use Rattle.eqaso.specs.Cluster.{Event, Cluster, start, after}
 use Rattle.eqaso.specs.Trace.{Trace, trace, Begun, nothing, updating, scanning, begun, Fate, unfinished, ended}
 use Rattle.eqaso.specs.Trace.{fate, stopped}
 use Rattle.eqaso.specs.Order.{OneTo, Finished, ClosedBy, NothingWaits, Quiet}
@@ -43,16 +43,19 @@ node-of n c b x s at e fit = go b at (subst (λ z. Fit n b z s) e fit)
     go (updating a p) h o = subst (OneTo n) h o
     go (scanning a) h o = subst (OneTo n) h (o .0)
 
-pub quiet : (n f : ℕ) → f + f < n → (es : List Event) → Quiet n (trace n f es)
+pub quiet : (n f : ℕ) (room : ℕ → Bool) → f + f < n → (es : List Event) → Quiet n (trace n f room es)
 unfolding bookOf
-quiet n f half es empty t = by (begun tr t) refl
+quiet n f room half es empty t = by (begun tr t) refl
   where
     tr : Trace
-    tr = trace n f es
+    tr = trace n f room es
+
+    g : Good n f (after n f room start es) tr
+    g = good n f room half es
 
     ends : (c : ℕ) → At (begun tr t) c → stopped tr c ≡ false → Finished (fate tr t)
-    ends c at up = finished (fate tr t) λ e. closed half (linked n f es) (good n f half es) empty t c
-        (node-of n c (begun tr t) (fate tr t) (bookOf tr .tag t) at e (good n f half es .kept .facts .fit t)) at up e
+    ends c at up = finished (fate tr t) λ e. closed half (linked n f room es) g empty t c
+        (node-of n c (begun tr t) (fate tr t) (bookOf tr .tag t) at e (g .kept .facts .fit t)) at up e
 
     by : (b : Begun) → begun tr t ≡ b → ClosedBy tr t b
     by nothing e = tt

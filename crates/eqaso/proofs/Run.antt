@@ -134,8 +134,8 @@ module _ (n f : ℕ) (half : f + f < n) (w : Sites) (gone : ℕ → Logs) (stopp
       → Good n f (outcome h .cluster) (tr ++ (seen e (outcome h) ∷ []))
   event-good L e (refusal k) = silent-good stopped channel (seen e (refuse k σ)) fits (λ d h. h)
       (next-silent tr (seen e (refuse k σ)) kept refl refl (λ t i. absurd (no-tags (handler e) i))) refl
-  event-good L e (began {c} {op} {x} h i r z) = begin-good c op x h i
-  event-good L e (delivered {a} {b} {x} h o m rest q z) = deliver-good L a b x h m rest q
+  event-good L e (began {c} {op} {x} h i r) = begin-good c op x h i
+  event-good L e (delivered {a} {b} {x} h o m rest q) = deliver-good L a b x h m rest q
   event-good L e (ceased {c} h) = subst
       (λ z. Good n f (record {
         nodes = z;
@@ -184,5 +184,6 @@ good-start n f = record {
 }
 
 -- The invariant holds of every run.
-pub good : (n f : ℕ) → f + f < n → (es : List Event) → Good n f (after n f start es) (trace n f es)
-good n f half = always-linked n f (Good n f) (good-start n f) (good-kept n f half)
+pub good : (n f : ℕ) (room : ℕ → Bool) → f + f < n → (es : List Event)
+    → Good n f (after n f room start es) (trace n f room es)
+good n f room half = always-linked n f room (Good n f) (good-start n f) (good-kept n f half)

@@ -13,6 +13,7 @@ use Rattle.eqaso.specs.Algorithm.{limit, has, within, newest, table, kep
 use Rattle.eqaso.specs.Algorithm.{done, shown, spent, direct, borrowed}
 use Rattle.eqaso.specs.Cluster.{Event, begin, deliver, whole, cut, Answer, refused, accepted, Sent, entries}
 use Rattle.eqaso.specs.Cluster.{sentTo, roomy, event}
+use Rattle.eqaso.specs.Claims.{sixteen}
 use Rattle.eqaso.specs.Trace.{Trace, traceFrom, trace}
 
 -- What a run tells its clients: the events, counted from 1, that were refused or gave an ending.
@@ -49,13 +50,13 @@ entry t p = record { tag = t; report = p }
 abbrev pub session : List Event
 session = (begin 1 (update 7) whole ∷ replicate 11 (hand 1 1)) ++ (begin 1 scan whole ∷ replicate 6 (hand 1 1))
 
-session-told : told 1 (trace 1 0 session) ≡
+session-told : told 1 (trace 1 0 sixteen session) ≡
     at 11 (accepted (done (direct round1) (entry 1 7 ∷ []))) ∷ at 17 (accepted (shown (direct round1) (entry 1 7 ∷ [])))
     ∷ at 19 (refused 8) ∷ []
 unfolding traceFrom event roomy sentTo entries moveOn kept table newest within has limit same upd upd2 count ℕ-discrete decLe decLt decide told
 session-told = refl
 
-session-sends : length (letOut (trace 1 0 (begin 1 (update 7) whole ∷ replicate 11 (hand 1 1)))) ≡ 11
+session-sends : length (letOut (trace 1 0 sixteen (begin 1 (update 7) whole ∷ replicate 11 (hand 1 1)))) ≡ 11
 unfolding traceFrom event roomy sentTo entries moveOn kept table newest within has limit same upd upd2 count ℕ-discrete decLe decLt decide letOut
 session-sends = refl
 
@@ -74,7 +75,7 @@ borrowing =
     hand 2 1 ∷ hand 2 1 ∷ hand 1 2 ∷ hand 1 2 ∷ hand 2 2 ∷ hand 2 2 ∷ hand 2 1 ∷ hand 2 1 ∷ hand 2 1 ∷
     hand 1 1 ∷ hand 1 1 ∷ hand 1 1 ∷ hand 1 1 ∷ []
 
-borrowing-told : told 1 (trace 2 0 borrowing) ≡
+borrowing-told : told 1 (trace 2 0 sixteen borrowing) ≡
     at 29 (accepted (done (direct round1) (absent ∷ entry 1 1 ∷ [])))
     ∷ at 60 (accepted (done (direct round1) (absent ∷ entry 2 2 ∷ [])))
     ∷ at 89 (accepted (shown borrowed (absent ∷ entry 2 2 ∷ []))) ∷ []
@@ -88,7 +89,7 @@ cutting =
     deliver 2 3 (cut 1) ∷ hand 3 1 ∷ hand 3 1 ∷ hand 3 2 ∷ hand 3 2 ∷ hand 3 4 ∷ hand 3 4 ∷ hand 3 4 ∷
     hand 3 5 ∷ hand 3 5 ∷ hand 3 5 ∷ hand 3 3 ∷ []
 
-cutting-told : told 1 (trace 5 2 cutting) ≡
+cutting-told : told 1 (trace 5 2 sixteen cutting) ≡
     at 9 (refused 8) ∷ at 10 (refused 8) ∷ at 11 (refused 8) ∷ at 13 (refused 8) ∷ at 14 (refused 8) ∷
     at 16 (refused 8) ∷ at 17 (refused 8) ∷ at 18 (refused 4) ∷ []
 unfolding traceFrom event roomy sentTo entries moveOn kept table newest within has limit same upd upd2 count ℕ-discrete decLe decLt decide told
@@ -104,7 +105,7 @@ cut-but-shown =
     begin 2 scan whole ∷ hand 2 2 ∷ hand 2 1 ∷ hand 2 1 ∷ hand 2 1 ∷ hand 2 1 ∷ hand 1 2 ∷ hand 2 2 ∷
     hand 2 1 ∷ hand 1 2 ∷ hand 2 2 ∷ hand 2 2 ∷ []
 
-cut-but-shown-told : told 1 (trace 3 1 cut-but-shown) ≡
+cut-but-shown-told : told 1 (trace 3 1 sixteen cut-but-shown) ≡
     at 29 (accepted (done (direct round1) (absent ∷ entry 1 2 ∷ entry 1 3 ∷ [])))
     ∷ at 43 (accepted (shown (direct round1) (absent ∷ entry 1 2 ∷ entry 1 3 ∷ []))) ∷ []
 unfolding traceFrom event roomy sentTo entries moveOn kept table newest within has limit same upd upd2 count ℕ-discrete decLe decLt decide told

@@ -2,13 +2,13 @@
 use Prim.Native.Nat.{ℕ, _+_}
 use native.Mathlib.Omega.{arith}
 use native.Mathlib.Decide.{ℕ-discrete}
-use mathlib.Core.Path.{_≡_, refl, ap, sym}
+use mathlib.Core.Path.{_≡_, refl, sym}
 use mathlib.Core.Logic.{_≢_}
 use mathlib.Core.Bool.{Bool, true, false, cond, decide, _||_, or-false, or-assoc}
 use mathlib.Core.List.{List, [], _∷_, _++_, append-nil, append-assoc}
 use Rattle.eqaso.specs.Message.{Message}
 use Rattle.eqaso.specs.Cluster.{Event, sentTo, Cluster, event, after}
-use Rattle.eqaso.specs.Trace.{Seen, Trace, seen, traceFrom, handler, stopsBy, stopped, letOutTo, handedIn}
+use Rattle.eqaso.specs.Trace.{Seen, Trace, handler, stopsBy, stopped, letOutTo, handedIn}
 use Rattle.eqaso.specs.Trace.{handedOver}
 
 pub stopped-snoc : (tr : Trace) (o : Seen) (c : ℕ)
@@ -58,14 +58,8 @@ unfolding handedOver
 handedOver-snoc [] o a b = omega arith
 handedOver-snoc (x ∷ tr) o a b = let e = handedOver-snoc tr o a b in omega arith
 
-pub after-snoc : (n f : ℕ) (σ : Cluster) (es : List Event) (e : Event)
-    → after n f σ (es ++ (e ∷ [])) ≡ event n f e (after n f σ es) .cluster
+pub after-snoc : (n f : ℕ) (room : ℕ → Bool) (σ : Cluster) (es : List Event) (e : Event)
+    → after n f room σ (es ++ (e ∷ [])) ≡ event n f room e (after n f room σ es) .cluster
 unfolding after
-after-snoc n f σ [] e = refl
-after-snoc n f σ (x ∷ es) e = after-snoc n f (event n f x σ .cluster) es e
-
-pub trace-snoc : (n f : ℕ) (σ : Cluster) (es : List Event) (e : Event)
-    → traceFrom n f σ (es ++ (e ∷ [])) ≡ traceFrom n f σ es ++ (seen e (event n f e (after n f σ es)) ∷ [])
-unfolding after traceFrom
-trace-snoc n f σ [] e = refl
-trace-snoc n f σ (x ∷ es) e = ap (λ z. seen x (event n f x σ) ∷ z) (trace-snoc n f (event n f x σ .cluster) es e)
+after-snoc n f room σ [] e = refl
+after-snoc n f room σ (x ∷ es) e = after-snoc n f room (event n f room x σ .cluster) es e

@@ -2,7 +2,7 @@
 -- run, and of every value that a node is handed.
 use Prim.Native.Nat.{ℕ, _≤_, _<_}
 use mathlib.Core.Path.{_≡_}
-use mathlib.Core.Bool.{false}
+use mathlib.Core.Bool.{Bool, false}
 use mathlib.Core.List.{List, _∷_, _++_}
 use Rattle.theory.specs.Log.{_∈_}
 use Rattle.eqaso.specs.Message.{Value, Message, read, readAnswer, write, writeAnswer, echo, value, good}
@@ -53,20 +53,20 @@ Expected n k ν (echo t) = Unit {0}
 Expected n k ν (good t v) = Unit {0}
 
 -- The sets of every node in a run are bounded.
-abbrev pub RunBounded : (n f : ℕ) → Type 0
-RunBounded n f = (es : List Event) (c : ℕ) → BoundedNode n (after n f start es .nodes c)
+abbrev pub RunBounded : (n f : ℕ) (room : ℕ → Bool) → Type 0
+RunBounded n f room = (es : List Event) (c : ℕ) → BoundedNode n (after n f room start es .nodes c)
 
 -- The message that has waited longest for a node that stands is as the node expects it.
-abbrev pub RunExpected : (n f : ℕ) → Type 0
-RunExpected n f = (es : List Event) (a b : ℕ) (m : Message) (rest : List Message) → OneTo n b
-    → after n f start es .stopped b ≡ false → after n f start es .channel a b ≡ m ∷ rest
-    → Expected n a (after n f start es .nodes b) m
+abbrev pub RunExpected : (n f : ℕ) (room : ℕ → Bool) → Type 0
+RunExpected n f room = (es : List Event) (a b : ℕ) (m : Message) (rest : List Message) → OneTo n b
+    → after n f room start es .stopped b ≡ false → after n f room start es .channel a b ≡ m ∷ rest
+    → Expected n a (after n f room start es .nodes b) m
 
 -- A node that compares holds every own value that any node holds.
-abbrev pub OwnHeld : (n f : ℕ) → Type 0
-OwnHeld n f = (es : List Event) (c j : ℕ) (o : Operation) (rnd : Round) (t : ℕ) (v : Value)
-    → after n f start es .nodes c .wait ≡ comparing o rnd t → v .writer ≡ c → v ∈ after n f start es .nodes j .all
-    → v ∈ after n f start es .nodes c .all
+abbrev pub OwnHeld : (n f : ℕ) (room : ℕ → Bool) → Type 0
+OwnHeld n f room = (es : List Event) (c j : ℕ) (o : Operation) (rnd : Round) (t : ℕ) (v : Value)
+    → after n f room start es .nodes c .wait ≡ comparing o rnd t → v .writer ≡ c
+    → v ∈ after n f room start es .nodes j .all → v ∈ after n f room start es .nodes c .all
 
 -- A round opens with a tag that is not below maxtag.
 abbrev pub OpensHigh : (n f : ℕ) → Type 0
@@ -84,12 +84,12 @@ pub record InitialSegment (tr : Trace) (l : List Value) : Type 0 where
   pub earlier : (u v : Value) → v ∈ l → LetOut tr u → UpTo u v → u ∈ l
 
 -- What a node has received, from anybody and from one node, is an initial segment of what the writers have let out.
-abbrev pub RunClosed : (n f : ℕ) → Type 0
-RunClosed n f = (es : List Event) (c : ℕ) → let ν = after n f start es .nodes c in
-    InitialSegment (trace n f es) (ν .all) × ((k : ℕ) → InitialSegment (trace n f es) (ν .from k))
+abbrev pub RunClosed : (n f : ℕ) (room : ℕ → Bool) → Type 0
+RunClosed n f room = (es : List Event) (c : ℕ) → let ν = after n f room start es .nodes c in
+    InitialSegment (trace n f room es) (ν .all) × ((k : ℕ) → InitialSegment (trace n f room es) (ν .from k))
 
 -- Earlier by tag is earlier in time: a node, the writer or another, lets the values of a writer out to each node in the
 -- order of their tags.
-abbrev pub RunRising : (n f : ℕ) → Type 0
-RunRising n f = (es : List Event) (a b : ℕ) (u v : Value) (l rest : List Message)
-    → letOutTo (trace n f es) a b ≡ l ++ (value v ∷ rest) → value u ∈ l → u .writer ≡ v .writer → u .tag ≤ v .tag
+abbrev pub RunRising : (n f : ℕ) (room : ℕ → Bool) → Type 0
+RunRising n f room = (es : List Event) (a b : ℕ) (u v : Value) (l rest : List Message)
+    → letOutTo (trace n f room es) a b ≡ l ++ (value v ∷ rest) → value u ∈ l → u .writer ≡ v .writer → u .tag ≤ v .tag

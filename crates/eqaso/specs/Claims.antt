@@ -3,6 +3,7 @@
 use Prim.Native.Nat.{ℕ, suc, _+_, _-_, _≤_, _<_, max}
 use mathlib.Core.Path.{_≡_}
 use mathlib.Core.Logic.{_⊎_, _↔_}
+use mathlib.Core.Bool.{Bool}
 use mathlib.Core.List.{[]}
 use lib.ListN.{take}
 use Rattle.theory.specs.Count.{count}
@@ -10,6 +11,7 @@ use Rattle.theory.specs.Log.{_∈_}
 use Rattle.eqaso.specs.Message.{absent, View, Message, good}
 use Rattle.eqaso.specs.Algorithm.{limit, Operation, update, scan, Wait, idle, reading, writing, comparing}
 use Rattle.eqaso.specs.Algorithm.{borrowing, Node, none, done, shown, spent, react, messageStep, beginStep}
+use Rattle.eqaso.specs.Cluster.{atMost, always}
 use Rattle.eqaso.specs.Trace.{Trace, updating, begun, Fate, unfinished, ended, fate, tagAt, viewOf, entryAt}
 use Rattle.eqaso.specs.Trace.{letOutTo}
 use Rattle.eqaso.specs.Trace.{fateAt, upToEnd, ownTags}
@@ -19,9 +21,17 @@ use Rattle.eqaso.specs.Order.{OneTo, Finished, IsScan, EndedBefore, Dema
 abbrev pub Faults : ℕ → ℕ → Type 0
 Faults n f = (f + f < n) × (n ≤ suc f + suc f)
 
+-- Document 01's channels hold at most sixteen messages.
+abbrev pub sixteen : ℕ → Bool
+sixteen = atMost 16
+
 -- Demand 3 of document 01: one to sixteen nodes, of which f may stop.
 abbrev pub Claim3 : Type 0
-Claim3 = (n f : ℕ) → OneTo 16 n → Faults n f → Demand3 n f
+Claim3 = (n f : ℕ) → OneTo 16 n → Faults n f → Demand3 n f sixteen
+
+-- Demand 3 on links without a limit, where an event is never refused because a channel is full.
+abbrev pub OnLinks : Type 0
+OnLinks = (n f : ℕ) → f + f < n → Demand3 n f always
 
 -- Document 01's words for the tag s of the update of node c that began at index t: it is among its own tags let out from
 -- its begin to its ending, and above all of them let out before.

@@ -120,21 +120,25 @@ commit c x s l channel σ = record {
   sent = l;
 }
 
--- The most messages that a channel holds.
-abbrev pub capacity : ℕ
-capacity = 16
+-- How many messages a channel has room for is a parameter, like n and f: `room` tests the length of a channel. The
+-- channels of document 01 hold at most a number; links may take any number.
+abbrev pub atMost : ℕ → ℕ → Bool
+atMost most k = decide (decLe k most)
 
--- Each channel from c to 1 to n holds at most its capacity.
-unfoldable pub roomy : ℕ → ℕ → (ℕ → ℕ → List Message) → Bool
-roomy c zero channel = true
-roomy c (suc n) channel = decide (decLe (length (channel c (suc n))) capacity) && roomy c n channel
+abbrev pub always : ℕ → Bool
+always k = true
+
+-- Each channel from c to 1 to n has room for what it holds.
+unfoldable pub roomy : (room : ℕ → Bool) → ℕ → ℕ → (ℕ → ℕ → List Message) → Bool
+roomy room c zero channel = true
+roomy room c (suc n) channel = room (length (channel c (suc n))) && roomy room c n channel
 
 -- Refusal 11, judged on the channels as the event would leave them.
-abbrev pub unlessFull : ℕ → ℕ → Cluster → Result → Result
-unlessFull n c σ r = demand (Bool-discrete (roomy c n (r .cluster .channel)) true) 11 σ r
+abbrev pub unlessFull : ℕ → (room : ℕ → Bool) → ℕ → Cluster → Result → Result
+unlessFull n room c σ r = demand (Bool-discrete (roomy room c n (r .cluster .channel)) true) 11 σ r
 
-abbrev pub settle : ℕ → ℕ → Extent → Step → (ℕ → ℕ → List Message) → Cluster → Result
-settle n c x s channel σ = unlessFull n c σ (commit c x s (letOut x (entries n (s .sent))) channel σ)
+abbrev pub settle : ℕ → (room : ℕ → Bool) → ℕ → Extent → Step → (ℕ → ℕ → List Message) → Cluster → Result
+settle n room c x s channel σ = unlessFull n room c σ (commit c x s (letOut x (entries n (s .sent))) channel σ)
 
 -- What the other refusals demand.
 
@@ -167,27 +171,27 @@ holds b = Bool-discrete b true
 
 -- The three kinds of event.
 
-abbrev pub beginEvent : (n f c : ℕ) → Operation → Extent → Cluster → Result
-beginEvent n f c op x σ =
+abbrev pub beginEvent : (n f : ℕ) (room : ℕ → Bool) (c : ℕ) → Operation → Extent → Cluster → Result
+beginEvent n f room c op x σ =
     demand (holds (isNode n c)) 3 σ
     (demand (holds (stands σ c)) 4 σ
     (demand (holds (isIdle (σ .nodes c .wait))) 5 σ
     (demand (decLe 5 (limit - σ .nodes c .request)) 6 σ
     (demand (holds (mayCut n f x σ)) 10 σ
-    (settle n c x (beginStep n f c op (σ .nodes c)) (σ .channel) σ)))))
+    (settle n room c x (beginStep n f c op (σ .nodes c)) (σ .channel) σ)))))
 
 -- The delivery of what has waited longest on its channel.
-abbrev pub deliverFirst : (n f a b : ℕ) → Extent → Cluster → List Message → Result
-deliverFirst n f a b x σ [] = refuse 8 σ
-deliverFirst n f a b x σ (m ∷ rest) =
+abbrev pub deliverFirst : (n f : ℕ) (room : ℕ → Bool) (a b : ℕ) → Extent → Cluster → List Message → Result
+deliverFirst n f room a b x σ [] = refuse 8 σ
+deliverFirst n f room a b x σ (m ∷ rest) =
     demand (holds (mayCut n f x σ)) 10 σ
-    (settle n b x (messageStep n f b a m (σ .nodes b)) (upd2 (σ .channel) a b rest) σ)
+    (settle n room b x (messageStep n f b a m (σ .nodes b)) (upd2 (σ .channel) a b rest) σ)
 
-abbrev pub deliverEvent : (n f a b : ℕ) → Extent → Cluster → Result
-deliverEvent n f a b x σ =
+abbrev pub deliverEvent : (n f : ℕ) (room : ℕ → Bool) (a b : ℕ) → Extent → Cluster → Result
+deliverEvent n f room a b x σ =
     demand (holds (isNode n a && isNode n b)) 3 σ
     (demand (holds (stands σ b)) 4 σ
-    (deliverFirst n f a b x σ (σ .channel a b)))
+    (deliverFirst n f room a b x σ (σ .channel a b)))
 
 abbrev pub stopEvent : (n f c : ℕ) → Cluster → Result
 stopEvent n f c σ =
@@ -196,12 +200,12 @@ stopEvent n f c σ =
     (demand (holds (mayStop n f σ)) 10 σ
     (commit c (cut 0) (still (σ .nodes c)) [] (σ .channel) σ)))
 
-unfoldable pub event : (n f : ℕ) → Event → Cluster → Result
-event n f (begin c op x) σ = beginEvent n f c op x σ
-event n f (deliver a b x) σ = deliverEvent n f a b x σ
-event n f (stop c) σ = stopEvent n f c σ
+unfoldable pub event : (n f : ℕ) (room : ℕ → Bool) → Event → Cluster → Result
+event n f room (begin c op x) σ = beginEvent n f room c op x σ
+event n f room (deliver a b x) σ = deliverEvent n f room a b x σ
+event n f room (stop c) σ = stopEvent n f c σ
 
 -- The cluster after a list of events.
-unfoldable pub after : (n f : ℕ) → Cluster → List Event → Cluster
-after n f σ [] = σ
-after n f σ (e ∷ es) = after n f (event n f e σ .cluster) es
+unfoldable pub after : (n f : ℕ) (room : ℕ → Bool) → Cluster → List Event → Cluster
+after n f room σ [] = σ
+after n f room σ (e ∷ es) = after n f room (event n f room e σ .cluster) es

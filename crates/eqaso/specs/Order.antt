@@ -4,7 +4,7 @@ use Prim.Native.Nat.{ℕ, _<_, _≤_}
 use native.Mathlib.Decide.{ℕ-discrete}
 use mathlib.Core.Path.{_≡_}
 use mathlib.Core.Logic.{_↔_}
-use mathlib.Core.Bool.{false}
+use mathlib.Core.Bool.{Bool, false}
 use mathlib.Core.List.{List, [], _∷_}
 use Rattle.theory.specs.Log.{_∈_}
 use Rattle.order.specs.Sequence.{Once, before}
@@ -90,5 +90,5 @@ abbrev pub Quiet : ℕ → Trace → Type 0
 Quiet n tr = NothingWaits n tr → (t : ℕ) → ClosedBy tr t (begun tr t)
 
 -- Demand 3: of every list of events, with any numbers.
-abbrev pub Demand3 : (n f : ℕ) → Type 0
-Demand3 n f = (es : List Event) → SingleOrder n (trace n f es) × Quiet n (trace n f es)
+abbrev pub Demand3 : (n f : ℕ) (room : ℕ → Bool) → Type 0
+Demand3 n f room = (es : List Event) → SingleOrder n (trace n f room es) × Quiet n (trace n f room es)

@@ -26,12 +26,12 @@ abbrev pub seen : Event → Result → Seen
 seen e r = record { event = e; answer = r .answer; sent = r .sent }
 
 -- The trace of a list of events, each of which gets the cluster as the one before it left it.
-unfoldable pub traceFrom : (n f : ℕ) → Cluster → List Event → Trace
-traceFrom n f σ [] = []
-traceFrom n f σ (e ∷ es) = seen e (event n f e σ) ∷ traceFrom n f (event n f e σ .cluster) es
+unfoldable pub traceFrom : (n f : ℕ) (room : ℕ → Bool) → Cluster → List Event → Trace
+traceFrom n f room σ [] = []
+traceFrom n f room σ (e ∷ es) = seen e (event n f room e σ) ∷ traceFrom n f room (event n f room e σ .cluster) es
 
-abbrev pub trace : (n f : ℕ) → List Event → Trace
-trace n f es = traceFrom n f start es
+abbrev pub trace : (n f : ℕ) (room : ℕ → Bool) → List Event → Trace
+trace n f room es = traceFrom n f room start es
 
 abbrev pub nothingSeen : Seen
 nothingSeen = record { event = stop 0; answer = refused 3; sent = [] }

@@ -39,7 +39,7 @@ use Rattle.eqaso.specs.Bounded.{Expected}
 use Rattle.refine.specs.Meaning.{messageOf}
 use Rattle.refine.specs.Follows.{Sized, Follows}
 use Rattle.refine.proofs.Steps.{message-follows, never-stale}
-use Rattle.mirror.specs.Mirrors.{meantBy, extentOf, Mirrors}
+use Rattle.mirror.specs.Mirrors.{channelRoom, meantBy, extentOf, Mirrors}
 use Rattle.mirror.specs.SameResult.{SameResult}
 use Rattle.mirror.proofs.LetOut.{both-and}
 use Rattle.mirror.proofs.Says.{says-count, says-first}
@@ -102,11 +102,12 @@ module _ {n : ℕ} (low : 1 ≤ n) (small : n ≤ 16) {b : List ℕ} {σ : K.Clu
 
     -- The slot says some message of the code; 7 does not come up.
     reads : (r : Answer (Message × ℕ)) → front n s ≡ r → meantBy n c (viewOf n (viewAt n s)) r ≡ result m
-        → SameResult n (E.deliverMessage n a c x b s r) (K.deliverFirst n (faults n) a c (extentOf x) σ (m ∷ rest))
+        → SameResult n (E.deliverMessage n a c x b s r)
+        (K.deliverFirst n (faults n) channelRoom a c (extentOf x) σ (m ∷ rest))
     unfolding s q
     reads (refused k) e h = absurd (subst IsResult (sym h) tt)
     reads (result p) e h = subst (λ z. SameResult n (E.deliverMessage n a c x b s (result p))
-        (K.deliverFirst n (faults n) a c (extentOf x) σ (z ∷ rest)))
+        (K.deliverFirst n (faults n) channelRoom a c (extentOf x) σ (z ∷ rest)))
         means (rw (not-stale small F a from (p .0) v ex)
         (same-demand low small mirror (K.holds (K.mayCut n (faults n) (extentOf x) σ))
         (cut-tells low small mirror x) 10 λ cut.
@@ -127,7 +128,7 @@ module _ {n : ℕ} (low : 1 ≤ n) (small : n ≤ 16) {b : List ℕ} {σ : K.Clu
         ex = subst (Expected n a (σ .nodes c)) (sym means) expects
 
     handles : SameResult n (E.demand (ltb 0 (countOf (channel b a c))) 8 b (E.deliverMessage n a c x b s (front n s)))
-        (K.deliverFirst n (faults n) a c (extentOf x) σ (m ∷ rest))
+        (K.deliverFirst n (faults n) channelRoom a c (extentOf x) σ (m ∷ rest))
     unfolding s
     handles =
         let some : 0 < countOf (channel b a c) = rw (says-count small (mirror .shows .says c at) a from, waits)
@@ -138,7 +139,7 @@ module _ {n : ℕ} (low : 1 ≤ n) (small : n ≤ 16) {b : List ℕ} {σ : K.Clu
   module _ (expects : (m : M.Message) (rest : List M.Message) → OneTo n c → σ .stopped c ≡ false
       → σ .channel a c ≡ m ∷ rest
       → Expected n a (σ .nodes c) m) where
-    delivers-in : SameResult n (E.deliverIn n a c x b) (K.deliverEvent n (faults n) a c (extentOf x) σ)
+    delivers-in : SameResult n (E.deliverIn n a c x b) (K.deliverEvent n (faults n) channelRoom a c (extentOf x) σ)
     unfolding s
     delivers-in =
         same-demand low small mirror (K.holds (K.isNode n a && K.isNode n c))
@@ -152,16 +153,16 @@ module _ {n : ℕ} (low : 1 ≤ n) (small : n ≤ 16) {b : List ℕ} {σ : K.Clu
         go : OneTo n a → OneTo n c → σ .stopped c ≡ false → (l : List M.Message) → σ .channel a c ≡ l
             → SameResult n (E.demand (ltb 0 (countOf (channel b a c))) 8 b
             (E.deliverMessage n a c x b (first (channel b a c)) (front n (first (channel b a c)))))
-            (K.deliverFirst n (faults n) a c (extentOf x) σ l)
+            (K.deliverFirst n (faults n) channelRoom a c (extentOf x) σ l)
         go from at up [] e =
             let none : countOf (channel b a c) ≤ 0 = rw (says-count small (mirror .shows .says c at) a from, e)
             (omega arith) in
             rw (le-ltb 0 (countOf (channel b a c)) none) (same-refusal mirror 8)
         go from at up (m ∷ rest) e = handles from at up m rest e (expects m rest at up e)
 
-    pub delivers : SameResult n (E.deliver a c x b) (K.deliverEvent n (faults n) a c (extentOf x) σ)
+    pub delivers : SameResult n (E.deliver a c x b) (K.deliverEvent n (faults n) channelRoom a c (extentOf x) σ)
     unfolding E.deliver
-    delivers = subst (λ r. SameResult n r (K.deliverEvent n (faults n) a c (extentOf x) σ))
+    delivers = subst (λ r. SameResult n r (K.deliverEvent n (faults n) channelRoom a c (extentOf x) σ))
         (ap (λ k. E.deliverIn k a c x b) (sym (mirror .shows .states))
         ∙ sym (is-checked low small mirror (E.deliverIn (stated b) a c x b)))
         delivers-in

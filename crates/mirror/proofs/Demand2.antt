@@ -10,6 +10,7 @@ use Rattle.eqaso.specs.Cluster as K
 use Rattle.eqaso.specs.Order.{OneTo}
 use Rattle.eqaso.specs.Trace as T
 use Rattle.eqaso.proofs.Linked.{linked, waits-is}
+use Rattle.mirror.specs.Mirrors.{channelRoom}
 use Rattle.mirror.specs.Encodes.{EachEncodes}
 use Rattle.mirror.specs.Run.{Event, meaning}
 use Rattle.mirror.specs.Demand2.{bytesAfter, slots, Demand2}
@@ -22,7 +23,7 @@ demand2 n (low, small) b long = record {
   same = run-trace n low small b long;
   refusals = run-refusals n low small b long;
   holds = λ es a c o p up. subst (EachEncodes n c (slots (bytesAfter n b es) a c))
-      (sym (waits-is (linked n (faults n) (map meaning es)) a c (stops es c p up))
+      (sym (waits-is (linked n (faults n) channelRoom (map meaning es)) a c (stops es c p up))
       ∙ ap (λ tr. T.waits tr a c) (sym (run-trace n low small b long es)))
       (run-encoded n low small b long es a c o p);
   empty = λ es a c o p down. none-encoded n c (slots (bytesAfter n b es) a c)
@@ -33,7 +34,7 @@ demand2 n (low, small) b long = record {
 }
   where
     end : List Event → K.Cluster
-    end es = K.after n (faults n) K.start (map meaning es)
+    end es = K.after n (faults n) channelRoom K.start (map meaning es)
 
     flag : (es : List Event) (c : ℕ) → OneTo n c → stopped (bytesAfter n b es) c ≡ end es .stopped c
     flag es c p = run-mirrors n low small b long es .shows .says c p .stop

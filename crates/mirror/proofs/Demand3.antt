@@ -6,6 +6,7 @@ use mathlib.Core.List.{map}
 use Rattle.table.specs.Quorum.{faults}
 use Rattle.eqaso.specs.Order.{SingleOrder, Quiet}
 use Rattle.eqaso.proofs.Demand3.{demand3 as over-sets}
+use Rattle.mirror.specs.Mirrors.{channelRoom}
 use Rattle.mirror.specs.Run.{meaning}
 use Rattle.mirror.specs.Demand3.{Demand3}
 use Rattle.mirror.proofs.Demand2.{demand2}
@@ -15,4 +16,4 @@ half n low = omega arith
 
 pub demand3 : Demand3
 demand3 n (low, small) b long es = subst (λ tr. SingleOrder n tr × Quiet n tr)
-    (sym (demand2 n (low, small) b long .same es)) (over-sets n (faults n) (half n low) (map meaning es))
+    (sym (demand2 n (low, small) b long .same es)) (over-sets n (faults n) channelRoom (half n low) (map meaning es))

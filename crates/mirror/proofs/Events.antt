@@ -29,7 +29,7 @@ use Rattle.refine.specs.Meaning.{operationOf}
 use Rattle.refine.specs.Follows.{Follows}
 use Rattle.refine.proofs.Choice.{Tells, same-side}
 use Rattle.refine.proofs.Steps.{begin-follows, same-idle, not-full, is-full}
-use Rattle.mirror.specs.Mirrors.{extentOf, Mirrors}
+use Rattle.mirror.specs.Mirrors.{channelRoom, extentOf, Mirrors}
 use Rattle.mirror.specs.SameResult.{SameResult}
 use Rattle.mirror.proofs.LetOut.{leb-decides, both-and}
 use Rattle.mirror.proofs.Settle.{same-refusal, tells-true, settles}
@@ -78,7 +78,7 @@ module _ {n : ℕ} (low : 1 ≤ n) (small : n ≤ 16) {b : List ℕ} {σ : K.Clu
 
   module _ (bounded : (c : ℕ) → BoundedNode n (σ .nodes c)) where
     begins-in : (c : ℕ) (o : Operation) (x : Extent)
-        → SameResult n (E.beginIn n c o x b) (K.beginEvent n (faults n) c (operationOf o) (extentOf x) σ)
+        → SameResult n (E.beginIn n c o x b) (K.beginEvent n (faults n) channelRoom c (operationOf o) (extentOf x) σ)
     begins-in c o x =
         same-demand (K.holds (K.isNode n c)) (tells-true (same-isNode n c)) 3 λ is.
         let at : OneTo n c = one-to n c is in
@@ -105,9 +105,9 @@ module _ {n : ℕ} (low : 1 ≤ n) (small : n ≤ 16) {b : List ℕ} {σ : K.Clu
 
     -- The begin of an operation.
     pub begins : (c : ℕ) (o : Operation) (x : Extent)
-        → SameResult n (E.begin c o x b) (K.beginEvent n (faults n) c (operationOf o) (extentOf x) σ)
+        → SameResult n (E.begin c o x b) (K.beginEvent n (faults n) channelRoom c (operationOf o) (extentOf x) σ)
     unfolding E.begin
-    begins c o x = subst (λ r. SameResult n r (K.beginEvent n (faults n) c (operationOf o) (extentOf x) σ))
+    begins c o x = subst (λ r. SameResult n r (K.beginEvent n (faults n) channelRoom c (operationOf o) (extentOf x) σ))
         (ap (λ k. E.beginIn k c o x b) (sym (mirror .shows .states))
         ∙ sym (is-checked low small mirror (E.beginIn (stated b) c o x b)))
         (begins-in c o x)

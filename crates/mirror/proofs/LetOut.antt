@@ -22,7 +22,7 @@ use Rattle.eqaso.specs.Algorithm as A
 use Rattle.eqaso.specs.Cluster as K
 use Rattle.eqaso.specs.Order.{OneTo}
 use Rattle.eqaso.proofs.Sets.{and-both}
-use Rattle.mirror.specs.Mirrors.{mail, Shows}
+use Rattle.mirror.specs.Mirrors.{channelRoom, mail, Shows}
 use Rattle.mirror.proofs.Says.{says-count}
 use Rattle.mirror.proofs.Channels.{channel-stopped, channel-own, sent-here, channels-more, channels-none}
 use Rattle.mirror.proofs.Channels.{same-goTo}
@@ -75,19 +75,19 @@ both-and true b = refl
 both-and false b = refl
 
 module _ (c : ℕ) (ch : ℕ → ℕ → List M.Message) where
-  same-all : (m : ℕ) (p : ℕ → Bool) → ((d : ℕ) → OneTo m d → p d ≡ decide (decLe (length (ch c d)) capacity))
-      → all m p ≡ K.roomy c m ch
+  same-all : (m : ℕ) (p : ℕ → Bool) → ((d : ℕ) → OneTo m d → p d ≡ channelRoom (length (ch c d)))
+      → all m p ≡ K.roomy channelRoom c m ch
   unfolding all K.roomy
   same-all zero p h = refl
   same-all (suc m) p h = ap₂ both (h (suc m) (omega arith, omega arith))
       (same-all m p (λ d (lo, hi). h d (lo, omega arith)))
-      ∙ both-and (decide (decLe (length (ch c (suc m))) capacity)) (K.roomy c m ch)
+      ∙ both-and (channelRoom (length (ch c (suc m)))) (K.roomy channelRoom c m ch)
 
-  pub roomy-at : (m : ℕ) → K.roomy c m ch ≡ true → (d : ℕ) → OneTo m d → length (ch c d) ≤ capacity
+  pub roomy-at : (m : ℕ) → K.roomy channelRoom c m ch ≡ true → (d : ℕ) → OneTo m d → length (ch c d) ≤ capacity
   unfolding K.roomy
   roomy-at zero e d (lo, hi) = absurd (omega arith)
   roomy-at (suc m) e d (lo, hi) =
-      let (x, y) = and-both (decide (decLe (length (ch c (suc m))) capacity)) (K.roomy c m ch) e in
+      let (x, y) = and-both (channelRoom (length (ch c (suc m)))) (K.roomy channelRoom c m ch) e in
       elim (ℕ-discrete d (suc m)) [
         | yes z ↦ rw z (decide-iff (decLe (length (ch c (suc m))) capacity) .0 x)
         | no z ↦ roomy-at m y d (lo, omega arith)
@@ -99,23 +99,23 @@ module _ {n : ℕ} (small : n ≤ 16) {b : List ℕ} {ν : ℕ → A.Node} {s : 
   abbrev later : ℕ → ℕ → List M.Message
   later = K.channels s c (map (mail n) l) q
 
-  same-at : (d : ℕ) → OneTo n d → roomAt c l b d ≡ decide (decLe (length (later c d)) capacity)
+  same-at : (d : ℕ) → OneTo n d → roomAt c l b d ≡ channelRoom (length (later c d))
   same-at d o = go (s d) refl
     where
-      go : (y : Bool) → s d ≡ y → roomAt c l b d ≡ decide (decLe (length (later c d)) capacity)
+      go : (y : Bool) → s d ≡ y → roomAt c l b d ≡ channelRoom (length (later c d))
       go true e = rw (S .says d o .stop ∙ e) (sym (decide-iff (decLe (length (later c d)) capacity) .1
           (rw (channel-stopped s c (map (mail n) l) q c d e) (omega arith))))
       go false e = rw (S .says d o .stop ∙ e, says-count small (S .says d o) c node, same-goTo n d l)
           (leb-decides (length (q c d) + length (K.sentTo d (map (mail n) l))) capacity
-          ∙ ap (λ k. decide (decLe k capacity)) (sym (ap length (channel-own s c (map (mail n) l) q c d e refl)
+          ∙ ap channelRoom (sym (ap length (channel-own s c (map (mail n) l) q c d e refl)
           ∙ length-append (q c d) (K.sentTo d (map (mail n) l)))))
 
   -- Refusal 11 is given alike.
-  pub same-roomy : roomy n c l b ≡ K.roomy c n later
+  pub same-roomy : roomy n c l b ≡ K.roomy channelRoom c n later
   unfolding roomy
   same-roomy = same-all c later n (roomAt c l b) same-at
 
-  pub room-of : K.roomy c n later ≡ true → Room n c s q l
+  pub room-of : K.roomy channelRoom c n later ≡ true → Room n c s q l
   room-of e d o f = omega (
     arith,
     roomy-at c later n e d o,

@@ -2,7 +2,7 @@
 use Prim.Native.Nat.{ℕ, _-_}
 use native.Mathlib.Decide.{decLe}
 use mathlib.Core.Path.{_≡_, refl, sym, subst}
-use mathlib.Core.Bool.{true, _&&_}
+use mathlib.Core.Bool.{Bool, true, _&&_}
 use mathlib.Core.List.{List, [], _∷_}
 use Rattle.theory.specs.Update.{upd2}
 use Rattle.octets.specs.Answer.{Answer, result, refused}
@@ -23,18 +23,18 @@ Given (K.refused k) = inRun k ≡ true
 record Answers (r : K.Result) : Type 0 where
   given : Given (r .answer)
 
-module _ (n f : ℕ) (σ : K.Cluster) where
+module _ (n f : ℕ) (room : ℕ → Bool) (σ : K.Cluster) where
   demands : {P : Type 0} (d : Dec P) (k : ℕ) → inRun k ≡ true → {r : K.Result} → Answers r → Answers (K.demand d k σ r)
   demands (yes p) k e h = h
   demands (no p) k e h = record { given = e }
 
-  settles : (c : ℕ) (x : K.Extent) (s : A.Step) (q : ℕ → ℕ → List M.Message) → Answers (K.settle n c x s q σ)
+  settles : (c : ℕ) (x : K.Extent) (s : A.Step) (q : ℕ → ℕ → List M.Message) → Answers (K.settle n room c x s q σ)
   settles c x s q =
       let r : K.Result = K.commit c x s (K.letOut x (K.entries n (s .sent))) q σ in
       let h : Answers r = record { given = tt } in
-      demands (K.holds (K.roomy c n (r .cluster .channel))) 11 refl h
+      demands (K.holds (K.roomy room c n (r .cluster .channel))) 11 refl h
 
-  answers : (e : K.Event) → Answers (K.event n f e σ)
+  answers : (e : K.Event) → Answers (K.event n f room e σ)
   unfolding K.event
   answers (K.begin c op x) =
       demands (K.holds (K.isNode n c)) 3 refl
@@ -47,7 +47,7 @@ module _ (n f : ℕ) (σ : K.Cluster) where
       demands (K.holds (K.isNode n a && K.isNode n b)) 3 refl
       (demands (K.holds (K.stands σ b)) 4 refl (first (σ .channel a b)))
     where
-      first : (l : List M.Message) → Answers (K.deliverFirst n f a b x σ l)
+      first : (l : List M.Message) → Answers (K.deliverFirst n f room a b x σ l)
       first [] = record { given = refl }
       first (m ∷ rest) = demands (K.holds (K.mayCut n f x σ)) 10 refl
           (settles b x (A.messageStep n f b a m (σ .nodes b)) (upd2 (σ .channel) a b rest))
@@ -57,10 +57,10 @@ module _ (n f : ℕ) (σ : K.Cluster) where
       demands (K.holds (K.isNode n c)) 3 refl
       (demands (K.holds (K.stands σ c)) 4 refl (demands (K.holds (K.mayStop n f σ)) 10 refl h))
 
-pub comes-up : (n f : ℕ) (σ : K.Cluster) (e : K.Event) (r : Result) → SameResult n r (K.event n f e σ)
-    → ComesUp (r .answer)
-comes-up n f σ e r same = go (r .answer) (r .view) (same .answer)
+pub comes-up : (n f : ℕ) (room : ℕ → Bool) (σ : K.Cluster) (e : K.Event) (r : Result)
+    → SameResult n r (K.event n f room e σ) → ComesUp (r .answer)
+comes-up n f room σ e r same = go (r .answer) (r .view) (same .answer)
   where
-    go : (x : Answer Ending) (v : View) → answerOf n v x ≡ K.event n f e σ .answer → ComesUp x
+    go : (x : Answer Ending) (v : View) → answerOf n v x ≡ K.event n f room e σ .answer → ComesUp x
     go (result y) v h = tt
-    go (refused k) v h = subst Given (sym h) (answers n f σ e .given)
+    go (refused k) v h = subst Given (sym h) (answers n f room σ e .given)

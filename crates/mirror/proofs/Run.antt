@@ -16,8 +16,9 @@ use Rattle.cluster.specs.Event as E
 use Rattle.eqaso.specs.Cluster as K
 use Rattle.eqaso.specs.Trace as T
 use Rattle.eqaso.specs.Order.{OneTo}
+use Rattle.eqaso.proofs.Snoc.{after-snoc}
 use Rattle.eqaso.proofs.BoundedRun.{run-bounded, run-expected}
-use Rattle.mirror.specs.Mirrors.{Mirrors}
+use Rattle.mirror.specs.Mirrors.{channelRoom, Mirrors}
 use Rattle.mirror.specs.SameResult.{SameResult}
 use Rattle.mirror.specs.Encodes.{EachEncodes}
 use Rattle.mirror.specs.Run.{Event, begin, deliver, stop, event, after, meaning, traceFrom, traceOf, ComesUp}
@@ -28,48 +29,50 @@ use Rattle.mirror.proofs.Fresh.{fresh-mirrors}
 use Rattle.mirror.proofs.Refusals.{comes-up}
 use Rattle.mirror.proofs.Encoded.{encoded}
 
-after-snoc : (n f : ℕ) (σ : K.Cluster) (es : List K.Event) (e : K.Event)
-    → K.after n f σ (es ++ (e ∷ [])) ≡ K.event n f e (K.after n f σ es) .cluster
-unfolding K.after
-after-snoc n f σ [] e = refl
-after-snoc n f σ (x ∷ es) e = after-snoc n f (K.event n f x σ .cluster) es e
-
 module _ (n : ℕ) (low : 1 ≤ n) (small : n ≤ 16) where
   half : faults n + faults n < n
   half = omega arith
 
+  -- The algorithm's cluster after events.
+  abbrev reached : List K.Event → K.Cluster
+  reached ks = K.after n (faults n) channelRoom K.start ks
+
+  one-more : (ks : List K.Event) (e : K.Event)
+      → reached (ks ++ (e ∷ [])) ≡ K.event n (faults n) channelRoom e (reached ks) .cluster
+  one-more = after-snoc n (faults n) channelRoom K.start
+
   -- One event, after any events of the algorithm's cluster.
-  same-event : {b : List ℕ} (ks : List K.Event) → Mirrors n b (K.after n (faults n) K.start ks) → (e : Event)
-      → SameResult n (event e b) (K.event n (faults n) (meaning e) (K.after n (faults n) K.start ks))
+  same-event : {b : List ℕ} (ks : List K.Event) → Mirrors n b (reached ks) → (e : Event)
+      → SameResult n (event e b) (K.event n (faults n) channelRoom (meaning e) (reached ks))
   unfolding K.event
-  same-event ks mirror (begin c o x) = begins low small mirror (run-bounded n (faults n) half ks) c o x
-  same-event ks mirror (deliver a c x) = delivers low small mirror (run-bounded n (faults n) half ks) a c x
-      (λ m rest o up e. run-expected n (faults n) half ks a c m rest o up e)
+  same-event ks mirror (begin c o x) = begins low small mirror (run-bounded n (faults n) channelRoom half ks) c o x
+  same-event ks mirror (deliver a c x) = delivers low small mirror (run-bounded n (faults n) channelRoom half ks) a c x
+      (λ m rest o up e. run-expected n (faults n) channelRoom half ks a c m rest o up e)
   same-event ks mirror (stop c) = ceases low small mirror c
 
   -- The events so far, and one more.
-  next : {b : List ℕ} (ks : List K.Event) → Mirrors n b (K.after n (faults n) K.start ks) → (e : Event)
-      → Mirrors n (event e b .bytes) (K.after n (faults n) K.start (ks ++ (meaning e ∷ [])))
-  next {b} ks mirror e = subst (Mirrors n (event e b .bytes)) (sym (after-snoc n (faults n) K.start ks (meaning e)))
+  next : {b : List ℕ} (ks : List K.Event) → Mirrors n b (reached ks) → (e : Event)
+      → Mirrors n (event e b .bytes) (reached (ks ++ (meaning e ∷ [])))
+  next {b} ks mirror e = subst (Mirrors n (event e b .bytes)) (sym (one-more ks (meaning e)))
       (same-event ks mirror e .mirrors)
 
-  same-run : {b : List ℕ} (ks : List K.Event) → Mirrors n b (K.after n (faults n) K.start ks) → (es : List Event)
-      → Mirrors n (after b es) (K.after n (faults n) (K.after n (faults n) K.start ks) (map meaning es))
+  same-run : {b : List ℕ} (ks : List K.Event) → Mirrors n b (reached ks) → (es : List Event)
+      → Mirrors n (after b es) (K.after n (faults n) channelRoom (reached ks) (map meaning es))
   unfolding after K.after
   same-run ks mirror [] = mirror
   same-run {b} ks mirror (e ∷ es) = subst
-      (λ σ. Mirrors n (after (event e b .bytes) es) (K.after n (faults n) σ (map meaning es)))
-      (after-snoc n (faults n) K.start ks (meaning e)) (same-run (ks ++ (meaning e ∷ [])) (next ks mirror e) es)
+      (λ σ. Mirrors n (after (event e b .bytes) es) (K.after n (faults n) channelRoom σ (map meaning es)))
+      (one-more ks (meaning e)) (same-run (ks ++ (meaning e ∷ [])) (next ks mirror e) es)
 
-  same-trace : {b : List ℕ} (ks : List K.Event) → Mirrors n b (K.after n (faults n) K.start ks) → (es : List Event)
-      → traceFrom n b es ≡ T.traceFrom n (faults n) (K.after n (faults n) K.start ks) (map meaning es)
+  same-trace : {b : List ℕ} (ks : List K.Event) → Mirrors n b (reached ks) → (es : List Event)
+      → traceFrom n b es ≡ T.traceFrom n (faults n) channelRoom (reached ks) (map meaning es)
   unfolding traceFrom T.traceFrom
   same-trace ks mirror [] = refl
   same-trace {b} ks mirror (e ∷ es) =
       let r = same-event ks mirror e in
       ap₂ (λ x l. x ∷ l) (ap₂ (λ x l. record { event = meaning e; answer = x; sent = l }) (r .answer) (r .sent))
       (same-trace (ks ++ (meaning e ∷ [])) (next ks mirror e) es
-      ∙ ap (λ σ. T.traceFrom n (faults n) σ (map meaning es)) (after-snoc n (faults n) K.start ks (meaning e)))
+      ∙ ap (λ σ. T.traceFrom n (faults n) channelRoom σ (map meaning es)) (one-more ks (meaning e)))
 
   module _ (b : List ℕ) (long : length b ≡ clusterSize n) where
     -- Fresh is accepted.
@@ -90,28 +93,28 @@ module _ (n : ℕ) (low : 1 ≤ n) (small : n ≤ 16) where
     fresh-start = subst (λ r. Mirrors n (r .bytes) K.start) (sym fresh-taken) (fresh-mirrors n low small b long)
 
     -- After any events the bytes mirror the algorithm's cluster after the same events.
-    pub run-mirrors : (es : List Event) → Mirrors n (after start es) (K.after n (faults n) K.start (map meaning es))
+    pub run-mirrors : (es : List Event) → Mirrors n (after start es) (reached (map meaning es))
     unfolding K.after
     run-mirrors es = same-run [] fresh-start es
 
     -- Each event does the same: answer, ending with its view, entries let out, and what it leaves.
     pub lockstep : (es : List Event) (e : Event)
         → SameResult n (event e (after start es))
-        (K.event n (faults n) (meaning e) (K.after n (faults n) K.start (map meaning es)))
+        (K.event n (faults n) channelRoom (meaning e) (reached (map meaning es)))
     lockstep es e = same-event (map meaning es) (run-mirrors es) e
 
     -- What is seen of the whole run is the same.
-    pub run-trace : (es : List Event) → traceOf n b es ≡ T.trace n (faults n) (map meaning es)
+    pub run-trace : (es : List Event) → traceOf n b es ≡ T.trace n (faults n) channelRoom (map meaning es)
     unfolding K.after
     run-trace es = same-trace [] fresh-start es
 
     -- Refusals 1, 2, 7, 9 and 12 do not come up.
     pub run-refusals : (es : List Event) (e : Event) → ComesUp (event e (after start es) .answer)
-    run-refusals es e = comes-up n (faults n) (K.after n (faults n) K.start (map meaning es)) (meaning e)
+    run-refusals es e = comes-up n (faults n) channelRoom (reached (map meaning es)) (meaning e)
         (event e (after start es)) (lockstep es e)
 
     -- What a channel holds is, in order, the encoding of what waits on it.
     pub run-encoded : (es : List Event) (a c : ℕ) → OneTo n a → OneTo n c
         → EachEncodes n c (waiting (λ s. s) (channel (after start es) a c))
-        (K.after n (faults n) K.start (map meaning es) .channel a c)
+        (reached (map meaning es) .channel a c)
     run-encoded es = encoded (run-mirrors es)

@@ -33,7 +33,7 @@ use Rattle.eqaso.specs.Order.{OneTo}
 use Rattle.refine.specs.Meaning.{messageOf}
 use Rattle.refine.specs.Lockstep.{SameStep}
 use Rattle.refine.proofs.Choice.{Tells, same-side}
-use Rattle.mirror.specs.Mirrors.{mail, extentOf, Shows, Mirrors}
+use Rattle.mirror.specs.Mirrors.{channelRoom, mail, extentOf, Shows, Mirrors}
 use Rattle.mirror.specs.SameResult.{answerOf, SameResult}
 use Rattle.mirror.proofs.Channels.{channel-stopped, channel-other, emptied, emptied-gone, channels-emptied}
 use Rattle.mirror.proofs.Channels.{same-entries, map-take}
@@ -98,7 +98,7 @@ module _ {n : ℕ} (small : n ≤ 16) (sized : isSize n ≡ true) (a c : ℕ) (f
   after-step = shows-step small S c node x s (same .node) (safe .node) gone
 
   -- The event is accepted.
-  accepts : K.roomy c n end ≡ true → SameResult n (E.commit n c x s out found)
+  accepts : K.roomy channelRoom c n end ≡ true → SameResult n (E.commit n c x s out found)
       (K.commit c (extentOf x) t (K.letOut (extentOf x) (K.entries n (t .sent))) q σ)
   accepts e = record {
     answer = answers x;
@@ -106,7 +106,7 @@ module _ {n : ℕ} (small : n ≤ 16) (sized : isSize n ≡ true) (a c : ℕ) (f
     mirrors = record {
       shows = subst (Shows n (E.letOut n c out (E.stepped n c x s found)) (upd (σ .nodes) c (t .node)) stopped) mid-end
           (shows-out small sized c node out after-step (emptied-gone stopped q) (fits-out x)
-          (room-of small after-step c node out (ap (K.roomy c n) mid-end ∙ e)));
+          (room-of small after-step c node out (ap (K.roomy channelRoom c n) mid-end ∙ e)));
       room = λ a d p o. fits a d p o (stopped d) refl (ℕ-discrete a c);
       gone = λ a d h. channel-stopped stopped c (K.letOut (extentOf x) (K.entries n (t .sent))) q a d h;
       few = few;
@@ -127,8 +127,8 @@ module _ {n : ℕ} (small : n ≤ 16) (sized : isSize n ≡ true) (a c : ℕ) (f
       fits a d p o false h (yes z) = rw z (roomy-at c end n e d o)
       fits a d p o false h (no z) = rw (channel-other stopped c l q a d h z) (room a d p o)
 
-  pub settles : SameResult n (E.settle n a c x s found b) (K.settle n c (extentOf x) t q σ)
+  pub settles : SameResult n (E.settle n a c x s found b) (K.settle n channelRoom c (extentOf x) t q σ)
   unfolding E.settle
-  settles = same-side (SameResult n) (Bool-discrete (K.roomy c n end) true)
-      (tells-true (same-roomy small after-step c node out ∙ ap (K.roomy c n) mid-end)) accepts
+  settles = same-side (SameResult n) (Bool-discrete (K.roomy channelRoom c n end) true)
+      (tells-true (same-roomy small after-step c node out ∙ ap (K.roomy channelRoom c n) mid-end)) accepts
       (λ e. same-refusal mirror 11)

@@ -14,6 +14,7 @@ use Rattle.eqaso.specs.Cluster as K
 use Rattle.eqaso.specs.Order.{OneTo}
 use Rattle.eqaso.specs.Trace.{trace, waits}
 use Rattle.refine.specs.Follows.{Follows}
+use Rattle.mirror.specs.Mirrors.{channelRoom}
 use Rattle.mirror.specs.Encodes.{EachEncodes}
 use Rattle.mirror.specs.Run.{Event, event, after, meaning, traceOf, ComesUp}
 
@@ -27,7 +28,7 @@ slots b a c = waiting (λ s. s) (channel b a c)
 pub record Demand2 (n : ℕ) (b : List ℕ) : Type 0 where
   pub taken : fresh n b .answer ≡ result None
   -- Event by event the same answer, with the ending and its view, and the same list of entries let out.
-  pub same : (es : List Event) → traceOf n b es ≡ trace n (faults n) (map meaning es)
+  pub same : (es : List Event) → traceOf n b es ≡ trace n (faults n) channelRoom (map meaning es)
   -- Refusals 1, 2, 7, 9 and 12 do not come up.
   pub refusals : (es : List Event) (e : Event) → ComesUp (event e (bytesAfter n b es) .answer)
   -- What a channel to a standing node holds is, in order, the encoding of what was let out to it and not yet handed
@@ -41,4 +42,4 @@ pub record Demand2 (n : ℕ) (b : List ℕ) : Type 0 where
   -- of each writer the last report, the newest up to maxtag and, while a round is open, the newest up to its tag; the tags
   -- heard; the good view that is kept; and the wait with its numbers.
   pub remembers : (es : List Event) (c : ℕ) → OneTo n c
-      → Follows n c (K.after n (faults n) K.start (map meaning es) .nodes c) (node (bytesAfter n b es) c)
+      → Follows n c (K.after n (faults n) channelRoom K.start (map meaning es) .nodes c) (node (bytesAfter n b es) c)

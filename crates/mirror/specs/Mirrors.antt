@@ -37,6 +37,10 @@ meant n c s = meantBy n c (viewOf n (viewAt n s)) (front n s)
 abbrev pub mail : ℕ → Entry → Sent
 mail n e = record { to = e .to; message = messageOf n (e .to) (e .view) (e .message) }
 
+-- What a channel in bytes has room for.
+abbrev pub channelRoom : ℕ → Bool
+channelRoom = K.atMost capacity
+
 -- How much is let out.
 abbrev pub extentOf : Extent → K.Extent
 extentOf Whole = K.whole

@@ -29,7 +29,7 @@ use Rattle.eqaso.proofs.Run.{good}
 use Rattle.refine.specs.Meaning.{entryOf}
 use Rattle.refine.specs.Follows.{Follows}
 use Rattle.refine.proofs.Steps.{same-idle, not-full}
-use Rattle.mirror.specs.Mirrors.{Mirrors, extentOf}
+use Rattle.mirror.specs.Mirrors.{channelRoom, Mirrors, extentOf}
 use Rattle.mirror.specs.SameResult.{answerOf}
 use Rattle.mirror.specs.Run as R
 use Rattle.mirror.proofs.Checks.{is-fit, is-sound}
@@ -186,7 +186,7 @@ module _ (n c : ℕ) (size : OneTo 16 n) (at : OneTo n c) (b : List ℕ) (long :
           let half : faults n + faults n < n = omega (arith, size .0) in
           subst (λ x. Fit n (T.begun x 0) (T.fate x 0) (tagOf x 0 (T.begun x 0)))
           (sym (demand2 n size b long .same (scanThen c ds)))
-          (good n (faults n) half (map R.meaning (scanThen c ds)) .kept .facts .fit 0)
+          (good n (faults n) channelRoom half (map R.meaning (scanThen c ds)) .kept .facts .fit 0)
 
       long-view : LongFate n (T.fate tr 0)
       long-view = subst (λ x. LongFate n (T.fateOf tr 0 x)) (sym scans) (long-first n c 0 start (scanThen c ds))

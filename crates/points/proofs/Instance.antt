@@ -15,6 +15,7 @@ use Rattle.eqaso.specs.Message.{same}
 use Rattle.eqaso.specs.Algorithm.{limit, has, within, newest, table, kept, moveOn}
 use Rattle.eqaso.specs.Cluster.{entries, sentTo, roomy, event}
 use Rattle.eqaso.specs.Trace.{traceFrom, trace, letOutTo, handedOver, waits}
+use Rattle.mirror.specs.Mirrors.{channelRoom}
 use Rattle.mirror.specs.Run as R
 use Rattle.mirror.proofs.Demand2.{demand2}
 use Rattle.points.specs.Points.{Delivery, scanThen, NothingWaits, ShowsNone}
@@ -24,7 +25,7 @@ abbrev deliveries : List Delivery
 deliveries = replicate 5 (record { sender = 1; receiver = 1; extent = Whole })
 
 -- Computed of the algorithm over sets.
-all-handed : waits (trace 1 0 (map R.meaning (scanThen 1 deliveries))) 1 1 ≡ []
+all-handed : waits (trace 1 0 channelRoom (map R.meaning (scanThen 1 deliveries))) 1 1 ≡ []
 unfolding traceFrom event roomy sentTo entries moveOn kept table newest within has limit same upd upd2 count ℕ-discrete decLe decLt decide letOutTo handedOver
 all-handed = refl
 
