@@ -1,6 +1,6 @@
 -- What each return of an entry says, by the refusals that did not apply before it.
 use Prim.Native.Nat.{ℕ, _+_, _≤_}
-use mathlib.Core.Path.{_≡_, refl, sym, ap, ap₂, _∙_}
+use mathlib.Core.Path.{_≡_, refl, sym, ap, ap₂, subst, _∙_}
 use mathlib.Core.Bool.{Bool, true, false}
 use mathlib.Core.List.{List, []}
 use lib.ListN.{length, set, replicate}
@@ -21,23 +21,20 @@ use Rattle.cluster.specs.declared.Answer.{Answer}
 use Rattle.cluster.specs.declared.Extent.{Extent}
 use Rattle.cluster.specs.declared.Outcome.the-variants.{Refused}
 use Rattle.cluster.specs.Event.{Result, refuse, beginIn, openIn, begin, freshBytes, fresh}
-use Rattle.cluster.specs.Outcome.{toldBy, toldOf, said, tells}
-
-pub refuses : (k : ℕ) {r : Answer} {b : List ℕ} {e : Result} → e ≡ refuse k b
-    → r ≡ record { outcome = Refused k; view = noView } → tells r b e
-refuses k p q = (
-  ap (λ (x : Answer). said (x .outcome)) q ∙ sym (ap (λ (x : Result). x .answer) p),
-  ap (λ (x : Answer). x .view) q ∙ sym (ap (λ (x : Result). x .view) p),
-  sym (ap (λ (x : Result). x .bytes) p),
-)
+use Rattle.cluster.specs.Outcome.{said, tells}
 
 -- the same event in another form
 pub becomes : (r : Answer) (b : List ℕ) {e f : Result} → e ≡ f → tells r b f → tells r b e
-becomes r b p t = (
-  t .0 ∙ sym (ap (λ (x : Result). x .answer) p),
-  t .1 ∙ sym (ap (λ (x : Result). x .view) p),
-  t .2 ∙ sym (ap (λ (x : Result). x .bytes) p),
-)
+becomes r b p t = subst (tells r b) (sym p) t
+
+-- what is told follows from the answer and the view
+pub gives : (r : Answer) (b : List ℕ) {e f : Result} → e ≡ f → said (r .outcome) ≡ f .answer → r .view ≡ f .view
+    → b ≡ f .bytes → tells r b e
+gives r b p a v z = becomes r b p (ap₂ told a v, a, v, z)
+
+pub refuses : (k : ℕ) {r : Answer} {b : List ℕ} {e : Result} → e ≡ refuse k b
+    → r ≡ record { outcome = Refused k; view = noView } → tells r b e
+refuses k {r} {b} p q = gives r b p (ap (λ (x : Answer). said (x .outcome)) q) (ap (λ (x : Answer). x .view) q) refl
 
 -- what bytes that passed 12 and 2 are
 module _ (b : List ℕ) (n : ℕ) (st : n ≡ stated b) (f : fits b ≡ true) (s : sound b ≡ true) where
@@ -94,7 +91,3 @@ module _ (n : ℕ) (b : List ℕ) where
       → y ≡ upTo n (λ i. onBlock (i + 1) (keep (blank n (i + 1)))) (set z 0 n) → y ≡ freshBytes n (length b)
   unfolding freshBytes
   fresh-bytes e q = q ∙ ap (λ (t : List ℕ). upTo n (λ i. onBlock (i + 1) (keep (blank n (i + 1)))) (set t 0 n)) e
-
--- what an answer tells in document 01's terms is what its event tells
-pub tells-told : (r : Answer) (b : List ℕ) (e : Result) → tells r b e → toldBy r ≡ toldOf e
-tells-told r b e t = ap₂ told (t .0) (t .1)

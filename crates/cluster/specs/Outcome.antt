@@ -1,4 +1,5 @@
--- What the answer of an event says in document 01's terms: the ending that it gives, or the number of the refusal.
+-- What the answer of an event says. In document 01's terms that is `told` of node: the refusal's number, or the ending
+-- with its number and values. The code gives more: the rule of an ending, and the view of an update.
 use Prim.Native.Nat.{ℕ}
 use mathlib.Core.Path.{_≡_}
 use mathlib.Core.List.{List}
@@ -14,13 +15,13 @@ abbrev pub said : Outcome → Answer Ending
 said (Refused k) = refused k
 said (Accepted e) = result e
 
--- The answer and the bytes at exit are those of an event.
-abbrev pub tells : Reply → List ℕ → Result → Type 0
-tells r b e = (said (r .outcome) ≡ e .answer) × (r .view ≡ e .view) × (b ≡ e .bytes)
-
 -- What an answer and an event tell in document 01's terms: no rule, and of the views only a scan's.
 abbrev pub toldBy : Reply → Told
 toldBy r = told (said (r .outcome)) (r .view)
 
 abbrev pub toldOf : Result → Told
 toldOf e = told (e .answer) (e .view)
+
+-- An answer tells what its event tells; its rule, its view and the bytes at exit are the event's too.
+abbrev pub tells : Reply → List ℕ → Result → Type 0
+tells r b e = (toldBy r ≡ toldOf e) × (said (r .outcome) ≡ e .answer) × (r .view ≡ e .view) × (b ≡ e .bytes)

@@ -5,7 +5,7 @@ use mathlib.Core.Path.{_≡_}
 use mathlib.Core.List.{List}
 use Rattle.view.specs.declared.View.{View}
 use Rattle.record.specs.declared.Node.{Node}
-use Rattle.node.specs.Told.{Told, refusal, nothing, done, scan, spent, shown}
+use Rattle.node.specs.Told.{Told, refusal, nothing, done, scan, spent, spentNumber, shown}
 use Rattle.endpoint.specs.declared.Said.{Said}
 use Rattle.endpoint.specs.declared.Said.the-variants.{Refused, Going, Finished, Shown, Exhausted}
 use Rattle.endpoint.specs.declared.Reply.{Reply}
@@ -23,7 +23,7 @@ toldBy (Refused k) v = refusal k
 toldBy Going v = nothing
 toldBy Finished v = done
 toldBy Shown v = scan v
-toldBy Exhausted v = spent 13
+toldBy Exhausted v = spent spentNumber
 
 -- A reply and the buffer at exit are those of an outcome. Only a scan shows a view.
 abbrev pub tells : Reply → List ℕ → Outcome → Type 0

@@ -41,7 +41,7 @@ ghost use Rattle.endpoint.specs.Entry.{refuse, letOut, fresh, begin, bes
 pub const OUTPUT: usize = 512;
 
 // What a call says: a refusal's number, that nothing has ended, or how the operation ended (document 01: done, scan,
-// spent, which is 13).
+// spent).
 pub enum Said {
     Refused(u8),
     Going,

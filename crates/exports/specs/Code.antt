@@ -10,7 +10,6 @@ use Rattle.octets.specs.Test.{pick}
 use Rattle.octets.specs.Bytes.{put}
 use Rattle.view.specs.Report.{reportNumber, reportFrom}
 use Rattle.view.specs.View.{viewBytes}
-use Rattle.view.specs.declared.View.{View}
 use Rattle.wire.specs.Layout.{encode}
 use Rattle.wire.specs.Codec.{answer, after}
 use Rattle.wire.specs.declared.Message.{Message}
@@ -20,9 +19,11 @@ use Rattle.node.specs.declared.Rule.{Rule}
 use Rattle.node.specs.declared.Rule.the-variants.{Direct, Borrowed}
 use Rattle.node.specs.declared.Ending.{Ending}
 use Rattle.node.specs.declared.Ending.the-variants.{None, Done, Scan, Spent}
+use Rattle.node.specs.Told.{Told, refusal, nothing, done, scan, spent}
 use Rattle.cluster.specs.declared.Extent.{Extent}
 use Rattle.cluster.specs.declared.Extent.the-variants.{Whole, Cut}
 use Rattle.cluster.specs.Event.{Result}
+use Rattle.cluster.specs.Outcome.{toldOf}
 
 -- How much an event lets out: all, or the first m entries of a cut.
 abbrev pub extentOf : (cut : Bool) (m : ℕ) → Extent
@@ -33,28 +34,33 @@ abbrev pub ruleCode : Rule → ℕ
 ruleCode (Direct i) = min i 3
 ruleCode Borrowed = 0
 
--- An event's answer: 0 where nothing ended, a refusal's number (1 to 12), 13 for spent, 20 to 23 for done and 30 to 33
--- for a scan, each with its rule.
-abbrev pub endingCode : Ending → ℕ
-endingCode None = 0
-endingCode (Done r) = 20 + ruleCode r
-endingCode (Scan r) = 30 + ruleCode r
-endingCode Spent = 13
+-- An event's answer, by what it tells: 0 where nothing ended, the number of a refusal (1 to 12) or of spent, 20 to 23 for
+-- done and 30 to 33 for a scan, each with its rule.
+abbrev pub eventCode : Told → (rule : ℕ) → ℕ
+eventCode (refusal k) i = k
+eventCode nothing i = 0
+eventCode done i = 20 + i
+eventCode (scan v) i = 30 + i
+eventCode (spent k) i = k
 
-abbrev pub eventCode : Answer Ending → ℕ
-eventCode (result e) = endingCode e
-eventCode (refused k) = k
+-- the rule of an ending, which document 01 does not ask for
+abbrev pub ruleIn : Answer Ending → ℕ
+ruleIn (refused k) = 0
+ruleIn (result None) = 0
+ruleIn (result (Done r)) = ruleCode r
+ruleIn (result (Scan r)) = ruleCode r
+ruleIn (result Spent) = 0
+
+abbrev pub codeOf : Result → ℕ
+codeOf e = eventCode (toldOf e) (ruleIn (e .answer))
 
 -- The lent view after an event: sixteen entries where a scan ended, and else as it was.
-abbrev pub endingView : Ending → View → List ℕ → List ℕ
-endingView None v out = out
-endingView (Done r) v out = out
-endingView (Scan r) v out = put out 0 (viewBytes 16 v)
-endingView Spent v out = out
-
-abbrev pub eventView : Answer Ending → View → List ℕ → List ℕ
-eventView (result e) v out = endingView e v out
-eventView (refused k) v out = out
+abbrev pub eventView : Told → List ℕ → List ℕ
+eventView (refusal k) out = out
+eventView nothing out = out
+eventView done out = out
+eventView (scan v) out = put out 0 (viewBytes 16 v)
+eventView (spent k) out = out
 
 -- The five numbers of a message: its kind, request number, writer, tag and report, 0 where the kind has none.
 abbrev pub numbers : Message → List ℕ
@@ -106,7 +112,7 @@ figuresSums (refused k) out = out
 
 -- What an event leaves: its answer's code and the lent bytes.
 abbrev pub leaves : ℕ → List ℕ → Result → Type 0
-leaves r b e = (r ≡ eventCode (e .answer)) × (b ≡ e .bytes)
+leaves r b e = (r ≡ codeOf e) × (b ≡ e .bytes)
 
 -- What writing a message leaves: its code, and the buffer that was `before`.
 abbrev pub wrote : ℕ → List ℕ → (n : ℕ) → Message → (view before : List ℕ) → Type 0

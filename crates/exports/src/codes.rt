@@ -4,12 +4,16 @@ use cluster::Extent;
 use cluster::Outcome;
 use node::Ending;
 use node::Rule;
+use node::SPENT;
 use wire::Message;
 ghost use mathlib.Core.Path.{_≡_};
 ghost use Prim.Native.Nat.{_≤_};
-ghost use Rattle.cluster.specs.Outcome.{said};
+ghost use Rattle.octets.specs.Answer.{result};
+ghost use Rattle.view.specs.declared.View.{View};
+ghost use Rattle.node.specs.Told.{told};
+ghost use Rattle.cluster.specs.Outcome.{said, toldBy};
 ghost use Rattle.exports.specs.Code.{numbers, messageOf};
-ghost use Rattle.exports.specs.Code.{extentOf, ruleCode, endingCode, eventCode, eventView};
+ghost use Rattle.exports.specs.Code.{extentOf, ruleCode, ruleIn, eventCode, eventView};
 
 pub(crate) fn extent_of(cut: bool, m: usize) -> Extent
     ensures { λ r. ⌜ r ≡ extentOf cut m ⌝ }
@@ -27,19 +31,19 @@ fn rule_code(r: Rule) -> u8
 }
 
 fn ending_code(e: Ending) -> u8
-    ensures { λ k. ⌜ k ≡ endingCode e ⌝ }
+    ensures { λ k. ⌜ ((v : View) → k ≡ eventCode (told (result e) v) (ruleIn (result e))) ⌝ }
 {
     match e {
         Ending::None => 0,
         Ending::Done(r) => 20 + rule_code(r),
         Ending::Scan(r) => 30 + rule_code(r),
-        Ending::Spent => 13,
+        Ending::Spent => SPENT,
     }
 }
 
 // The code of an event's answer.
 pub(crate) fn event_code(r: Answer) -> u8
-    ensures { λ k. ⌜ k ≡ eventCode (said (r .outcome)) ⌝ }
+    ensures { λ k. ⌜ k ≡ eventCode (toldBy r) (ruleIn (said (r .outcome))) ⌝ }
 {
     let outcome = r.outcome;
     match outcome {
@@ -50,7 +54,7 @@ pub(crate) fn event_code(r: Answer) -> u8
 
 // Writes the view of a scan that ended.
 pub(crate) fn show(r: Answer, out: &mut [u8; 256])
-    ensures { λ _. ⌜ now (out .exit) ≡ eventView (said (r .outcome)) (r .view) (now (out .entry)) ⌝ }
+    ensures { λ _. ⌜ now (out .exit) ≡ eventView (toldBy r) (now (out .entry)) ⌝ }
 {
     let outcome = r.outcome;
     match outcome {

@@ -24,6 +24,7 @@ ghost use Rattle.figures.specs.Figures.{figuresOf};
 ghost use Rattle.record.specs.declared.Operation.the-variants.{Update, Scan};
 ghost use Rattle.layout.specs.Layout.{size as sizeOf};
 ghost use Rattle.cluster.specs.Event.{begin, deliver, fresh};
+ghost use Rattle.cluster.specs.Outcome.{toldOf};
 ghost use Rattle.halting.specs.Stop.{stop};
 ghost use Rattle.exports.specs.Code.{extentOf, eventView, leaves};
 ghost use Rattle.exports.specs.Code.{messageIn, readCode, readNumbers, wrote, figuresCode, figuresSums};
@@ -82,8 +83,7 @@ pub extern "C" fn snapshot_deliver(
     view: &mut [u8; 256],
 ) -> u8
     ensures { λ r. ⌜ leaves r (now (b .exit)) (deliver a c (extentOf cut m) (now (b .entry)))
-        × (now (view .exit) ≡ eventView (deliver a c (extentOf cut m) (now (b .entry)) .answer)
-        (deliver a c (extentOf cut m) (now (b .entry)) .view) (now (view .entry))) ⌝ }
+        × (now (view .exit) ≡ eventView (toldOf (deliver a c (extentOf cut m) (now (b .entry)))) (now (view .entry))) ⌝ }
 {
     let r = cluster::deliver(b, a, c, extent_of(cut, m));
     show(r, view);

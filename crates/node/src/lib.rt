@@ -49,7 +49,10 @@ pub enum Rule {
     Borrowed,
 }
 
-// What a step tells the client: nothing, or that its update is done, its scan has its view, or no tag was left (13).
+// The number of the ending `Spent` in document 01.
+pub const SPENT: u8 = 13;
+
+// What a step tells the client: nothing, or that its update is done, its scan has its view, or no tag was left.
 pub enum Ending {
     None,
     Done(Rule),

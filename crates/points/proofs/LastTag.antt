@@ -86,7 +86,7 @@ module _ (c : Node) (p : Report) (m s t : ℕ) (b out : List ℕ) (L : LastAnswe
   abbrev update : Operation
   update = Update p
 
-  ends : used c m t ≡ limit → Leaves (N.message c s b out) (K.spent 13) Idle out
+  ends : used c m t ≡ limit → Leaves (N.message c s b out) (K.spent K.spentNumber) Idle out
   unfolding run
   ends h = left-by c update m s t b out L
       (spent (faults (c .n)) c s t noView (L .answered) m (L .new) (quorum c update m s t b out L) (L .reads) h)

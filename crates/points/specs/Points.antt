@@ -134,12 +134,12 @@ pub record Leaves (x : Outcome) (answer : K.Told) (next : Wait) (buffer : List �
 pub record LastTag : Type 0 where
   -- The update is spent: nothing is written, and no operation is open.
   pub spent : (c : Node) (p : Report) (m s t : ℕ) (b out : List ℕ) → LastAnswer c (Update p) m s t b out
-      → used c m t ≡ limit → Leaves (N.message c s b out) (K.spent 13) Idle out
+      → used c m t ≡ limit → Leaves (N.message c s b out) (K.spent K.spentNumber) Idle out
   -- both ways to read the largest tag
   pub by-answer : (c : Node) (p : Report) (m s t : ℕ) (b out : List ℕ) → LastAnswer c (Update p) m s t b out
-      → t ≡ limit → Leaves (N.message c s b out) (K.spent 13) Idle out
+      → t ≡ limit → Leaves (N.message c s b out) (K.spent K.spentNumber) Idle out
   pub by-own : (c : Node) (p : Report) (m s t : ℕ) (b out : List ℕ) → LastAnswer c (Update p) m s t b out
-      → c .maxtag ≡ limit → Leaves (N.message c s b out) (K.spent 13) Idle out
+      → c .maxtag ≡ limit → Leaves (N.message c s b out) (K.spent K.spentNumber) Idle out
   -- One less: the value has the largest tag, and round 0 opens with the tag used.
   pub one-less : (c : Node) (p : Report) (m s t : ℕ) (b out : List ℕ) → LastAnswer c (Update p) m s t b out
       → used c m t ≡ limit - 1

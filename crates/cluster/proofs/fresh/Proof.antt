@@ -3,7 +3,7 @@ use lib.ListN.{length-set}
 use mathlib.Core.Path.{sym, _∙_}
 use borrow.Author.Tests.{not-true, not-false}
 use Rattle.layout.proofs.Check.{is-size}
-use Rattle.cluster.proofs.Told.{refuses, becomes, fresh-none, fresh-unfit, fresh-is, fresh-bytes}
+use Rattle.cluster.proofs.Told.{gives, refuses, fresh-none, fresh-unfit, fresh-is, fresh-bytes}
 use Rattle.cluster.proofs.fresh.Statement.{statement}
 use Rattle.cluster.proofs.fresh.Tie as tie
 
@@ -77,13 +77,9 @@ returns-3 c =
     let c3 = c2 .before .before in let c4 = c3 .before in let c5 = c4 .before in let c6 = c5 .before .before in
     let a = c6 .args in
     let s = sym (c5 .and .ensures) ∙ not-false _ (c4 .if1 .left) in
-    becomes (c .given .result) (c1 .blank-blocks .last .0) (fresh-is (a .n) (a .b .now) s (c3 .if2 .left)) (
-      c .given
-          .ensures .0,
-      c .given .ensures .1 ∙ c .before .absent .ensures,
-      fresh-bytes (a .n) (a .b .now) (c2 .fill .ensures)
-          (c1 .blank-blocks .ensures),
-    )
+    gives (c .given .result) (c1 .blank-blocks .last .0) (fresh-is (a .n) (a .b .now) s (c3 .if2 .left))
+    (c .given .ensures .0) (c .given .ensures .1 ∙ c .before .absent .ensures)
+    (fresh-bytes (a .n) (a .b .now) (c2 .fill .ensures) (c1 .blank-blocks .ensures))
 
 pub fresh-spec : {M : Type 1} → statement M
 fresh-spec =

@@ -20,7 +20,7 @@ use Rattle.entries.specs.Entries.{entries}
 use Rattle.layout.specs.Layout.{node}
 use Rattle.moves.specs.Moved.{stepOf}
 use Rattle.cluster.specs.Event.{within, isCut, haltIf, letOut}
-use Rattle.cluster.proofs.Told.{refuses, becomes}
+use Rattle.cluster.proofs.Told.{gives, refuses}
 use Rattle.cluster.proofs.Moved.{sized-begun, step-bytes, step-back}
 use Rattle.cluster.proofs.Settled.{cut-judged, judged, settle-full, settle-commits, open-busy, open-full, open-uncut, open-settles}
 use Rattle.cluster.proofs.open_on.Statement.{statement}
@@ -158,14 +158,13 @@ returns-5 c =
     let j = judged false (a .n) (a .c) (a .c) (a .x) s b (p .0) (p .1) (p .2) (p .1) (p .2) (p .3) (sized-of r′ .heard)
     (c14 .is-cut2 .ensures) refl (c11 .before .before .allowance .ensures) (c11 .before .has-room .ensures) in
     let cut : c .before .is-cut3 .result ≡ isCut (a .x) = c .before .is-cut3 .ensures in
-    becomes (c .given .result) (c4 .release .last .0)
-    (e ∙ settle-commits (a .n) (a .c) (a .c) (a .x) s b b (sym j ∙ not-false _ (c11 .if4 .left))) (
-      c .given .ensures .0 ∙ ap (λ (t : Bool). result (pick t None (f .ending))) cut,
-      c .given .ensures .1 ∙ ap (λ (t : Bool). pick t noView (f .view)) cut,
-      c4 .release .ensures ∙ ap (λ (u : List ℕ). letOut (a .n) (a .c) (within (a .x) (entries (a .n) (a .c) (f .outbox)))
-          (haltIf (isCut (a .x)) (a .n) (a .c) u))
-          (c8 .keep-record-at .ensures),
-    )
+    gives (c .given .result) (c4 .release .last .0)
+    (e ∙ settle-commits (a .n) (a .c) (a .c) (a .x) s b b (sym j ∙ not-false _ (c11 .if4 .left)))
+    (c .given .ensures .0 ∙ ap (λ (t : Bool). result (pick t None (f .ending))) cut)
+    (c .given .ensures .1 ∙ ap (λ (t : Bool). pick t noView (f .view)) cut)
+    (c4 .release .ensures ∙ ap (λ (u : List ℕ). letOut (a .n) (a .c) (within (a .x) (entries (a .n) (a .c) (f .outbox)))
+    (haltIf (isCut (a .x)) (a .n) (a .c) u))
+    (c8 .keep-record-at .ensures))
 
 pub open-on-spec : {M : Type 1} → statement M
 open-on-spec =

@@ -1,7 +1,7 @@
 -- `exports::snapshot_begin_scan` meets its contract.
 use borrow.Author.Needs.{needs}
-use mathlib.Core.Path.{sym, ap, _∙_}
-use Rattle.exports.specs.Code.{eventCode}
+use mathlib.Core.Path.{sym, ap, ap₂, _∙_}
+use Rattle.exports.specs.Code.{ruleIn, eventCode}
 use Rattle.exports.proofs.snapshot_begin_scan.Statement.{statement}
 use Rattle.exports.proofs.snapshot_begin_scan.Tie as tie
 
@@ -9,7 +9,7 @@ returns : tie.Need-returns
 returns c =
     let d = c .before .before .before .begin in
     rw (sym (c .before .before .before .before .extent-of .ensures))
-    (c .event-code .ensures ∙ ap eventCode (d .ensures .0), d .ensures .2)
+    (c .event-code .ensures ∙ ap₂ eventCode (d .ensures .0) (ap ruleIn (d .ensures .1)), d .ensures .3)
 
 pub snapshot-begin-scan-spec : {M : Type 1} → statement M
 snapshot-begin-scan-spec =

@@ -1,7 +1,7 @@
 -- `exports::snapshot_begin_update` meets its contract.
 use borrow.Author.Needs.{needs}
-use mathlib.Core.Path.{sym, ap, _∙_}
-use Rattle.exports.specs.Code.{eventCode}
+use mathlib.Core.Path.{sym, ap, ap₂, _∙_}
+use Rattle.exports.specs.Code.{ruleIn, eventCode}
 use Rattle.exports.proofs.snapshot_begin_update.Statement.{statement}
 use Rattle.exports.proofs.snapshot_begin_update.Tie as tie
 
@@ -10,7 +10,7 @@ returns c =
     let d = c .before .before .before .begin in
     let x = c .before .before .before .before in
     rw (sym (x .extent-of .ensures), sym (x .before .report-from .ensures))
-    (c .event-code .ensures ∙ ap eventCode (d .ensures .0), d .ensures .2)
+    (c .event-code .ensures ∙ ap₂ eventCode (d .ensures .0) (ap ruleIn (d .ensures .1)), d .ensures .3)
 
 pub snapshot-begin-update-spec : {M : Type 1} → statement M
 snapshot-begin-update-spec =

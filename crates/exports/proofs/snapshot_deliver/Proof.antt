@@ -1,7 +1,7 @@
 -- `exports::snapshot_deliver` meets its contract.
 use borrow.Author.Needs.{needs}
-use mathlib.Core.Path.{sym, ap, _∙_}
-use Rattle.exports.specs.Code.{eventCode}
+use mathlib.Core.Path.{sym, ap, ap₂, _∙_}
+use Rattle.exports.specs.Code.{ruleIn, eventCode}
 use Rattle.exports.proofs.snapshot_deliver.Statement.{statement}
 use Rattle.exports.proofs.snapshot_deliver.Tie as tie
 
@@ -10,8 +10,8 @@ returns c =
     let x = c .before .before .before .before .before in
     let d = x .deliver in
     rw (sym (x .before .extent-of .ensures)) (
-      (c .event-code .ensures ∙ ap eventCode (d .ensures .0), d .ensures .2),
-      rw (sym (d .ensures .0), sym (d .ensures .1)) (c .before .show .ensures),
+      (c .event-code .ensures ∙ ap₂ eventCode (d .ensures .0) (ap ruleIn (d .ensures .1)), d .ensures .3),
+      rw (sym (d .ensures .0)) (c .before .show .ensures),
     )
 
 pub snapshot-deliver-spec : {M : Type 1} → statement M

@@ -1,14 +1,14 @@
 -- `exports::snapshot_stop` meets its contract.
 use borrow.Author.Needs.{needs}
-use mathlib.Core.Path.{ap, _∙_}
-use Rattle.exports.specs.Code.{eventCode}
+use mathlib.Core.Path.{ap, ap₂, _∙_}
+use Rattle.exports.specs.Code.{ruleIn, eventCode}
 use Rattle.exports.proofs.snapshot_stop.Statement.{statement}
 use Rattle.exports.proofs.snapshot_stop.Tie as tie
 
 returns : tie.Need-returns
 returns c =
     let d = c .before .before .before .stop in
-    (c .event-code .ensures ∙ ap eventCode (d .ensures .0), d .ensures .2)
+    (c .event-code .ensures ∙ ap₂ eventCode (d .ensures .0) (ap ruleIn (d .ensures .1)), d .ensures .3)
 
 pub snapshot-stop-spec : {M : Type 1} → statement M
 snapshot-stop-spec =

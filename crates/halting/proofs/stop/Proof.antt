@@ -3,7 +3,7 @@ use native.Mathlib.Omega.{arith}
 use mathlib.Core.Path.{sym, _∙_}
 use borrow.Author.Tests.{not-true, not-false}
 use Rattle.layout.proofs.Check.{is-node, fits-some}
-use Rattle.cluster.proofs.Told.{refuses, becomes, n-most, n-length}
+use Rattle.cluster.proofs.Told.{gives, refuses, n-most, n-length}
 use Rattle.halting.proofs.Told.{stop-unfit, stop-unsound, stop-is, stop-nowhere, stop-stopped, stop-many, stop-halts}
 use Rattle.halting.proofs.stop.Statement.{statement}
 use Rattle.halting.proofs.stop.Tie as tie
@@ -178,8 +178,8 @@ returns-6 c =
     let s = sym (c10 .is-sound .ensures) ∙ not-false _ (c9 .if2 .left) in
     let k = sym (c7 .is-node .ensures) ∙ not-false _ (c6 .if3 .left) in
     let r = sym (c5 .stopped-at .ensures) ∙ c4 .if4 .left in
-    becomes (c .given .result) (c1 .halt-at .last .0) (stop-is x b n e f s ∙ stop-halts x b n k r (sym (c3 .may-cut
-    .ensures) ∙ not-false _ (c2 .if5 .left))) (c .given .ensures .0, c .given .ensures .1, c1 .halt-at .ensures)
+    gives (c .given .result) (c1 .halt-at .last .0) (stop-is x b n e f s ∙ stop-halts x b n k r (sym (c3 .may-cut
+    .ensures) ∙ not-false _ (c2 .if5 .left))) (c .given .ensures .0) (c .given .ensures .1) (c1 .halt-at .ensures)
 
 pub stop-spec : {M : Type 1} → statement M
 stop-spec =

@@ -73,7 +73,7 @@ returns-4 : tie.Need-returns-4
 returns-4 c = rw (c .before .before .before .before .before .l4 .given .1) (c .before .before .stop .ensures)
 
 returns-5 : tie.Need-returns-5
-returns-5 c = rw (c .before .enum-told .given .1, c .refused .ensures) (refl, refl, refl)
+returns-5 c = rw (c .before .enum-told .given .1, c .refused .ensures) (refl, refl, refl, refl)
 
 pub act-spec : {M : Type 1} → statement M
 act-spec =

@@ -33,7 +33,7 @@ returns c =
     let n = x .n in
     let z = zero-add (lent n) ∙ sym (c .before .before .before .before .lent-for .ensures .0) in
     lent-back (x .m .now) 0 (lent n) (λ b. fresh n b .bytes) z (omega arith)
-    (c .before .before .fresh .kept .1 .0) (c .before .before .fresh .ensures .2)
+    (c .before .before .fresh .kept .1 .0) (c .before .before .fresh .ensures .3)
 
 pub fresh-in-spec : {M : Type 1} → statement M
 fresh-in-spec =

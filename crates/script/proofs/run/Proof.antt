@@ -39,8 +39,8 @@ returns c =
     let a = c .before .before .before .before .before .before .act .ensures in
     let p = c .put-line .ensures in
     let o = c .before .before .before .before .before .before .act .result .outcome in
-    let s = says (x .e) (x .n) (x .l) (x .b .now) o (c .before .before .handler .ensures) (c .before .reply-at .ensures) (a .0) (a .1) in
-    rw (sym s) (a .2, p .0, p .1)
+    let s = says (x .e) (x .n) (x .l) (x .b .now) o (c .before .before .handler .ensures) (c .before .reply-at .ensures) (a .1) (a .2) in
+    rw (sym s) (a .3, p .0, p .1)
 
 pub run-spec : {M : Type 1} → statement M
 run-spec =

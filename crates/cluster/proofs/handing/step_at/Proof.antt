@@ -16,7 +16,7 @@ use Rattle.layout.specs.Layout.{onBlock}
 use Rattle.handlers.proofs.Handling.{sized-of}
 use Rattle.moves.specs.Moved.{stepOf}
 use Rattle.cluster.specs.Event.{within, isCut, haltIf, letOut}
-use Rattle.cluster.proofs.Told.{refuses, becomes}
+use Rattle.cluster.proofs.Told.{gives, refuses}
 use Rattle.cluster.proofs.Settled.{judged, settle-full, settle-commits}
 use Rattle.cluster.proofs.handing.step_at.Statement.{statement}
 use Rattle.cluster.proofs.handing.step_at.Tie as tie
@@ -56,15 +56,14 @@ returns-2 c =
     let j = judged true (a .n) (a .a) (a .c) (a .x) s b (p .0) (p .1) (p .2) (p .3) (p .4) (p .5) (sized-of (a .r .now) .heard)
     (c18 .is-cut .ensures) (c15 .before .before .gone .ensures) (c15 .before .allowance .ensures) (c15 .has-room .ensures) in
     let cut : c .before .is-cut2 .result ≡ isCut (a .x) = c .before .is-cut2 .ensures in
-    becomes (c .given .result) (c4 .release .last .0)
+    gives (c .given .result) (c4 .release .last .0)
     (settle-commits (a .n) (a .a) (a .c) (a .x) s (onBlock (a .c) (takeOff (a .a)) b) b
-    (sym j ∙ not-false _ (c12 .before .before .if1 .left))) (
-      c .given .ensures .0 ∙ ap (λ (t : Bool). result (pick t None (a .e .ending))) cut,
-      c .given .ensures .1 ∙ ap (λ (t : Bool). pick t noView (a .e .view)) cut,
-      c4 .release .ensures ∙ ap (λ (u : List ℕ). letOut (a .n) (a .c) (within (a .x) (entries (a .n) (a .a) (a .e .outbox)))
-          (haltIf (isCut (a .x)) (a .n) (a .c) u))
-          (c8 .keep-record-at .ensures ∙ ap (onBlock (a .c) (keep (recordOf (a .r .now)))) (c12 .take-off-at .ensures)),
-    )
+    (sym j ∙ not-false _ (c12 .before .before .if1 .left)))
+    (c .given .ensures .0 ∙ ap (λ (t : Bool). result (pick t None (a .e .ending))) cut)
+    (c .given .ensures .1 ∙ ap (λ (t : Bool). pick t noView (a .e .view)) cut)
+    (c4 .release .ensures ∙ ap (λ (u : List ℕ). letOut (a .n) (a .c) (within (a .x) (entries (a .n) (a .a) (a .e .outbox)))
+    (haltIf (isCut (a .x)) (a .n) (a .c) u))
+    (c8 .keep-record-at .ensures ∙ ap (onBlock (a .c) (keep (recordOf (a .r .now)))) (c12 .take-off-at .ensures)))
 
 pub step-at-spec : {M : Type 1} → statement M
 step-at-spec =

@@ -1,0 +1,174 @@
+-- The codes at the border to C are told apart: by cases of what is told, and by the refusals of each event in turn.
+use Prim.Native.Nat.{ℕ, _+_, _≤_}
+use native.Mathlib.Omega.{arith}
+use mathlib.Core.Path.{_≡_, refl, ap, subst}
+use mathlib.Core.Bool.{Bool, true, false, not}
+use mathlib.Core.List.{List}
+use lib.ListN.{length}
+use lib.Dec.{leb, ltb, eqb}
+use borrow.Author.Tests.{ne-eqb, le-leb, lt-leb, leb-true}
+use Rattle.octets.specs.Answer.{Answer, result, refused}
+use Rattle.octets.specs.Test.{both}
+use Rattle.octets.proofs.Test.{both-left, both-right}
+use Rattle.view.specs.Size.{isSize}
+use Rattle.view.specs.View.{viewOf}
+use Rattle.view.specs.declared.View.{View}
+use Rattle.wire.specs.Codec.{front, viewAt}
+use Rattle.wire.specs.declared.Message.{Message}
+use Rattle.table.specs.Quorum.{faults}
+use Rattle.record.specs.Usable.{isOpen, full}
+use Rattle.record.specs.declared.Operation.{Operation}
+use Rattle.node.specs.declared.Rule.{Rule}
+use Rattle.node.specs.declared.Rule.the-variants.{Direct, Borrowed}
+use Rattle.node.specs.declared.Ending.{Ending}
+use Rattle.node.specs.declared.Ending.the-variants.{None, Done, Scan, Spent}
+use Rattle.node.specs.declared.Step.{Step}
+use Rattle.node.specs.Move.{messageStep, beginStep}
+use Rattle.node.specs.Stale.{staleMessage}
+use Rattle.node.specs.Told.{spentNumber, told}
+use Rattle.region.specs.Channel.{countOf, first}
+use Rattle.block.specs.Block.{takeOff}
+use Rattle.entries.specs.Entries.{entries}
+use Rattle.layout.specs.Layout.{clusterSize, stated, stopped, node, channel, onBlock, fits, sound, isNode}
+use Rattle.cluster.specs.declared.Extent.{Extent}
+use Rattle.cluster.specs.Event.{Result, demand, checked, within, mayStop, mayCut, stepped, roomy, settle, deliverMessage}
+use Rattle.cluster.specs.Event.{fresh, begin, deliver}
+use Rattle.halting.specs.Stop.{stop}
+use Rattle.exports.specs.Code.{ruleCode, eventCode, ruleIn, codeOf}
+use Rattle.exports.specs.Apart.{meant, ruleMeant, Called, by-fresh, by-begin, by-deliver, by-stop, Apart}
+
+-- ---- the codes
+
+-- A refusal has a number of document 01's.
+abbrev Numbered : Answer Ending → Type 0
+Numbered (refused k) = (1 ≤ k) × (k ≤ 12)
+Numbered (result e) = Unit {0}
+
+rule-most : (r : Rule) → ruleCode r ≤ 3
+rule-most (Direct i) = omega arith
+rule-most Borrowed = omega arith
+
+-- what a code of done, and of a scan, means
+meant-done : (i : ℕ) → i ≤ 3 → (v : View) → meant (20 + i) v ≡ told (result (Done Borrowed)) v
+meant-done i h v = rw (
+  ne-eqb (20 + i) 0 (λ e. omega (arith, e)),
+  lt-leb (20 + i) 12 (omega arith),
+  ne-eqb (20 + i) spentNumber (λ e. omega (arith, e)),
+  le-leb (20 + i) 23 (omega (arith, h)),
+) refl
+
+meant-scan : (i : ℕ) → (v : View) → meant (30 + i) v ≡ told (result (Scan Borrowed)) v
+meant-scan i v = rw (
+  ne-eqb (30 + i) 0 (λ e. omega (arith, e)),
+  lt-leb (30 + i) 12 (omega arith),
+  ne-eqb (30 + i) spentNumber (λ e. omega (arith, e)),
+  lt-leb (30 + i) 23 (omega arith),
+) refl
+
+told-back : (a : Answer Ending) (v : View) → Numbered a → meant (eventCode (told a v) (ruleIn a)) v ≡ told a v
+told-back (refused k) v (low, high) = rw (ne-eqb k 0 (λ e. omega (arith, e, low)), le-leb k 12 high) refl
+told-back (result None) v h = refl
+told-back (result (Done r)) v h = meant-done (ruleCode r) (rule-most r) v
+told-back (result (Scan r)) v h = meant-scan (ruleCode r) v
+told-back (result Spent) v h = refl
+
+ruled : (a : Answer Ending) (v : View) → Numbered a → ruleMeant (eventCode (told a v) (ruleIn a)) ≡ ruleIn a
+ruled (refused k) v (low, high) = rw (le-leb k 23 (omega (arith, high))) (omega (arith, high))
+ruled (result None) v h = refl
+ruled (result (Done r)) v h = rw (le-leb (20 + ruleCode r) 23 (omega (arith, rule-most r))) (omega arith)
+ruled (result (Scan r)) v h = rw (lt-leb (30 + ruleCode r) 23 (omega arith)) (omega arith)
+ruled (result Spent) v h = refl
+
+no-ending : (k : ℕ) → 1 ≤ k → k ≤ 12 → (x : Ending) (v : View)
+    → k ≡ eventCode (told (result x) v) (ruleIn (result x)) → ⊥
+no-ending k low high None v e = omega (arith, e, low)
+no-ending k low high (Done r) v e = omega (arith, e, high)
+no-ending k low high (Scan r) v e = omega (arith, e, high)
+no-ending k low high Spent v e = omega (arith, e, high)
+
+-- ---- the refusals of the events
+
+-- An event that refuses with such a number, if it does.
+record Proper (e : Result) : Type 0 where
+  numbered : Numbered (e .answer)
+
+demanded : (b : List ℕ) (t : Bool) (k : ℕ) {next : Result} → both (leb 1 k) (leb k 12) ≡ true → Proper next
+    → Proper (demand t k b next)
+demanded b true k in-range h = h
+demanded b false k in-range h = record {
+  numbered = (
+    leb-true 1 k (both-left (leb 1 k) (leb k 12) in-range),
+    leb-true k 12 (both-right (leb 1 k) (leb k 12) in-range),
+  );
+}
+
+-- what comes after 12 and 2
+of-checked : (b : List ℕ) {next : Result} → Proper next → Proper (checked b next)
+of-checked b h = demanded b (fits b) 12 refl (demanded b (sound b) 2 refl h)
+
+settled : (n a c : ℕ) (x : Extent) (s : Step) (found b : List ℕ) → Proper (settle n a c x s found b)
+unfolding settle
+settled n a c x s found b =
+    demanded b (roomy n c (within x (entries n a (s .outbox))) (stepped n c x s found)) 11 refl (record { numbered = tt })
+
+of-begin : (c : ℕ) (o : Operation) (x : Extent) (b : List ℕ) → Proper (begin c o x b)
+unfolding begin
+of-begin c o x b =
+    let n = stated b in
+    of-checked b
+    (demanded b (isNode n c) 3 refl
+    (demanded b (not (stopped b c)) 4 refl
+    (demanded b (not (isOpen (node b c .wait))) 5 refl
+    (demanded b (not (full (node b c))) 6 refl
+    (demanded b (mayCut n x b) 10 refl
+    (settled n c c x (beginStep (faults n) (node b c) o) b b))))))
+
+handed : (n a c : ℕ) (x : Extent) (b s : List ℕ) (m : Answer (Message × ℕ)) → Proper (deliverMessage n a c x b s m)
+handed n a c x b s (refused k) = record { numbered = (omega arith, omega arith) }
+handed n a c x b s (result p) =
+    demanded b (not (staleMessage (node b c) a (p .0))) 9 refl
+    (demanded b (mayCut n x b) 10 refl
+    (settled n a c x (messageStep (faults n) (node b c) a (p .0) (viewOf n (viewAt n s))) (onBlock c (takeOff a) b) b))
+
+of-deliver : (a c : ℕ) (x : Extent) (b : List ℕ) → Proper (deliver a c x b)
+unfolding deliver
+of-deliver a c x b =
+    let n = stated b in
+    let s = first (channel b a c) in
+    of-checked b
+    (demanded b (both (isNode n a) (isNode n c)) 3 refl
+    (demanded b (not (stopped b c)) 4 refl
+    (demanded b (ltb 0 (countOf (channel b a c))) 8 refl (handed n a c x b s (front n s)))))
+
+of-fresh : (n : ℕ) (b : List ℕ) → Proper (fresh n b)
+unfolding fresh
+of-fresh n b =
+    demanded b (isSize n) 1 refl (demanded b (eqb (length b) (clusterSize n)) 12 refl (record { numbered = tt }))
+
+of-stop : (c : ℕ) (b : List ℕ) → Proper (stop c b)
+unfolding stop
+of-stop c b =
+    let n = stated b in
+    of-checked b
+    (demanded b (isNode n c) 3 refl
+    (demanded b (not (stopped b c)) 4 refl (demanded b (mayStop n b) 10 refl (record { numbered = tt }))))
+
+proper : {e : Result} → Called e → Proper e
+proper (by-fresh n b) = of-fresh n b
+proper (by-begin c o x b) = of-begin c o x b
+proper (by-deliver a c x b) = of-deliver a c x b
+proper (by-stop c b) = of-stop c b
+
+its-number : (e : Result) (k : ℕ) → e .answer ≡ refused k → Proper e → (1 ≤ k) × (k ≤ 12) × (codeOf e ≡ k)
+its-number e k is h =
+    let r = subst Numbered is (h .numbered) in
+    (r .0, r .1, ap (λ (a : Answer Ending). eventCode (told a (e .view)) (ruleIn a)) is)
+
+pub apart : Apart
+apart =
+    record {
+      refusals = λ {e} c k is. its-number e k is (proper c);
+      endings = no-ending;
+      read-back = λ {e} c. told-back (e .answer) (e .view) (proper c .numbered);
+      rule-back = λ {e} c. ruled (e .answer) (e .view) (proper c .numbered);
+    }
