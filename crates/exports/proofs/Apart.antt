@@ -31,8 +31,8 @@ use Rattle.block.specs.Block.{takeOff}
 use Rattle.entries.specs.Entries.{entries}
 use Rattle.layout.specs.Layout.{clusterSize, stated, stopped, node, channel, onBlock, fits, sound, isNode}
 use Rattle.cluster.specs.declared.Extent.{Extent}
-use Rattle.cluster.specs.Event.{Result, demand, checked, within, mayStop, mayCut, stepped, roomy, settle, deliverMessage}
-use Rattle.cluster.specs.Event.{fresh, begin, deliver}
+use Rattle.cluster.specs.Event.{Result, demand, checked, within, mayStop, mayCut, stepped, roomy, settle}
+use Rattle.cluster.specs.Event.{deliverMessage, fresh, begin, deliver}
 use Rattle.halting.specs.Stop.{stop}
 use Rattle.exports.specs.Code.{ruleCode, eventCode, ruleIn, codeOf}
 use Rattle.exports.specs.Apart.{meant, ruleMeant, Called, by-fresh, by-begin, by-deliver, by-stop, Apart}
@@ -109,7 +109,8 @@ of-checked b h = demanded b (fits b) 12 refl (demanded b (sound b) 2 refl h)
 settled : (n a c : ℕ) (x : Extent) (s : Step) (found b : List ℕ) → Proper (settle n a c x s found b)
 unfolding settle
 settled n a c x s found b =
-    demanded b (roomy n c (within x (entries n a (s .outbox))) (stepped n c x s found)) 11 refl (record { numbered = tt })
+    demanded b (roomy n c (within x (entries n a (s .outbox))) (stepped n c x s found)) 11 refl
+    (record { numbered = tt })
 
 of-begin : (c : ℕ) (o : Operation) (x : Extent) (b : List ℕ) → Proper (begin c o x b)
 unfolding begin

@@ -1,5 +1,5 @@
--- The codes at the border to C are told apart: a refusal's number is 1 to 12 and never the code of an ending, and from a
--- code, with the view beside it, is read back what the event told and by which rule.
+-- The codes at the border to C are told apart: a refusal's number is 1 to 12 and never the code of an ending, and from
+-- a code, with the view beside it, is read back what the event told and by which rule.
 use Prim.Native.Nat.{ℕ, _-_, _≤_}
 use mathlib.Core.Path.{_≡_}
 use mathlib.Core.List.{List}

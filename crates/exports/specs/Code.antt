@@ -34,8 +34,8 @@ abbrev pub ruleCode : Rule → ℕ
 ruleCode (Direct i) = min i 3
 ruleCode Borrowed = 0
 
--- An event's answer, by what it tells: 0 where nothing ended, the number of a refusal (1 to 12) or of spent, 20 to 23 for
--- done and 30 to 33 for a scan, each with its rule.
+-- An event's answer, by what it tells: 0 where nothing ended, the number of a refusal (1 to 12) or of spent, 20 to 23
+-- for done and 30 to 33 for a scan, each with its rule.
 abbrev pub eventCode : Told → (rule : ℕ) → ℕ
 eventCode (refusal k) i = k
 eventCode nothing i = 0

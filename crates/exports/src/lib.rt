@@ -1,10 +1,11 @@
 // The library's calls for C or Rust to link, on numbers and lent memory. Each is thin over the call that it names and
 // meets the same definition, for every input; none has a precondition.
 //
-// A slice passes as a pointer and a length, an array as a pointer, a bool as 0 or 1. The contracts speak of the bytes that
-// are lent: that a pointer and its length are those of memory, and that two regions lent at once do not overlap, nothing
-// here can test, and the caller owes it. An enum does not cross: an answer is a code (`eventCode` in specs/), a message
-// five numbers (kind, request number, writer, tag, report), a report the number of its eight bytes, high byte first, and an event is cut where `cut` says so.
+// A slice passes as a pointer and a length, an array as a pointer, a bool as 0 or 1. The contracts speak of the bytes
+// that are lent: that a pointer and its length are those of memory, and that two regions lent at once do not overlap,
+// nothing here can test, and the caller owes it. An enum does not cross: an answer is a code (`codeOf` in specs/), a
+// message five numbers (kind, request number, writer, tag, report), a report the number of its eight bytes, high byte
+// first, and an event is cut where `cut` says so.
 mod codes;
 
 use codes::event_code;
@@ -83,7 +84,8 @@ pub extern "C" fn snapshot_deliver(
     view: &mut [u8; 256],
 ) -> u8
     ensures { λ r. ⌜ leaves r (now (b .exit)) (deliver a c (extentOf cut m) (now (b .entry)))
-        × (now (view .exit) ≡ eventView (toldOf (deliver a c (extentOf cut m) (now (b .entry)))) (now (view .entry))) ⌝ }
+        × (now (view .exit) ≡ eventView (toldOf (deliver a c (extentOf cut m) (now (b .entry))))
+        (now (view .entry))) ⌝ }
 {
     let r = cluster::deliver(b, a, c, extent_of(cut, m));
     show(r, view);

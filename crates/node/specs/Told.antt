@@ -1,6 +1,6 @@
 -- What a call tells the client, in document 01's terms: the number of a refusal, that no operation has ended, or how it
--- ended: done, a scan with its view, or spent with its number, which is an ending's and no refusal's. Every contract that
--- speaks of an ending cites this definition.
+-- ended: done, a scan with its view, or spent with its number, which is an ending's and no refusal's. The contracts
+-- that speak of an ending cite this definition.
 -- Assumes nothing.
 use Prim.Native.Nat.{ℕ}
 use Rattle.octets.specs.Answer.{Answer, result, refused}

@@ -61,8 +61,8 @@ returns-2 c =
     (sym j ∙ not-false _ (c12 .before .before .if1 .left)))
     (c .given .ensures .0 ∙ ap (λ (t : Bool). result (pick t None (a .e .ending))) cut)
     (c .given .ensures .1 ∙ ap (λ (t : Bool). pick t noView (a .e .view)) cut)
-    (c4 .release .ensures ∙ ap (λ (u : List ℕ). letOut (a .n) (a .c) (within (a .x) (entries (a .n) (a .a) (a .e .outbox)))
-    (haltIf (isCut (a .x)) (a .n) (a .c) u))
+    (c4 .release .ensures ∙ ap (λ (u : List ℕ). letOut (a .n) (a .c)
+    (within (a .x) (entries (a .n) (a .a) (a .e .outbox))) (haltIf (isCut (a .x)) (a .n) (a .c) u))
     (c8 .keep-record-at .ensures ∙ ap (onBlock (a .c) (keep (recordOf (a .r .now)))) (c12 .take-off-at .ensures)))
 
 pub step-at-spec : {M : Type 1} → statement M
