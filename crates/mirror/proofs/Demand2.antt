@@ -1,8 +1,8 @@
 -- Demand 2 of the code holds.
 use Prim.Native.Nat.{ℕ}
 use mathlib.Core.Path.{_≡_, sym, ap, _∙_, subst}
-use mathlib.Core.Bool.{false}
-use mathlib.Core.List.{List, map}
+use mathlib.Core.Bool.{true, false}
+use mathlib.Core.List.{List, [], map}
 use lib.ListN.{length}
 use Rattle.table.specs.Quorum.{faults}
 use Rattle.layout.specs.Layout.{clusterSize, stopped}
@@ -12,7 +12,7 @@ use Rattle.eqaso.specs.Trace as T
 use Rattle.eqaso.proofs.Linked.{linked, waits-is}
 use Rattle.mirror.specs.Mirrors.{channelRoom}
 use Rattle.mirror.specs.Encodes.{EachEncodes}
-use Rattle.mirror.specs.Run.{Event, meaning}
+use Rattle.mirror.specs.Run.{Event, meaning, traceOf}
 use Rattle.mirror.specs.Demand2.{bytesAfter, slots, Demand2}
 use Rattle.mirror.proofs.Encoded.{none-encoded}
 use Rattle.mirror.proofs.Run.{fresh-taken, run-mirrors, run-trace, run-refusals, run-encoded}
@@ -22,14 +22,8 @@ demand2 n (low, small) b long = record {
   taken = ap (λ r. r .answer) (fresh-taken n low small b long);
   same = run-trace n low small b long;
   refusals = run-refusals n low small b long;
-  holds = λ es a c o p up. subst (EachEncodes n c (slots (bytesAfter n b es) a c))
-      (sym (waits-is (linked n (faults n) channelRoom (map meaning es)) a c (stops es c p up))
-      ∙ ap (λ tr. T.waits tr a c) (sym (run-trace n low small b long es)))
-      (run-encoded n low small b long es a c o p);
-  empty = λ es a c o p down. none-encoded n c (slots (bytesAfter n b es) a c)
-      (subst (EachEncodes n c (slots (bytesAfter n b es) a c))
-      (run-mirrors n low small b long es .gone a c (sym (flag es c p) ∙ down))
-      (run-encoded n low small b long es a c o p));
+  holds = held;
+  empty = none-left;
   remembers = λ es c p. run-mirrors n low small b long es .shows .says c p .node;
 }
   where
@@ -39,5 +33,16 @@ demand2 n (low, small) b long = record {
     flag : (es : List Event) (c : ℕ) → OneTo n c → stopped (bytesAfter n b es) c ≡ end es .stopped c
     flag es c p = run-mirrors n low small b long es .shows .says c p .stop
 
-    stops : (es : List Event) (c : ℕ) → OneTo n c → stopped (bytesAfter n b es) c ≡ false → end es .stopped c ≡ false
-    stops es c p up = sym (flag es c p) ∙ up
+    held : (es : List Event) (a c : ℕ) → OneTo n a → OneTo n c → stopped (bytesAfter n b es) c ≡ false
+        → EachEncodes n c (slots (bytesAfter n b es) a c) (T.waits (traceOf n b es) a c)
+    held es a c o p up = subst (EachEncodes n c (slots (bytesAfter n b es) a c))
+        (sym (waits-is (linked n (faults n) channelRoom (map meaning es)) a c (sym (flag es c p) ∙ up))
+        ∙ ap (λ tr. T.waits tr a c) (sym (run-trace n low small b long es)))
+        (run-encoded n low small b long es a c o p)
+
+    none-left : (es : List Event) (a c : ℕ) → OneTo n a → OneTo n c → stopped (bytesAfter n b es) c ≡ true
+        → slots (bytesAfter n b es) a c ≡ []
+    none-left es a c o p down = none-encoded n c (slots (bytesAfter n b es) a c)
+        (subst (EachEncodes n c (slots (bytesAfter n b es) a c))
+        (run-mirrors n low small b long es .gone a c (sym (flag es c p) ∙ down))
+        (run-encoded n low small b long es a c o p))

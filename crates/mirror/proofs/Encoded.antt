@@ -29,7 +29,7 @@ waiting-map : {X : Type 0} (g : List ℕ → X) (t : List ℕ) → waiting g t �
 unfolding waiting
 waiting-map g t = map-tab g (countOf t) (λ i. part t (slotAt (oldest t + i)) slotSize)
 
-abbrev IsNil : {X : Type 0} → List X → Type 0
+abbrev pub IsNil : {X : Type 0} → List X → Type 0
 IsNil [] = Unit {0}
 IsNil (x ∷ l) = ⊥
 

@@ -17,5 +17,7 @@ pub mod Encoded
 pub mod Stops
 pub mod Run
 pub mod Demand2
+pub mod RuledSlots
+pub mod RuledOut
 pub mod Ceases
 pub mod Demand3

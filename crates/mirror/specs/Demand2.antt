@@ -1,18 +1,20 @@
 -- Demand 2 of the code. Fresh is accepted for lent bytes b of the length for n, and then, for any list of events,
--- refused ones among them, the run on bytes is the run of the algorithm over sets.
+-- refused ones among them, the run on bytes is the run of the algorithm over sets. It is a claim about any house, so
+-- that wrong ones can be named: for each clause proofs/RuledOut has one that it rules out.
 use Prim.Native.Nat.{ℕ}
 use mathlib.Core.Path.{_≡_}
 use mathlib.Core.Bool.{true, false}
 use mathlib.Core.List.{List, [], map}
-use Rattle.octets.specs.Answer.{result}
+use Rattle.octets.specs.Answer.{Answer, result}
 use Rattle.table.specs.Quorum.{faults}
+use Rattle.node.specs.declared.Ending.{Ending}
 use Rattle.node.specs.declared.Ending.the-variants.{None}
 use Rattle.region.specs.Channel.{waiting}
 use Rattle.layout.specs.Layout.{channel, stopped, node}
-use Rattle.cluster.specs.Event.{fresh}
+use Rattle.cluster.specs.Event.{Result, fresh}
 use Rattle.eqaso.specs.Cluster as K
 use Rattle.eqaso.specs.Order.{OneTo}
-use Rattle.eqaso.specs.Trace.{trace, waits}
+use Rattle.eqaso.specs.Trace.{Trace, trace, waits}
 use Rattle.refine.specs.Follows.{Follows}
 use Rattle.mirror.specs.Mirrors.{channelRoom}
 use Rattle.mirror.specs.Encodes.{EachEncodes}
@@ -25,21 +27,41 @@ bytesAfter n b es = after (fresh n b .bytes) es
 abbrev pub slots : List ℕ → ℕ → ℕ → List (List ℕ)
 slots b a c = waiting (λ s. s) (channel b a c)
 
-pub record Demand2 (n : ℕ) (b : List ℕ) : Type 0 where
-  pub taken : fresh n b .answer ≡ result None
+-- What is seen of a house, a cluster in bytes: what fresh answers and, after any list of events, the bytes, what one event
+-- more does, and the trace of the list.
+pub record House : Type 0 where
+  pub opened : Answer Ending
+  pub bytes : List Event → List ℕ
+  pub next : List Event → Event → Result
+  pub seen : List Event → Trace
+
+-- The house of the code.
+abbrev pub houseOf : ℕ → List ℕ → House
+houseOf n b = record {
+  opened = fresh n b .answer;
+  bytes = bytesAfter n b;
+  next = λ es e. event e (bytesAfter n b es);
+  seen = traceOf n b;
+}
+
+pub record Demand2Of (n : ℕ) (h : House) : Type 0 where
+  pub taken : h .opened ≡ result None
   -- Event by event the same answer, with the ending and its view, and the same list of entries let out.
-  pub same : (es : List Event) → traceOf n b es ≡ trace n (faults n) channelRoom (map meaning es)
+  pub same : (es : List Event) → h .seen es ≡ trace n (faults n) channelRoom (map meaning es)
   -- Refusals 1, 2, 7, 9 and 12 do not come up.
-  pub refusals : (es : List Event) (e : Event) → ComesUp (event e (bytesAfter n b es) .answer)
+  pub refusals : (es : List Event) (e : Event) → ComesUp (h .next es e .answer)
   -- What a channel to a standing node holds is, in order, the encoding of what was let out to it and not yet handed
   -- over.
-  pub holds : (es : List Event) (a c : ℕ) → OneTo n a → OneTo n c → stopped (bytesAfter n b es) c ≡ false
-      → EachEncodes n c (slots (bytesAfter n b es) a c) (waits (traceOf n b es) a c)
+  pub holds : (es : List Event) (a c : ℕ) → OneTo n a → OneTo n c → stopped (h .bytes es) c ≡ false
+      → EachEncodes n c (slots (h .bytes es) a c) (waits (h .seen es) a c)
   -- A channel to a stopped node holds nothing.
-  pub empty : (es : List Event) (a c : ℕ) → OneTo n a → OneTo n c → stopped (bytesAfter n b es) c ≡ true
-      → slots (bytesAfter n b es) a c ≡ []
-  -- The record of each node, stopped ones included, remembers of the sets of the algorithm what document 01 has it remember:
-  -- of each writer the last report, the newest up to maxtag and, while a round is open, the newest up to its tag; the tags
-  -- heard; the good view that is kept; and the wait with its numbers.
+  pub empty : (es : List Event) (a c : ℕ) → OneTo n a → OneTo n c → stopped (h .bytes es) c ≡ true
+      → slots (h .bytes es) a c ≡ []
+  -- The record of each node, stopped ones included, remembers of the sets of the algorithm what document 01 has it
+  -- remember: of each writer the last report, the newest up to maxtag and, while a round is open, the newest up to its
+  -- tag; the tags heard; the good view that is kept; and the wait with its numbers.
   pub remembers : (es : List Event) (c : ℕ) → OneTo n c
-      → Follows n c (K.after n (faults n) channelRoom K.start (map meaning es) .nodes c) (node (bytesAfter n b es) c)
+      → Follows n c (K.after n (faults n) channelRoom K.start (map meaning es) .nodes c) (node (h .bytes es) c)
+
+abbrev pub Demand2 : ℕ → List ℕ → Type 0
+Demand2 n b = Demand2Of n (houseOf n b)

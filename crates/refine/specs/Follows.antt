@@ -1,6 +1,6 @@
--- When the bounded record of a node follows its sets. This is document 01's "What a cabinet remembers", said of the sets
--- that never forget: of each writer three reports, of each sender and writer the last tag heard, one good view, and the wait
--- of the open operation with its numbers.
+-- When the bounded record of a node follows its sets. This is document 01's "What a cabinet remembers", said of sets
+-- that never forget: of each writer three reports, of each sender and writer the last tag heard, one good view, and the
+-- wait of the open operation with its numbers.
 use Prim.Native.Nat.{ℕ}
 use mathlib.Core.Path.{_≡_}
 use mathlib.Core.List.{List}
@@ -42,8 +42,8 @@ pub record Sized (v : View) : Type 0 where
 abbrev pub Holds : ℕ → View → ℕ → List M.Value → Type 0
 Holds n v t l = (w : ℕ) → OneTo n w → entryOf v w ≡ A.newest w t l
 
--- While a round with tag t is open, in the waits writing and comparing, the table for it holds the newest up to t. While
--- none is open document 01 has nothing remembered for one, and the table is not read.
+-- While a round with tag t is open, in the waits writing and comparing, the table for it holds the newest up to t.
+-- While none is open document 01 has nothing remembered for one, and the table is not read.
 abbrev pub HoldsRound : ℕ → View → A.Wait → List M.Value → Type 0
 HoldsRound n v A.idle l = Unit {0}
 HoldsRound n v (A.reading op s u) l = Unit {0}
@@ -60,8 +60,8 @@ pub record Follows (n i : ℕ) (ν : A.Node) (c : Node) : Type 0 where
   pub wait : SameWait n (ν .wait) (c .wait)
   -- The last tag of each writer that came from each sender, the node itself among them; 0 where none came.
   pub heard : (k w : ℕ) → OneTo n k → OneTo n w → heardOf (c .heard) k w ≡ latest w (ν .from k) .tag
-  -- Of each writer the last report, the newest up to maxtag, and the newest up to the tag of the open round, each with its
-  -- tag; absent where there is none.
+  -- Of each writer the last report, the newest up to maxtag, and the newest up to the tag of the open round, each with
+  -- its tag; absent where there is none.
   pub last : (w : ℕ) → OneTo n w → entryOf (c .last) w ≡ latest w (ν .all)
   pub atmax : Holds n (c .atmax) (ν .maxtag) (ν .all)
   pub atround : HoldsRound n (c .atround) (ν .wait) (ν .all)

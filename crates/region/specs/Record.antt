@@ -1,6 +1,6 @@
 -- The record of a node in bytes: eleven words, the report of an update that reads, the table of tags heard, and four
--- views of sixteen entries. Every run of bytes of this length is some record; only the codes of the wait and of its kind
--- can be wrong.
+-- views of sixteen entries. Every run of bytes of this length is some record; only the codes of the wait and of its
+-- kind can be wrong.
 use Prim.Native.Nat.{ℕ, _+_, _*_}
 use mathlib.Core.Bool.{Bool, true}
 use mathlib.Core.List.{List, [], _∷_, _++_}
