@@ -39,7 +39,7 @@ use Rattle.mirror.proofs.Demand2.{demand2}
 use Rattle.mirror.proofs.Demand3.{demand3}
 use Rattle.points.specs.Absences.{Delivery, delivery, scanThen, AllWhole, NothingWaits, ShowsNone}
 use Rattle.points.proofs.Stops.{start-mirrors}
-use Rattle.points.proofs.Channels.{accepts}
+use Rattle.points.proofs.Begins.{accepts}
 
 abbrev delivers : List Delivery → List R.Event
 delivers ds = map delivery ds

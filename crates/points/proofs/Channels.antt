@@ -1,6 +1,6 @@
--- The events of a cluster on its channels: begins and deliveries are judged as document 01 says; a begin lets one message
--- out to every node, and an answer of a node to itself takes the place of what it answers.
-use Prim.Native.Nat.{ℕ, _+_, _-_, _*_, _≤_, _<_}
+-- A delivery on the channels of a cluster: it is judged as document 01 says, and the answer of a node to itself takes the
+-- place of what it answers.
+use Prim.Native.Nat.{ℕ, _+_, _-_, _≤_, _<_}
 use native.Mathlib.Omega.{arith}
 use native.Mathlib.Decide.{ℕ-discrete}
 use mathlib.Core.Path.{_≡_, refl, sym, ap, _∙_, subst}
@@ -11,126 +11,46 @@ use lib.Dec.{eqb}
 use borrow.Author.Tests.{lt-ltb, eq-eqb, ne-eqb}
 use Rattle.octets.specs.Answer.{result}
 use Rattle.octets.specs.Test.{pick, both}
-use Rattle.octets.specs.Word.{word}
-use Rattle.octets.proofs.Table.{length-tab}
 use Rattle.octets.proofs.Test.{both-true, true-false}
 use Rattle.view.specs.View.{noView, viewOf}
 use Rattle.view.specs.declared.View.{View}
 use Rattle.view.proofs.ViewBytes.{view-absent}
-use Rattle.wire.specs.Codec.{front, viewAt}
+use Rattle.wire.specs.Codec.{viewAt}
 use Rattle.wire.specs.declared.Message.{Message}
-use Rattle.wire.specs.declared.Message.the-variants.{Read, ReadAnswer}
-use Rattle.table.specs.Loop.{count, tab}
+use Rattle.wire.specs.declared.Message.the-variants.{Read, ReadAnswer, Write, WriteAnswer, Echo}
 use Rattle.table.specs.Quorum.{faults}
 use Rattle.record.specs.Usable.{isOpen, full}
 use Rattle.record.specs.declared.Node.{Node}
-use Rattle.record.specs.declared.Operation.{Operation}
 use Rattle.record.specs.declared.Wait.{Wait}
 use Rattle.record.specs.declared.Wait.the-variants.{Idle, Reading, Writing, Comparing, Borrowing}
-use Rattle.node.specs.Move.{begun, beginStep, messageStep, moveOn, readPass, writePass, comparePass, borrowPass}
-use Rattle.node.specs.React.{react}
-use Rattle.node.specs.Step.{started}
-use Rattle.node.specs.Stale.{staleMessage}
+use Rattle.node.specs.Move.{messageStep, moveOn, readPass, writePass, comparePass, borrowPass}
+use Rattle.node.specs.React.{raised, react}
+use Rattle.node.specs.Step.{messages, started}
 use Rattle.node.specs.declared.Sent.the-variants.{One}
 use Rattle.node.specs.declared.Step.{Step}
 use Rattle.node.specs.declared.Ending.the-variants.{None}
 use Rattle.node.proofs.Same.{move-on-keeps}
-use Rattle.node.proofs.Waits.{begin-asks}
 use Rattle.region.specs.Channel.{capacity, countOf, first}
-use Rattle.region.specs.Record.{heardPlace, recordOf, recordBytes}
+use Rattle.region.specs.Record.{recordOf, recordBytes}
 use Rattle.region.proofs.Back.{Sized}
 use Rattle.block.specs.Block.{recordIn, takeOff}
-use Rattle.entries.specs.Entries.{Entry, entry, addressed, entriesOf, entries, goTo}
-use Rattle.entries.proofs.Laws.{entries-one, goTo-once}
+use Rattle.entries.specs.Entries.{entry, addressed, entriesOf, entries, goTo}
+use Rattle.entries.proofs.Laws.{entries-two, goTo-append, goTo-once}
 use Rattle.handlers.proofs.Handling.{reacted}
-use Rattle.layout.specs.Layout.{stated, block, stopped, node, channel, onBlock, fits, sound}
+use Rattle.layout.specs.Layout.{stated, block, stopped, node, channel, onBlock}
 use Rattle.layout.proofs.Check.{is-size, sound-size, sound-channel}
-use Rattle.cluster.specs.Event.{Result, refuse, isCut, mayCut, begin, deliver, settle}
+use Rattle.cluster.specs.Event.{Result, refuse, begin, deliver, settle}
 use Rattle.cluster.specs.declared.Extent.{Extent}
-use Rattle.cluster.specs.declared.Extent.the-variants.{Whole, Cut}
-use Rattle.cluster.proofs.Handed.{sound-n, deliver-hands, hand-settles}
-use Rattle.cluster.proofs.Room.{foundIn, goneIn}
-use Rattle.cluster.proofs.Settled.{open-settles}
-use Rattle.cluster.proofs.Told.{begin-is, begin-opens}
+use Rattle.cluster.specs.declared.Extent.the-variants.{Whole}
+use Rattle.cluster.proofs.Handed.{deliver-hands, hand-settles}
+use Rattle.cluster.proofs.Room.{goneIn}
 use Rattle.eqaso.specs.Order.{OneTo}
-use Rattle.points.specs.Channels as P
 use Rattle.points.specs.Calls.{code}
-use Rattle.points.specs.Channels.{MayCut, MayBegin, MayDeliver, Room, Judged, waits, stillWaits, handled, Channels}
+use Rattle.points.specs.Channels.{MayDeliver, Room, Judged, stillWaits, handled, filled, Filled, Channels}
 use Rattle.points.proofs.Filled.{filled-reads, filled-writes}
 use Rattle.points.proofs.Stops.{node-is}
 use Rattle.points.proofs.Judged.{commits, judged}
-
--- Refusal 10 does not apply.
-may-cut : (b : List ℕ) (x : Extent) → MayCut b x → mayCut (stated b) x b ≡ true
-may-cut b Whole h = refl
-may-cut b (Cut m) h = lt-ltb (count (stated b) (stopped b)) (faults (stated b)) (h refl)
-
--- A record that was read has its table of tags heard.
-heard-read : (r : List ℕ) → length (recordOf r .heard) ≡ 256
-unfolding recordOf
-heard-read r = length-tab 256 (λ i. word r (heardPlace + 8 * i))
-
--- ---- begins
-
-module _ (b : List ℕ) (c : ℕ) (o : Operation) (x : Extent) (M : MayBegin b c x) where
-  abbrev n : ℕ
-  n = stated b
-
-  abbrev step : Step
-  step = beginStep (faults n) (node b c) o
-
-  asks : step ≡ begun (node b c) o
-  asks = begin-asks (faults n) (node b c) o
-      (rw (sound-n b (M .usable) n c refl (node-is n c (M .at))) (omega (arith, M .at .0, M .at .1)))
-
-  heard : length (step .node .heard) ≡ 256
-  unfolding begun
-  heard = ap (λ (s : Step). length (s .node .heard)) asks ∙ heard-read (recordIn (block b c))
-
-  settles : begin c o x b ≡ settle n c c x step b b
-  settles = begin-is c o x b n refl (M .fit) (M .usable) ∙ begin-opens c o x b n (node-is n c (M .at)) (M .stands)
-      ∙ open-settles n c o x b (node b c) refl (M .idle) (M .left) (may-cut b x (M .cut))
-      (sound-n b (M .usable) n c refl (node-is n c (M .at))) (omega (arith, M .at .0, M .at .1)) asks
-
-  less-none : (k : ℕ) → k ≡ k - 0
-  less-none k = omega arith
-
-  begin-judged : Judged b c x (waits b c) (P.begun b c o x) (begin c o x b)
-  begin-judged = judged b (M .fit) (M .usable) false c c (M .at) (M .at) (λ e. true-false false e refl) x step heard
-      (waits b c) (less-none (waits b c c)) (λ k e. refl) (begin c o x b) settles
-
-module _ (b : List ℕ) (c : ℕ) (o : Operation) (M : MayBegin b c Whole) where
-  -- One message goes to each node.
-  one-each : (k : ℕ) → OneTo (stated b) k → goTo k (P.begun b c o Whole) ≡ 1
-  unfolding begun addressed
-  one-each k (lo, hi) = ap (λ (s : Step). goTo k (entries (stated b) c (s .outbox))) (asks b c o Whole M)
-      ∙ ap (goTo k) (entries-one (stated b) c noView (Read (node b c .request + 1)))
-      ∙ goTo-once noView (Read (node b c .request + 1)) k (stated b) lo hi
-
-  module _ (low : (k : ℕ) → OneTo (stated b) k → stopped b k ≡ false → countOf (channel b c k) < capacity) where
-    room : Room b c Whole (waits b c) (P.begun b c o Whole)
-    room k S = omega (arith, one-each k (S .at), low k (S .at) (S .stood))
-
-    pub accepts : begin c o Whole b .answer ≡ result None
-    unfolding begun
-    accepts = ap (λ (r : Result). r .answer) (commits b (M .fit) (M .usable) false c c (M .at) (M .at)
-        (λ e. true-false false e refl) Whole (step b c o Whole M) (heard b c o Whole M) (waits b c)
-        (less-none b c o Whole M (waits b c c)) (λ k e. refl) (begin c o Whole b) (settles b c o Whole M) room)
-        ∙ ap (λ (s : Step). result (s .ending)) (asks b c o Whole M)
-
-    counts : (d : ℕ) → OneTo (stated b) d → stopped b d ≡ false
-        → countOf (channel (begin c o Whole b .bytes) c d) ≡ countOf (channel b c d) + 1
-    counts d p up = begin-judged b c o Whole M .holds (None, accepts) d (record { at = p; stood = up; uncut = λ e. true-false false e refl })
-        ∙ ap (λ k. countOf (channel b c d) + k) (one-each d p)
-
-  fills : (d : ℕ) → OneTo (stated b) d → stopped b d ≡ false → countOf (channel b c d) ≡ 16 → begin c o Whole b ≡ refuse 11 b
-  fills d p up e = begin-judged b c o Whole M .full (λ h. omega (
-    arith,
-    h d (record { at = p; stood = up; uncut = λ e. true-false false e refl }),
-    one-each d p,
-  ))
-
--- ---- deliveries
+use Rattle.points.proofs.Begins.{may-cut, heard-read, begin-judged, accepts, counts, fills}
 
 sized-view : (n : ℕ) (b : List ℕ) → n ≤ 16 → Sized (viewOf n b)
 sized-view n b small = let v = view-absent n b small in record { tags = v .tags-length; reports = v .reports-length }
@@ -249,6 +169,44 @@ module _ (b : List ℕ) (c q : ℕ) (M : MayDeliver b c c Whole (Read q)) (idle 
     }) ∙ ap (λ k. k + goTo c (handled b c c Whole (Read q))) here ∙ ap (λ k. 15 + k) one,
   )
 
+-- A write with a larger tag is echoed and answered by an idle node: two messages for the place of one.
+writes-two : (f : ℕ) (d : Node) (v : View) → isOpen (d .wait) ≡ false → d .maxtag ≡ 0
+    → messages (messageStep f d 1 (Write 1 1) v .outbox) ≡ Echo 1 ∷ WriteAnswer 1 1 ∷ []
+unfolding messageStep react raised moveOn readPass writePass comparePass borrowPass
+writes-two f d v e h = go (d .wait) refl
+  where
+    go : (w : Wait) → d .wait ≡ w → messages (moveOn f (react d 1 (Write 1 1) v) .outbox) ≡ Echo 1 ∷ WriteAnswer 1 1 ∷ []
+    go Idle z = rw (z, h) refl
+    go (Reading o k m) z = true-false (isOpen (d .wait)) (rw z refl) e
+    go (Writing k i r y) z = true-false (isOpen (d .wait)) (rw z refl) e
+    go (Comparing k i r) z = true-false (isOpen (d .wait)) (rw z refl) e
+    go (Borrowing k r) z = true-false (isOpen (d .wait)) (rw z refl) e
+
+overflows : deliver 1 1 Whole (filled 16 (Write 1 1)) ≡ refuse 11 (filled 16 (Write 1 1))
+unfolding addressed goTo
+overflows = deliver-judged b 1 1 Whole (Write 1 1) (F .delivers) .full (λ room. omega (
+  arith,
+  room 1 (record { at = F .begins .at; stood = F .begins .stands; uncut = λ e. true-false false e refl }),
+  own-left b 1 1 Whole (Write 1 1) (F .delivers),
+  F .holds,
+  two,
+))
+  where
+    b : List ℕ
+    b = filled 16 (Write 1 1)
+
+    F : Filled 16 (Write 1 1)
+    F = filled-writes 15 (omega arith)
+
+    two : goTo 1 (handled b 1 1 Whole (Write 1 1)) ≡ 2
+    two =
+        let h = handling b 1 1 Whole (Write 1 1) (F .delivers) in
+        ap (λ ms. goTo 1 (entriesOf (stated b) 1 (h .outbox .view) ms))
+        (writes-two (faults (stated b)) (node b 1) (beside b 1 1 Whole (Write 1 1) (F .delivers)) (F .begins .idle) (F .maxtag))
+        ∙ ap (goTo 1) (entries-two (stated b) 1 (h .outbox .view) (Echo 1) (WriteAnswer 1 1))
+        ∙ goTo-append 1 (addressed (stated b) 1 (h .outbox .view) (Echo 1)) (addressed (stated b) 1 (h .outbox .view) (WriteAnswer 1 1))
+        ∙ ap (λ k. k + 1) (goTo-once (h .outbox .view) (Echo 1) 1 (stated b) (F .begins .at .0) (F .begins .at .1))
+
 -- ---- the point
 
 pub channels-hold : Channels code
@@ -261,6 +219,7 @@ channels-hold = record {
       (accepts b c o M room, counts b c o M room d p up ∙ ap (λ k. k + 1) e);
   seventeenth = λ b c d o M p up e. fills b c o M d p up e;
   own-place = place;
+  overflow = overflows;
   fifteen-reads = filled-reads 14 (omega arith);
   sixteen-reads = filled-reads 15 (omega arith);
   sixteen-writes = filled-writes 15 (omega arith);

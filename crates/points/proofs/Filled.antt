@@ -1,5 +1,5 @@
 -- A cluster of one node, on whose channel to itself messages wait: the fresh one with copies of a message let out to it.
-use Prim.Native.Nat.{ℕ, zero, suc, _+_, _≤_, _<_}
+use Prim.Native.Nat.{ℕ, zero, suc, _≤_}
 use native.Mathlib.Omega.{arith}
 use mathlib.Core.Path.{_≡_, refl, sym, ap, ap₂, _∙_, subst}
 use mathlib.Core.Bool.{true, false}
@@ -146,7 +146,9 @@ module _ (m : Message) (ok : allowed 1 m (viewBytes 1 noView) ≡ true)
         new = new _;
         cut = λ h. true-false false h refl;
       };
+      states = shows .states;
       holds = holds;
+      maxtag = shows .says 1 one .node .maxtag;
     }
 
 known-read : (k : Message) (v : View) → messageOf 1 1 v k ≡ M.read 1 → k ≡ Read 1

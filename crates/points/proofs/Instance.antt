@@ -14,7 +14,6 @@ use Rattle.cluster.specs.Event.{Result, fresh}
 use Rattle.eqaso.specs.Message.{same}
 use Rattle.eqaso.specs.Algorithm.{limit, has, within, newest, table, kept, moveOn}
 use Rattle.eqaso.specs.Cluster.{entries, sentTo, roomy, event}
-use Rattle.eqaso.specs.Order.{OneTo}
 use Rattle.eqaso.specs.Trace as T
 use Rattle.mirror.specs.Run as R
 use Rattle.mirror.proofs.Demand2.{demand2}

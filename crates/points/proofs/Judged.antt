@@ -7,7 +7,7 @@ use mathlib.Core.Path.{_≡_, refl, sym, ap, _∙_, subst}
 use mathlib.Core.Bool.{Bool, true, false}
 use mathlib.Core.List.{List}
 use lib.ListN.{length}
-use lib.Dec.{leb, ltb, eqb}
+use lib.Dec.{ltb, eqb}
 use borrow.Author.Tests.{le-leb, leb-true, eq-eqb, ne-eqb}
 use Rattle.octets.specs.Answer.{result, refused}
 use Rattle.octets.specs.Test.{pick}
@@ -15,7 +15,6 @@ use Rattle.octets.proofs.Test.{true-false, not-true-false}
 use Rattle.table.specs.Loop.{all}
 use Rattle.table.proofs.Laws.{all-at, all-all}
 use Rattle.node.specs.Step.{messages}
-use Rattle.node.specs.declared.Ending.{Ending}
 use Rattle.node.specs.declared.Ending.the-variants.{None}
 use Rattle.node.specs.declared.Step.{Step}
 use Rattle.region.specs.Channel.{capacity, countOf}
@@ -24,7 +23,7 @@ use Rattle.block.proofs.Changes.{keep-length, keep-flag, keep-channel, takeOff-
 use Rattle.entries.specs.Entries.{Entry, entries, goTo}
 use Rattle.layout.specs.Layout.{clusterSize, stated, block, stopped, channel, onBlock, fits, sound}
 use Rattle.layout.proofs.Check.{is-size, sound-size, sound-channel, fits-size}
-use Rattle.cluster.specs.Event.{Result, refuse, within, isCut, haltIf, stepped, roomy, commit, settle}
+use Rattle.cluster.specs.Event.{Result, refuse, within, isCut, stepped, roomy, commit, settle}
 use Rattle.cluster.specs.Room.{roomBefore}
 use Rattle.cluster.specs.declared.Extent.{Extent}
 use Rattle.cluster.specs.declared.Extent.the-variants.{Whole, Cut}

@@ -1,9 +1,9 @@
 -- The last read answer of an operation, handed to a node in bytes: the whole step, and so all that the call leaves.
-use Prim.Native.Nat.{ℕ, _+_, _-_, _≤_, _<_, max}
+use Prim.Native.Nat.{ℕ, _+_, _-_, _≤_, max}
 use native.Mathlib.Omega.{arith}
-use mathlib.Core.Path.{_≡_, refl, sym, ap, _∙_}
+use mathlib.Core.Path.{_≡_, refl, ap, _∙_}
 use mathlib.Core.Bool.{true, false}
-use mathlib.Core.List.{List, [], _∷_, _++_, append-nil}
+use mathlib.Core.List.{List, [], _++_, append-nil}
 use lib.ListN.{length, length-replicate}
 use borrow.Author.Tests.{le-leb, le-ltb, leb-true, eq-eqb, ne-eqb}
 use Rattle.octets.specs.Bytes.{put}
@@ -40,7 +40,6 @@ use Rattle.node.proofs.Turns.{reading-most}
 use Rattle.node.proofs.Waits.{no-quorum}
 use Rattle.endpoint.specs.Bytes.{run}
 use Rattle.endpoint.specs.Entry as N
-use Rattle.endpoint.specs.Outcome.{Outcome}
 use Rattle.endpoint.proofs.Refusals.{message-read, taken-goes}
 use Rattle.points.specs.Calls.{code}
 use Rattle.points.specs.LastTag.{LastAnswer, used, spentBy, goesOn, scanGoesOn, reader, MeetsAt, LastTag}

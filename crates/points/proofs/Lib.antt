@@ -1,4 +1,5 @@
 pub mod Absences
+pub mod Begins
 pub mod Channels
 pub mod Counts
 pub mod Filled
@@ -7,4 +8,7 @@ pub mod Judged
 pub mod LastTag
 pub mod Messages
 pub mod Proved
+pub mod RuledOut
+pub mod RuledOutRuns
 pub mod Stops
+pub mod Wrong

@@ -4,7 +4,7 @@ use native.Mathlib.Omega.{arith}
 use mathlib.Core.Path.{_≡_, refl, sym, ap, _∙_}
 use mathlib.Core.Bool.{true, false}
 use mathlib.Core.List.{List}
-use lib.ListN.{length, getD, replicate}
+use lib.ListN.{length, getD}
 use borrow.Author.Tests.{le-leb, eq-eqb, ne-eqb}
 use Rattle.octets.specs.Answer.{Answer, result, refused}
 use Rattle.octets.specs.Bytes.{part}
@@ -28,7 +28,7 @@ use Rattle.layout.specs.Layout.{size as statedSize}
 use Rattle.cluster.proofs.Told.{fresh-none, fresh-is}
 use Rattle.eqaso.specs.Order.{OneTo}
 use Rattle.points.specs.Calls.{code}
-use Rattle.points.specs.Messages.{Refused, zeros, Taken, Sizes, Faults, readOne, ReadOne, GoodBytes}
+use Rattle.points.specs.Messages.{Refused, Taken, Sizes, Faults, readOne, ReadOne, GoodBytes}
 
 -- A call to write, by its answer.
 writes : (n : ℕ) (m : Message) (v out : List ℕ) {a : Answer ℕ} → answer n m v (length out) ≡ a

@@ -50,5 +50,5 @@ pub record Absences (calls : Calls) : Type 0 where
   pub cut : (n c : ℕ) → OneTo 16 n → OneTo n c → (b : List ℕ) → length b ≡ clusterSize n → (ds : List Delivery)
       → T.stopped (traceOf calls n b (scanThen c ds)) c ≡ false
       → NothingWaits n (traceOf calls n b (scanThen c ds)) → ShowsNone n c (traceOf calls n b (scanThen c ds))
-  -- There is such a list: the scan of a cluster of one node and its five deliveries.
-  pub all-delivered : (b : List ℕ) → length b ≡ clusterSize 1 → NothingWaits 1 (traceOf calls 1 b (scanThen 1 five))
+  -- There is such a list: at the code's cluster of one node, the scan and its five deliveries.
+  pub all-delivered : (b : List ℕ) → length b ≡ clusterSize 1 → NothingWaits 1 (traceOf code 1 b (scanThen 1 five))

@@ -5,7 +5,7 @@ use mathlib.Core.Bool.{true, false}
 use mathlib.Core.List.{List}
 use lib.Dec.{eqb}
 use lib.ListN.{replicate}
-use Rattle.octets.specs.Answer.{Answer, result, refused}
+use Rattle.octets.specs.Answer.{result}
 use Rattle.octets.specs.Test.{pick, both}
 use Rattle.view.specs.View.{noView, viewOf}
 use Rattle.wire.specs.Codec.{front, viewAt}
@@ -26,7 +26,7 @@ use Rattle.cluster.specs.Event.{Result, refuse, within, isCut, letOut, freshByt
 use Rattle.cluster.specs.declared.Extent.{Extent}
 use Rattle.cluster.specs.declared.Extent.the-variants.{Whole}
 use Rattle.eqaso.specs.Order.{OneTo}
-use Rattle.points.specs.Calls.{Calls, code}
+use Rattle.points.specs.Calls.{Calls}
 
 -- ---- where no refusal before 11 applies
 
@@ -106,7 +106,9 @@ filled k m = letOut 1 1 (replicate k (entry noView m 1)) (freshBytes 1 (clusterS
 pub record Filled (k : ℕ) (m : Message) : Type 0 where
   pub begins : MayBegin (filled k m) 1 Whole
   pub delivers : MayDeliver (filled k m) 1 1 Whole m
+  pub states : stated (filled k m) ≡ 1
   pub holds : countOf (channel (filled k m) 1 1) ≡ k
+  pub maxtag : node (filled k m) 1 .maxtag ≡ 0
 
 pub record Channels (calls : Calls) : Type 0 where
   pub begin : (b : List ℕ) (c : ℕ) (o : Operation) (x : Extent) → MayBegin b c x
@@ -125,7 +127,9 @@ pub record Channels (calls : Calls) : Type 0 where
       → countOf (channel b c c) ≡ 16
       → (calls .deliver c c Whole b .answer ≡ result None)
       × (countOf (channel (calls .deliver c c Whole b .bytes) c c) ≡ 16)
-  -- There are such clusters. With sixteen writes, each of which is answered and echoed, no delivery has room.
+  -- It frees no more: a write with a tag above maxtag is echoed and answered, and of sixteen such none can be delivered.
+  pub overflow : calls .deliver 1 1 Whole (filled 16 (Write 1 1)) ≡ refuse 11 (filled 16 (Write 1 1))
+  -- There are such clusters.
   pub fifteen-reads : Filled 15 (Read 1)
   pub sixteen-reads : Filled 16 (Read 1)
   pub sixteen-writes : Filled 16 (Write 1 1)

@@ -25,7 +25,7 @@ use Rattle.node.specs.Move.{opened}
 use Rattle.node.specs.Told as K
 use Rattle.endpoint.specs.Outcome.{Outcome}
 use Rattle.eqaso.specs.Order.{OneTo}
-use Rattle.points.specs.Calls.{Calls, code}
+use Rattle.points.specs.Calls.{Calls}
 
 -- Node c, whose operation o reads and is one answer short of a quorum, is handed the read answer of one more sender s: of
 -- the tags answered before m is the largest, the new one is t. The message is b, the output buffer out.
