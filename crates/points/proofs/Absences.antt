@@ -123,7 +123,9 @@ all-absent (x ∷ v) h = ap₂ (λ y l. y ∷ l) (h 0 (omega arith)) (all-absent
 none-shown : (n c s : ℕ) (x : T.Fate) → Fit n (T.scanning c) x s → Finished x → LongFate n x
     → ((w : ℕ) → OneTo n w → T.entryAt (T.viewOf x) w ≡ absent) → T.viewOf x ≡ replicate n absent
 none-shown n c s (T.ended k (A.shown r v)) fit end long each = all-absent v
-    (λ i h. ap (λ j. getD v j absent) (let e : i ≡ suc i - 1 = omega arith in e) ∙ each (suc i) (omega arith, omega arith))
+    (λ i h.
+    let e : i ≡ suc i - 1 = omega arith in
+    ap (λ j. getD v j absent) e ∙ each (suc i) (omega arith, omega arith))
     ∙ ap (λ k. replicate k absent) long
 
 -- ---- the scan

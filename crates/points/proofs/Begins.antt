@@ -36,7 +36,7 @@ use Rattle.cluster.proofs.Settled.{open-settles}
 use Rattle.cluster.proofs.Told.{begin-is, begin-opens}
 use Rattle.eqaso.specs.Order.{OneTo}
 use Rattle.points.specs.Channels as P
-use Rattle.points.specs.Channels.{MayCut, MayBegin, Room, Judged, waits}
+use Rattle.points.specs.Channels.{MayCut, MayBegin, StandsAfter, Room, Judged, waits}
 use Rattle.points.proofs.Stops.{node-is}
 use Rattle.points.proofs.Judged.{commits, judged}
 
@@ -44,6 +44,10 @@ use Rattle.points.proofs.Judged.{commits, judged}
 pub may-cut : (b : List ℕ) (x : Extent) → MayCut b x → mayCut (stated b) x b ≡ true
 may-cut b Whole h = refl
 may-cut b (Cut m) h = lt-ltb (count (stated b) (stopped b)) (faults (stated b)) (h refl)
+
+-- A whole event stops nobody.
+pub still-stands : (b : List ℕ) (c k : ℕ) → OneTo (stated b) k → stopped b k ≡ false → StandsAfter b c Whole k
+still-stands b c k p up = record { at = p; stood = up; uncut = λ e. true-false false e refl }
 
 -- A record that was read has its table of tags heard.
 pub heard-read : (r : List ℕ) → length (recordOf r .heard) ≡ 256
@@ -98,12 +102,13 @@ module _ (b : List ℕ) (c : ℕ) (o : Operation) (M : MayBegin b c Whole) where
 
     pub counts : (d : ℕ) → OneTo (stated b) d → stopped b d ≡ false
         → countOf (channel (begin c o Whole b .bytes) c d) ≡ countOf (channel b c d) + 1
-    counts d p up = begin-judged b c o Whole M .holds (None, accepts) d (record { at = p; stood = up; uncut = λ e. true-false false e refl })
+    counts d p up = begin-judged b c o Whole M .holds (None, accepts) d (still-stands b c d p up)
         ∙ ap (λ k. countOf (channel b c d) + k) (one-each d p)
 
-  pub fills : (d : ℕ) → OneTo (stated b) d → stopped b d ≡ false → countOf (channel b c d) ≡ 16 → begin c o Whole b ≡ refuse 11 b
+  pub fills : (d : ℕ) → OneTo (stated b) d → stopped b d ≡ false → countOf (channel b c d) ≡ 16
+      → begin c o Whole b ≡ refuse 11 b
   fills d p up e = begin-judged b c o Whole M .full (λ h. omega (
     arith,
-    h d (record { at = p; stood = up; uncut = λ e. true-false false e refl }),
+    h d (still-stands b c d p up),
     one-each d p,
   ))

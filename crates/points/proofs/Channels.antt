@@ -1,5 +1,5 @@
--- A delivery on the channels of a cluster: it is judged as document 01 says, and the answer of a node to itself takes the
--- place of what it answers.
+-- A delivery on the channels of a cluster: it is judged as document 01 says, and the answer of a node to itself takes
+-- the place of what it answers.
 use Prim.Native.Nat.{ℕ, _+_, _-_, _≤_, _<_}
 use native.Mathlib.Omega.{arith}
 use native.Mathlib.Decide.{ℕ-discrete}
@@ -50,7 +50,7 @@ use Rattle.points.specs.Channels.{MayDeliver, Room, Judged, stillWaits, 
 use Rattle.points.proofs.Filled.{filled-reads, filled-writes}
 use Rattle.points.proofs.Stops.{node-is}
 use Rattle.points.proofs.Judged.{commits, judged}
-use Rattle.points.proofs.Begins.{may-cut, heard-read, begin-judged, accepts, counts, fills}
+use Rattle.points.proofs.Begins.{may-cut, heard-read, still-stands, begin-judged, accepts, counts, fills}
 
 sized-view : (n : ℕ) (b : List ℕ) → n ≤ 16 → Sized (viewOf n b)
 sized-view n b small = let v = view-absent n b small in record { tags = v .tags-length; reports = v .reports-length }
@@ -103,8 +103,8 @@ module _ (b : List ℕ) (a c : ℕ) (x : Extent) (m : Message) (M : MayDeliver b
       less = omega arith
 
   deliver-judged : Judged b c x (stillWaits b a c) (handled b a c x m) (deliver a c x b)
-  deliver-judged = judged b (M .fit) (M .usable) true a c (M .sender) (M .receiver) (λ e. M .some) x handling heard-after
-      (stillWaits b a c) own-left other-left (deliver a c x b) delivers
+  deliver-judged = judged b (M .fit) (M .usable) true a c (M .sender) (M .receiver) (λ e. M .some) x handling
+      heard-after (stillWaits b a c) own-left other-left (deliver a c x b) delivers
 
 -- An idle node answers a read, and does no more.
 answers-only : (f : ℕ) (d : Node) (a q : ℕ) (v : View) → isOpen (d .wait) ≡ false
@@ -142,7 +142,8 @@ module _ (b : List ℕ) (c q : ℕ) (M : MayDeliver b c c Whole (Read q)) (idle 
 
   own-room : Room b c Whole (stillWaits b c c) (handled b c c Whole (Read q))
   own-room k S = elim (ℕ-discrete k c) [
-    | yes e ↦ subst (λ j. stillWaits b c c j + goTo j (handled b c c Whole (Read q)) ≤ 16) (sym e) (omega (arith, here, one))
+    | yes e ↦ subst (λ j. stillWaits b c c j + goTo j (handled b c c Whole (Read q)) ≤ 16) (sym e)
+        (omega (arith, here, one))
     | no e ↦ omega (
       arith,
       other-left b c c Whole (Read q) M k e,
@@ -162,11 +163,8 @@ module _ (b : List ℕ) (c q : ℕ) (M : MayDeliver b c c Whole (Read q)) (idle 
   place : (deliver c c Whole b .answer ≡ result None) × (countOf (channel (deliver c c Whole b .bytes) c c) ≡ 16)
   place = (
     answer-none,
-    deliver-judged b c c Whole (Read q) M .holds (None, answer-none) c (record {
-      at = M .receiver;
-      stood = M .stands;
-      uncut = λ e. true-false false e refl;
-    }) ∙ ap (λ k. k + goTo c (handled b c c Whole (Read q))) here ∙ ap (λ k. 15 + k) one,
+    deliver-judged b c c Whole (Read q) M .holds (None, answer-none) c (still-stands b c c (M .receiver) (M .stands))
+        ∙ ap (λ k. k + goTo c (handled b c c Whole (Read q))) here ∙ ap (λ k. 15 + k) one,
   )
 
 -- A write with a larger tag is echoed and answered by an idle node: two messages for the place of one.
@@ -175,7 +173,8 @@ writes-two : (f : ℕ) (d : Node) (v : View) → isOpen (d .wait) ≡ false → 
 unfolding messageStep react raised moveOn readPass writePass comparePass borrowPass
 writes-two f d v e h = go (d .wait) refl
   where
-    go : (w : Wait) → d .wait ≡ w → messages (moveOn f (react d 1 (Write 1 1) v) .outbox) ≡ Echo 1 ∷ WriteAnswer 1 1 ∷ []
+    go : (w : Wait) → d .wait ≡ w
+        → messages (moveOn f (react d 1 (Write 1 1) v) .outbox) ≡ Echo 1 ∷ WriteAnswer 1 1 ∷ []
     go Idle z = rw (z, h) refl
     go (Reading o k m) z = true-false (isOpen (d .wait)) (rw z refl) e
     go (Writing k i r y) z = true-false (isOpen (d .wait)) (rw z refl) e
@@ -186,7 +185,7 @@ overflows : deliver 1 1 Whole (filled 16 (Write 1 1)) ≡ refuse 11 (filled 16 (
 unfolding addressed goTo
 overflows = deliver-judged b 1 1 Whole (Write 1 1) (F .delivers) .full (λ room. omega (
   arith,
-  room 1 (record { at = F .begins .at; stood = F .begins .stands; uncut = λ e. true-false false e refl }),
+  room 1 (still-stands b 1 1 (F .begins .at) (F .begins .stands)),
   own-left b 1 1 Whole (Write 1 1) (F .delivers),
   F .holds,
   two,
@@ -200,12 +199,13 @@ overflows = deliver-judged b 1 1 Whole (Write 1 1) (F .delivers) .full (λ room.
 
     two : goTo 1 (handled b 1 1 Whole (Write 1 1)) ≡ 2
     two =
-        let h = handling b 1 1 Whole (Write 1 1) (F .delivers) in
-        ap (λ ms. goTo 1 (entriesOf (stated b) 1 (h .outbox .view) ms))
-        (writes-two (faults (stated b)) (node b 1) (beside b 1 1 Whole (Write 1 1) (F .delivers)) (F .begins .idle) (F .maxtag))
-        ∙ ap (goTo 1) (entries-two (stated b) 1 (h .outbox .view) (Echo 1) (WriteAnswer 1 1))
-        ∙ goTo-append 1 (addressed (stated b) 1 (h .outbox .view) (Echo 1)) (addressed (stated b) 1 (h .outbox .view) (WriteAnswer 1 1))
-        ∙ ap (λ k. k + 1) (goTo-once (h .outbox .view) (Echo 1) 1 (stated b) (F .begins .at .0) (F .begins .at .1))
+        let v = handling b 1 1 Whole (Write 1 1) (F .delivers) .outbox .view in
+        ap (λ ms. goTo 1 (entriesOf (stated b) 1 v ms))
+        (writes-two (faults (stated b)) (node b 1) (beside b 1 1 Whole (Write 1 1) (F .delivers)) (F .begins .idle)
+        (F .maxtag))
+        ∙ ap (goTo 1) (entries-two (stated b) 1 v (Echo 1) (WriteAnswer 1 1))
+        ∙ goTo-append 1 (addressed (stated b) 1 v (Echo 1)) (addressed (stated b) 1 v (WriteAnswer 1 1))
+        ∙ ap (λ k. k + 1) (goTo-once v (Echo 1) 1 (stated b) (F .begins .at .0) (F .begins .at .1))
 
 -- ---- the point
 

@@ -73,11 +73,13 @@ short n m v = go (isSize n) (allowed n m (viewBytes n v)) (leb (length e) slotSi
     zeros = omega (arith, length-replicate {A = ℕ} slotSize 0)
 
     go : (s a l : Bool) → leb (length e) slotSize ≡ l → length (after
-        (pick s (pick a (pick l (result (length e)) (refused 12)) (refused 7)) (refused 1)) e (replicate slotSize 0)) ≤ slotSize
+        (pick s (pick a (pick l (result (length e)) (refused 12)) (refused 7)) (refused 1)) e (replicate slotSize 0))
+        ≤ slotSize
     go true true true h = omega (
       arith,
       length-replicate {A = ℕ} slotSize 0,
-      length-put (replicate slotSize 0) 0 e (omega (arith, leb-true (length e) slotSize h, length-replicate {A = ℕ} slotSize 0)),
+      length-put (replicate slotSize 0) 0 e
+          (omega (arith, leb-true (length e) slotSize h, length-replicate {A = ℕ} slotSize 0)),
     )
     go true true false h = zeros
     go true false l h = zeros
@@ -181,7 +183,8 @@ module _ (n : ℕ) (small : n ≤ 16) where
           go k q true e z = rw (receive-stopped (block t d) own c (p .0) (omega arith) m fits e) (H .most k d q o)
           go k q false e (yes z) = rw (z, receive-same (block t d) own c (p .0) (omega arith) m fits e)
               (push-most m (channel t c d) (size-of c p) fits (H .most c d p o))
-          go k q false e (no z) = rw (receive-other (block t d) own c (p .0) (omega arith) m fits k (q .0) z) (H .most k d q o)
+          go k q false e (no z) = rw (receive-other (block t d) own c (p .0) (omega arith) m fits k (q .0) z)
+              (H .most k d q o)
 
   -- Node k stands, and w messages wait for it from c.
   module _ (c : ℕ) (p : OneTo n c) where

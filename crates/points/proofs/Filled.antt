@@ -1,4 +1,4 @@
--- A cluster of one node, on whose channel to itself messages wait: the fresh one with copies of a message let out to it.
+-- A cluster of one node, on whose channel to itself messages wait: the fresh one, with copies of a message let out.
 use Prim.Native.Nat.{ℕ, zero, suc, _≤_}
 use native.Mathlib.Omega.{arith}
 use mathlib.Core.Path.{_≡_, refl, sym, ap, ap₂, _∙_, subst}
@@ -47,6 +47,9 @@ module _ (m : Message) (ok : allowed 1 m (viewBytes 1 noView) ≡ true)
   abbrev meaning : M.Message
   meaning = messageOf 1 1 noView m
 
+  one : OneTo 1 1
+  one = (omega arith, omega arith)
+
   goes-all : (k : ℕ) → goTo 1 (replicate k e) ≡ k
   unfolding goTo
   goes-all zero = refl
@@ -54,22 +57,20 @@ module _ (m : Message) (ok : allowed 1 m (viewBytes 1 noView) ≡ true)
 
   fits-all : (k : ℕ) (x : Entry) → x ∈ replicate k e → Fit 1 x
   fits-all zero x i = elim i [ ]
-  fits-all (suc k) x (List·Memᴰ·head h) = subst (Fit 1) (sym h) (record { to = (omega arith, omega arith); layout = ok })
+  fits-all (suc k) x (List·Memᴰ·head h) = subst (Fit 1) (sym h) (record { to = one; layout = ok })
   fits-all (suc k) x (List·Memᴰ·tail i) = fits-all k x i
 
   sent-all : (k : ℕ) → K.sentTo 1 (map (mail 1) (replicate k e)) ≡ replicate k meaning
   sent-all zero = sent-none 1
   sent-all (suc k) = sent-here 1 (mail 1 e) (map (mail 1) (replicate k e)) refl ∙ ap (λ l. meaning ∷ l) (sent-all k)
 
-  one : OneTo 1 1
-  one = (omega arith, omega arith)
-
   small : 1 ≤ 16
   small = omega arith
 
   start : Mirrors 1 (freshBytes 1 (clusterSize 1)) K.start
   start =
-      let long : length {A = ℕ} (replicate (clusterSize 1) 0) ≡ clusterSize 1 = length-replicate {A = ℕ} (clusterSize 1) 0 in
+      let long : length {A = ℕ} (replicate (clusterSize 1) 0) ≡ clusterSize 1
+      = length-replicate {A = ℕ} (clusterSize 1) 0 in
       subst (λ j. Mirrors 1 (freshBytes 1 j) K.start) long
       (fresh-mirrors 1 (one .0) small (replicate (clusterSize 1) 0) long)
 
@@ -85,7 +86,8 @@ module _ (m : Message) (ok : allowed 1 m (viewBytes 1 noView) ≡ true)
         (λ d (lo, hi) s. let z : d ≡ 1 = omega arith in rw z (omega (arith, goes-all (suc j))))
 
     waiting : q 1 1 ≡ replicate (suc j) meaning
-    waiting = channel-own (λ c. false) 1 (map (mail 1) (replicate (suc j) e)) (λ a d. []) 1 1 refl refl ∙ sent-all (suc j)
+    waiting = channel-own (λ c. false) 1 (map (mail 1) (replicate (suc j) e)) (λ a d. []) 1 1 refl refl
+        ∙ sent-all (suc j)
 
     mirrors : Mirrors 1 b (record { nodes = λ c. A.fresh; stopped = λ c. false; channel = q })
     mirrors = record {

@@ -1,4 +1,4 @@
--- The point on absences, of the run of the calls; and at a list that it speaks of: the scan of a cluster of one node and
+-- The point on absences, of the run of the calls; and a list that it speaks of: the scan of a cluster of one node and
 -- its five deliveries, after which nothing waits. So its premise can be met.
 use Prim.Native.Nat.{ℕ}
 use native.Mathlib.Omega.{arith}

@@ -19,7 +19,8 @@ use Rattle.node.specs.declared.Ending.the-variants.{None}
 use Rattle.node.specs.declared.Step.{Step}
 use Rattle.region.specs.Channel.{capacity, countOf}
 use Rattle.block.specs.Block.{blockSize, hasStopped, channelIn, keep, takeOff, halt}
-use Rattle.block.proofs.Changes.{keep-length, keep-flag, keep-channel, takeOff-length, takeOff-flag, takeOff-same, takeOff-other, halt-length}
+use Rattle.block.proofs.Changes.{keep-length, keep-flag, keep-channel, halt-length}
+use Rattle.block.proofs.Changes.{takeOff-length, takeOff-flag, takeOff-same, takeOff-other}
 use Rattle.entries.specs.Entries.{Entry, entries, goTo}
 use Rattle.layout.specs.Layout.{clusterSize, stated, block, stopped, channel, onBlock, fits, sound}
 use Rattle.layout.proofs.Check.{is-size, sound-size, sound-channel, fits-size}
@@ -37,9 +38,9 @@ use Rattle.points.proofs.Counts.{held-keep, held-take, held-halt, held-
 
 -- Node c of a usable cluster takes step s; a message from a was taken off before, if `took`. `waits k` is how many
 -- messages are left then from c to k.
-module _ (b : List ℕ) (fit : fits b ≡ true) (usable : sound b ≡ true) (took : Bool) (a c : ℕ) (from : OneTo (stated b) a)
-    (at : OneTo (stated b) c) (some : took ≡ true → 0 < countOf (channel b a c)) (x : Extent) (s : Step)
-    (heard : length (s .node .heard) ≡ 256) (waits : ℕ → ℕ)
+module _ (b : List ℕ) (fit : fits b ≡ true) (usable : sound b ≡ true) (took : Bool) (a c : ℕ)
+    (from : OneTo (stated b) a) (at : OneTo (stated b) c) (some : took ≡ true → 0 < countOf (channel b a c))
+    (x : Extent) (s : Step) (heard : length (s .node .heard) ≡ 256) (waits : ℕ → ℕ)
     (own-waits : waits c ≡ countOf (channel b c c) - goneIn took a c)
     (other-waits : (k : ℕ) → (k ≡ c → ⊥) → waits k ≡ countOf (channel b c k)) where
   abbrev n : ℕ
@@ -91,8 +92,8 @@ module _ (b : List ℕ) (fit : fits b ≡ true) (usable : sound b ≡ true) (too
           → roomBefore z (goneIn took a c) c l b k ≡ true
       go k o true e z f d = rw e refl
       go k o false e true f (yes d) = rw (e, eq-eqb k c d) refl
-      go k o false e false f (yes d) = rw (e, eq-eqb k c d) (le-leb (countOf (channel b c k) - goneIn took a c + goTo k l) capacity
-          (omega (
+      go k o false e false f (yes d) = rw (e, eq-eqb k c d)
+          (le-leb (countOf (channel b c k) - goneIn took a c + goTo k l) capacity (omega (
             arith,
             r k (record { at = o; stood = e; uncut = λ h. true-false (isCut x) h f }),
             ap waits d ∙ own-waits ∙ ap (λ j. countOf (channel b c j) - goneIn took a c) (sym d),
@@ -157,8 +158,11 @@ module _ (b : List ℕ) (fit : fits b ≡ true) (usable : sound b ≡ true) (too
 
       less : 0 < countOf (channel b a c) → Dec (a ≡ c) → countOf (channelIn (takeOff a (block b c)) c)
           ≡ countOf (channel b c c) - pick (eqb a c) 1 0
-      less h (yes e) = rw (eq-eqb a c e, e, takeOff-same (block b c) (own n small held c at) c (at .0) (omega (arith, small)))
-          (omega (arith, count-pop (channel b c c) (size-of n small held c at c at) (rw e at h)))
+      less h (yes e) = rw (
+        eq-eqb a c e,
+        e,
+        takeOff-same (block b c) (own n small held c at) c (at .0) (omega (arith, small)),
+      ) (omega (arith, count-pop (channel b c c) (size-of n small held c at c at) (rw e at h)))
       less h (no e) = rw (
         ne-eqb a c e,
         takeOff-other (block b c) (own n small held c at) a (from .0) (omega (arith, small)) c (at .0) (λ y. e (sym y)),
@@ -172,7 +176,9 @@ module _ (b : List ℕ) (fit : fits b ≡ true) (usable : sound b ≡ true) (too
         ap (λ k. countOf (channelIn k c)) same ∙ less (some e) (ℕ-discrete a c)
             ∙ sym (own-waits ∙ ap (λ y. countOf (channel b c c) - goneIn y a c) e),
       )
-      go false e = (refl, sym (own-waits ∙ ap (λ y. countOf (channel b c c) - goneIn y a c) e ∙ (let z : countOf (channel b c c) - 0 ≡ countOf (channel b c c) = omega arith in z)))
+      go false e =
+          let all-left : countOf (channel b c c) - 0 ≡ countOf (channel b c c) = omega arith in
+          (refl, sym (own-waits ∙ ap (λ y. countOf (channel b c c) - goneIn y a c) e ∙ all-left))
 
   still : (k : ℕ) → StandsAfter b c x k → Waits n small c at (stepped n c x s found) k (waits k)
   still k S = elim (ℕ-discrete k c) [
@@ -184,12 +190,14 @@ module _ (b : List ℕ) (fit : fits b ≡ true) (usable : sound b ≡ true) (too
     }
   ]
     where
-      go : (x : Extent) → (isCut x ≡ true → ⊥) → stopped b c ≡ false → Waits n small c at (stepped n c x s found) c (waits c)
+      go : (x : Extent) → (isCut x ≡ true → ⊥) → stopped b c ≡ false
+          → Waits n small c at (stepped n c x s found) c (waits c)
       go Whole h up =
           let same = on-same n small held-found c at (keep (s .node)) kept in
           record {
             stands = ap hasStopped same
-                ∙ ap (ltb 0) (keep-flag (block found c) (own n small held-found c at) (s .node) heard) ∙ found-own .0 ∙ up;
+                ∙ ap (ltb 0) (keep-flag (block found c) (own n small held-found c at) (s .node) heard)
+                ∙ found-own .0 ∙ up;
             holds = ap (λ k. countOf (channelIn k c)) same
                 ∙ ap countOf (keep-channel (block found c) (own n small held-found c at) (s .node) heard c)
                 ∙ found-own .1;

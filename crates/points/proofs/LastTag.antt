@@ -29,7 +29,8 @@ use Rattle.record.specs.declared.Operation.the-variants.{Update, Scan}
 use Rattle.record.specs.declared.Kind.the-variants.{Update as UpdateKind, Scan as ScanKind}
 use Rattle.record.specs.declared.Wait.the-variants.{Idle, Reading}
 use Rattle.record.proofs.Parts.{parts, usable-of, reading-of}
-use Rattle.node.specs.Move.{opened, writing, afterRead, readPass, writePass, comparePass, borrowPass, writes, compares, borrows, moveOn, messageStep}
+use Rattle.node.specs.Move.{opened, writing, afterRead, readPass, writePass, comparePass, borrowPass}
+use Rattle.node.specs.Move.{writes, compares, borrows, moveOn, messageStep}
 use Rattle.node.specs.React.{react, readAnswered}
 use Rattle.node.specs.Step.{started, afterReading, ended}
 use Rattle.node.specs.Told as K

@@ -75,7 +75,8 @@ faults-hold = record { values = refl; largest = faults-largest }
 pub read-one-holds : (n : ℕ) → isSize n ≡ true → ReadOne code n
 unfolding decode front said begins encode allowed part answer
 read-one-holds n s = record {
-  written = λ v out e. writes n (Read 1) v out (rw (s, e) refl) ∙ ap (λ o. (result 15, o)) (put-over out readOne (sym e));
+  written = λ v out e. writes n (Read 1) v out (rw (s, e) refl)
+      ∙ ap (λ o. (result 15, o)) (put-over out readOne (sym e));
   read = rw s refl;
   less = rw s refl;
 }

@@ -1,5 +1,5 @@
--- For every clause of the points a wrong call that it rules out: no calls with that one in them have the points. Here for
--- n, f, messages, the largest tag and stops.
+-- For every clause of the points a wrong call that it rules out: no calls with that one in them have the points. Here
+-- for n, f, messages, the largest tag and stops.
 use Prim.Native.Nat.{ℕ, _+_, _-_, _*_, _≤_, min, max}
 use native.Mathlib.Omega.{arith}
 use mathlib.Core.Path.{_≡_, refl, sym, ap, _∙_}
@@ -45,6 +45,9 @@ RuledOut calls = PointsOf calls → ⊥
 pub apart : {A : Type 0} {x : Answer A} {v : A} {k : ℕ} → x ≡ result v → x ≡ refused k → ⊥
 apart p q = let z : _≡_ {A = ℕ} 0 1 = cc in omega arith
 
+pub answers : {r : E.Result} {e : Ending} {k : ℕ} {b : List ℕ} → r .answer ≡ result e → r ≡ E.refuse k b → ⊥
+answers p q = apart p (ap (λ (r : E.Result). r .answer) q)
+
 number : {A : Type 0} {j k : ℕ} → _≡_ {A = Answer A} (refused j) (refused k) → j ≡ k
 number e = cc
 
@@ -75,7 +78,7 @@ unfolding lent
 cluster-zero P =
     let long : length lent ≡ code .size 1 = length-replicate {A = ℕ} (code .size 1) 0 in
     let made = points .sizes .taken 1 (omega arith, omega arith) .fresh-cluster lent long in
-    apart (ap (λ (r : E.Result). r .answer) made) (ap (λ (r : E.Result). r .answer) (P .sizes .none .fresh-cluster lent))
+    answers (ap (λ (r : E.Result). r .answer) made) (P .sizes .none .fresh-cluster lent)
 
 figures-zero : RuledOut (sums (λ n v. pick (isSize n) (figuresOf n v) (refused 12)))
 figures-zero P = let e : _≡_ {A = ℕ} 12 1 = number (P .sizes .none .figures [] refl) in omega arith
@@ -102,7 +105,8 @@ start-none : RuledOut (starts (λ n b. E.refuse 12 b))
 unfolding lent
 start-none P =
     let long : length lent ≡ code .size 1 = length-replicate {A = ℕ} (code .size 1) 0 in
-    apart (ap (λ (r : E.Result). r .answer) (P .sizes .taken 1 (omega arith, omega arith) .fresh-cluster lent long)) refl
+    let made = P .sizes .taken 1 (omega arith, omega arith) .fresh-cluster lent long in
+    apart (ap (λ (r : E.Result). r .answer) made) refl
 
 -- the view of one node whose report has one extension busy
 busy : List ℕ
@@ -111,8 +115,7 @@ busy = 0 ∷ 0 ∷ 0 ∷ 0 ∷ 0 ∷ 0 ∷ 0 ∷ 1 ∷ 0 ∷ 1 ∷ 0 ∷ 0 ∷ 0
 all-zero : RuledOut (sums (λ n v. result zeros))
 unfolding busy viewOk allTo sumTo totals reportOf part
 all-zero P =
-    let e : result zeros ≡ result (totals 1 busy) = P .sizes .taken 1 (omega arith, omega arith) .figures busy refl refl in
-    let f : zeros ≡ totals 1 busy = cc e in
+    let f : zeros ≡ totals 1 busy = cc (P .sizes .taken 1 (omega arith, omega arith) .figures busy refl refl) in
     let z : _≡_ {A = ℕ} 0 1 = ap (λ (t : Totals). t .extensions) f in omega arith
 
 -- a sum that refuses n = k
@@ -154,7 +157,9 @@ read-less P = apart refl (P .read-one 1 refl .less)
 
 no-length : RuledOut (writes (λ n m v out. (result 0, out)))
 unfolding allowed viewOk allTo reportOf part
-no-length P = let e : _≡_ {A = ℕ} 0 34 = cc (P .good-1 .long 0 (replicate 16 0) (replicate 34 0) refl (omega arith)) in omega arith
+no-length P =
+    let e : _≡_ {A = ℕ} 0 34 = cc (P .good-1 .long 0 (replicate 16 0) (replicate 34 0) refl (omega arith)) in
+    omega arith
 
 any-bytes : RuledOut (reads (λ n b. result (Good 0)))
 any-bytes P = apart refl (P .good-16 .other-bytes (0 ∷ 0 ∷ 0 ∷ 7 ∷ []) refl (λ h. omega arith))
@@ -168,14 +173,16 @@ abbrev unchanged : Node → List ℕ → Outcome
 unchanged c out = record { answer = K.nothing; node = c; length = 0; out = out }
 
 -- What is told cannot be both.
-told-apart : {x : Outcome} {c d : Node} {j k : ℕ} {o q : List ℕ} → x ≡ record { answer = K.nothing; node = c; length = j; out = o }
+told-apart : {x : Outcome} {c d : Node} {j k : ℕ} {o q : List ℕ}
+    → x ≡ record { answer = K.nothing; node = c; length = j; out = o }
     → x ≡ record { answer = K.spent 13; node = d; length = k; out = q } → ⊥
 told-apart p q =
     let e : K.nothing ≡ K.spent 13 = ap (λ (x : Outcome). x .answer) (sym p ∙ q) in
     let z : _≡_ {A = ℕ} 0 1 = cc e in omega arith
 
 never-spent : RuledOut (hands (λ c s b out. unchanged c out))
-never-spent P = told-apart refl (P .last-tag .spent _ noReport 0 2 limit _ _ (points .last-tag .an-answer) (omega arith))
+never-spent P = told-apart refl
+    (P .last-tag .spent _ noReport 0 2 limit _ _ (points .last-tag .an-answer) (omega arith))
 
 not-by-answer : RuledOut (hands (λ c s b out. pick (eqb (c .maxtag) 0) (unchanged c out) (N.message c s b out)))
 not-by-answer P = told-apart refl (P .last-tag .by-answer _ noReport 0 2 limit _ _ (points .last-tag .an-answer) refl)
@@ -184,7 +191,8 @@ not-by-own : RuledOut (hands (λ c s b out. pick (eqb (c .maxtag) 0) (N.message 
 not-by-own P = told-apart refl (P .last-tag .by-own _ noReport 0 2 0 _ _ (points .last-tag .an-own) refl)
 
 spent-early : RuledOut (hands (λ c s b out. spentBy c out))
-spent-early P = told-apart (P .last-tag .one-less _ noReport 0 2 (limit - 1) _ _ (points .last-tag .a-less) (omega arith)) refl
+spent-early P = told-apart
+    (P .last-tag .one-less _ noReport 0 2 (limit - 1) _ _ (points .last-tag .a-less) (omega arith)) refl
 
 scan-spent : RuledOut (hands (λ c s b out. spentBy c out))
 scan-spent P = told-apart (P .last-tag .scan-goes-on _ 0 2 limit _ _ (points .last-tag .a-scan) (omega arith)) refl
@@ -193,9 +201,6 @@ scan-spent P = told-apart (P .last-tag .scan-goes-on _ 0 2 limit _ _ (points .la
 
 abbrev halts : ℕ → List ℕ → E.Result
 halts c b = record { bytes = onBlock c (halt (stated b)) b; answer = result None; view = noView; sent = [] }
-
-pub answers : {r : E.Result} {e : Ending} {k : ℕ} {b : List ℕ} → r .answer ≡ result e → r ≡ E.refuse k b → ⊥
-answers p q = apart p (ap (λ (r : E.Result). r .answer) q)
 
 pub space : ℕ → List ℕ
 space n = replicate (clusterSize n) 0

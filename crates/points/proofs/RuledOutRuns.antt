@@ -10,7 +10,6 @@ use lib.ListN.{getD, replicate}
 use Rattle.octets.specs.Answer.{Answer, result, refused}
 use Rattle.octets.specs.Test.{pick}
 use Rattle.octets.proofs.Put.{getD-part}
-use Rattle.octets.proofs.Test.{true-false}
 use Rattle.octets.specs.Bytes.{part}
 use Rattle.view.specs.View.{noView}
 use Rattle.view.specs.declared.View.{View}
@@ -32,6 +31,7 @@ use Rattle.eqaso.specs.Trace as T
 use Rattle.points.specs.Absences.{scanThen, NothingWaits}
 use Rattle.points.specs.Calls.{traceFrom, traceOf}
 use Rattle.points.specs.Channels.{StandsAfter, Room, waits, stillWaits, begun, handled, filled, Filled}
+use Rattle.points.proofs.Begins.{still-stands}
 use Rattle.points.proofs.Proved.{points}
 use Rattle.points.proofs.RuledOut.{RuledOut, apart, answers, space, long-space}
 use Rattle.points.proofs.Wrong.{begins, delivers}
@@ -105,6 +105,9 @@ fifteen = points .channels .fifteen-reads
 sixteen : Filled 16 (Read 1)
 sixteen = points .channels .sixteen-reads
 
+too-many : Filled 16 (Write 1 1)
+too-many = points .channels .sixteen-writes
+
 -- All fifteen wait from node 1 to itself, and there are no others.
 low : (k : ℕ) → OneTo (stated (reads 15)) k → stopped (reads 15) k ≡ false → countOf (channel (reads 15) 1 k) ≤ 15
 low k (lo, hi) up =
@@ -113,8 +116,8 @@ low k (lo, hi) up =
 
 taken : (E.begin 1 Scan Whole (reads 15) .answer ≡ result None)
     × (countOf (channel (E.begin 1 Scan Whole (reads 15) .bytes) 1 1) ≡ 16)
-taken = points .channels .sixteenth (reads 15) 1 1 Scan (fifteen .begins) (fifteen .begins .at) (fifteen .begins .stands)
-    (fifteen .holds) low
+taken = points .channels .sixteenth (reads 15) 1 1 Scan (fifteen .begins) (fifteen .begins .at)
+    (fifteen .begins .stands) (fifteen .holds) low
 
 room : Room (reads 15) 1 Whole (waits (reads 15) 1) (begun (reads 15) 1 Scan Whole)
 room = points .channels .begin (reads 15) 1 Scan Whole (fifteen .begins) .only (None, taken .0)
@@ -132,11 +135,11 @@ place-room : Room (reads 16) 1 Whole (stillWaits (reads 16) 1 1) (handled (reads
 place-room = points .channels .deliver (reads 16) 1 1 Whole (Read 1) (sixteen .delivers) .only (None, place .0)
 
 no-place : Room writes 1 Whole (stillWaits writes 1 1) (handled writes 1 1 Whole (Write 1 1)) → ⊥
-no-place h = answers (points .channels .deliver writes 1 1 Whole (Write 1 1) (points .channels .sixteen-writes .delivers)
-    .accepted h .1) (points .channels .overflow)
+no-place h = answers (points .channels .deliver writes 1 1 Whole (Write 1 1) (too-many .delivers) .accepted h .1)
+    (points .channels .overflow)
 
 stands : (k : ℕ) → Filled (suc k) (Read 1) → StandsAfter (reads (suc k)) 1 Whole 1
-stands k F = record { at = F .begins .at; stood = F .begins .stands; uncut = λ e. true-false false e refl }
+stands k F = still-stands (reads (suc k)) 1 1 (F .begins .at) (F .begins .stands)
 
 -- bytes whose channel holds seventeen
 getD-same : (n i x : ℕ) → i < n → getD (replicate n x) i 0 ≡ x
@@ -181,19 +184,21 @@ begin-most : RuledOut (begins (λ c o x b. takes over))
 begin-most P = omega (
   arith,
   seventeen,
-  P .channels .begin (reads 15) 1 Scan Whole (fifteen .begins) .most (None, refl) 1 1 (fifteen .begins .at) (fifteen .begins .at),
+  P .channels .begin (reads 15) 1 Scan Whole (fifteen .begins) .most (None, refl) 1 1 (fifteen .begins .at)
+      (fifteen .begins .at),
 )
 
 deliver-full : RuledOut (delivers (λ a c x b. E.refuse 11 b))
-deliver-full P = apart (P .channels .deliver (reads 16) 1 1 Whole (Read 1) (sixteen .delivers) .accepted place-room .1) refl
+deliver-full P = apart
+    (P .channels .deliver (reads 16) 1 1 Whole (Read 1) (sixteen .delivers) .accepted place-room .1) refl
 
 deliver-only : RuledOut (delivers (λ a c x b. takes b))
-deliver-only P = no-place (P .channels .deliver writes 1 1 Whole (Write 1 1) (points .channels .sixteen-writes .delivers)
-    .only (None, refl))
+deliver-only P = no-place
+    (P .channels .deliver writes 1 1 Whole (Write 1 1) (too-many .delivers) .only (None, refl))
 
 deliver-taken : RuledOut (delivers (λ a c x b. takes b))
-deliver-taken P = answers refl (P .channels .deliver writes 1 1 Whole (Write 1 1)
-    (points .channels .sixteen-writes .delivers) .full no-place)
+deliver-taken P = answers refl
+    (P .channels .deliver writes 1 1 Whole (Write 1 1) (too-many .delivers) .full no-place)
 
 deliver-holds : RuledOut (delivers (λ a c x b. takes over))
 deliver-holds P = omega (

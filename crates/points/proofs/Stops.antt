@@ -124,7 +124,8 @@ module _ (b : List ℕ) (long : length b ≡ clusterSize 3) (a : ℕ) (at : OneT
   none-stopped : count 3 (stopped three) ≡ 0
   none-stopped = same-stopped (size .0) (size .1) start ∙ count-none 3
 
-  first-stop : stop a three ≡ record { bytes = onBlock a (halt 3) three; answer = result None; view = noView; sent = [] }
+  first-stop : stop a three
+      ≡ record { bytes = onBlock a (halt 3) three; answer = result None; view = noView; sent = [] }
   first-stop = stops-now (is-cluster size start) a at (start .shows .says a at .stop) (omega (arith, none-stopped))
 
   abbrev left : List ℕ

@@ -88,8 +88,8 @@ Room b c x waits l = (k : ℕ) → StandsAfter b c x k → waits k + goTo k l �
 abbrev pub Accepted : Result → Type 0
 Accepted r = (e : Ending) × (r .answer ≡ result e)
 
--- Event r of node c on bytes b: accepted just if there is room, else 11 and every byte as before. Then the channels hold
--- what waited and what was let out, and none more than sixteen.
+-- Event r of node c on bytes b: accepted just if there is room, else 11 and every byte as before. Then the channels
+-- hold what waited and what was let out, and none more than sixteen.
 pub record Judged (b : List ℕ) (c : ℕ) (x : Extent) (waits : ℕ → ℕ) (l : List Entry) (r : Result) : Type 0 where
   pub accepted : Room b c x waits l → Accepted r
   pub only : Accepted r → Room b c x waits l
@@ -116,10 +116,11 @@ pub record Channels (calls : Calls) : Type 0 where
   pub deliver : (b : List ℕ) (a c : ℕ) (x : Extent) (m : Message) → MayDeliver b a c x m
       → Judged b c x (stillWaits b a c) (handled b a c x m) (calls .deliver a c x b)
   -- A begin lets one message out to each node: the sixteenth is taken, the seventeenth is not.
-  pub sixteenth : (b : List ℕ) (c d : ℕ) (o : Operation) → MayBegin b c Whole → OneTo (stated b) d → stopped b d ≡ false
-      → countOf (channel b c d) ≡ 15
+  pub sixteenth : (b : List ℕ) (c d : ℕ) (o : Operation) → MayBegin b c Whole → OneTo (stated b) d
+      → stopped b d ≡ false → countOf (channel b c d) ≡ 15
       → ((k : ℕ) → OneTo (stated b) k → stopped b k ≡ false → countOf (channel b c k) ≤ 15)
-      → (calls .begin c o Whole b .answer ≡ result None) × (countOf (channel (calls .begin c o Whole b .bytes) c d) ≡ 16)
+      → (calls .begin c o Whole b .answer ≡ result None)
+      × (countOf (channel (calls .begin c o Whole b .bytes) c d) ≡ 16)
   pub seventeenth : (b : List ℕ) (c d : ℕ) (o : Operation) → MayBegin b c Whole → OneTo (stated b) d
       → stopped b d ≡ false → countOf (channel b c d) ≡ 16 → calls .begin c o Whole b ≡ refuse 11 b
   -- A delivery frees its own place: of sixteen messages of a node to itself one is delivered, and its answer is taken.
@@ -127,7 +128,7 @@ pub record Channels (calls : Calls) : Type 0 where
       → countOf (channel b c c) ≡ 16
       → (calls .deliver c c Whole b .answer ≡ result None)
       × (countOf (channel (calls .deliver c c Whole b .bytes) c c) ≡ 16)
-  -- It frees no more: a write with a tag above maxtag is echoed and answered, and of sixteen such none can be delivered.
+  -- It frees no more: a write with a tag above maxtag is echoed and answered, and of sixteen such none is delivered.
   pub overflow : calls .deliver 1 1 Whole (filled 16 (Write 1 1)) ≡ refuse 11 (filled 16 (Write 1 1))
   -- There are such clusters.
   pub fifteen-reads : Filled 15 (Read 1)

@@ -27,8 +27,8 @@ use Rattle.endpoint.specs.Outcome.{Outcome}
 use Rattle.eqaso.specs.Order.{OneTo}
 use Rattle.points.specs.Calls.{Calls}
 
--- Node c, whose operation o reads and is one answer short of a quorum, is handed the read answer of one more sender s: of
--- the tags answered before m is the largest, the new one is t. The message is b, the output buffer out.
+-- Node c, whose operation o reads and is one answer short of a quorum, is handed the read answer of one more sender s:
+-- of the tags answered before m is the largest, the new one is t. The message is b, the output buffer out.
 pub record LastAnswer (c : Node) (o : Operation) (m s t : ℕ) (b out : List ℕ) : Type 0 where
   pub room : 512 ≤ length out
   pub is-usable : usable c ≡ true
@@ -66,8 +66,8 @@ scanGoesOn c out = record {
   out = put out 0 (encode (Write (c .request + 1) limit) []);
 }
 
--- Node 1 of three, which reads with request number 1 and has counted its own answer with tag 0; node 2's answer with tag
--- t, and a buffer.
+-- Node 1 of three, which reads with request number 1 and has counted its own answer with tag 0; node 2's answer with
+-- tag t, and a buffer.
 abbrev pub reader : (maxtag : ℕ) → Operation → Node
 reader top o = record {
   n = 3;
