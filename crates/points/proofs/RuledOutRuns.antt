@@ -63,12 +63,13 @@ module _ (y : Answer Ending) (v : View) where
       let q : d ≡ 1 = omega arith in
       ap₂ (λ i j. T.waits run i j) p q ∙ here y
 
+not-begun : {c : ℕ} → T.nothing ≡ T.scanning c → ⊥
+not-begun e = let z : _≡_ {A = ℕ} 0 1 = cc in omega arith
+
 never-begins : RuledOut (begins (λ c o x b. silent (refused 5) noView b))
 unfolding traceFrom
-never-begins P =
-    let e : T.nothing ≡ T.scanning 1 = P .absences .whole 1 1 size one (space 1) (long-space 1) [] tt
-    (nothing-waits (refused 5) noView) .begun in
-    let z : _≡_ {A = ℕ} 0 1 = cc e in omega arith
+never-begins P = not-begun (P .absences .whole 1 1 size one (space 1) (long-space 1) [] tt
+    (nothing-waits (refused 5) noView) .begun)
 
 never-finishes : RuledOut (begins (λ c o x b. silent (result None) noView b))
 unfolding traceFrom T.firstEnding ℕ-discrete decide
