@@ -22,6 +22,7 @@ use Rattle.region.specs.Channel.{capacity, channelSize, countOf}
 use Rattle.block.specs.Block.{blockSize, channelPlace, channelIn}
 use Rattle.layout.specs.Layout.{clusterSize, blockPlace, stated, block, stopped, channel}
 use Rattle.cluster.specs.Event as E
+use Rattle.cluster.specs.declared.Extent.{Extent}
 use Rattle.cluster.specs.declared.Extent.the-variants.{Whole}
 use Rattle.eqaso.specs.Algorithm as A
 use Rattle.eqaso.specs.Cluster as K
@@ -226,11 +227,15 @@ seventeenth-taken P = answers refl (P .channels .seventeenth (reads 16) 1 1 Scan
     (sixteen .begins .stands) (sixteen .holds))
 
 -- a delivery judged while its message still has its place
-own-place-kept : RuledOut (delivers (λ a c x b. pick (leb capacity (countOf (channel b a c))) (E.refuse 11 b)
-    (E.deliver a c x b)))
-own-place-kept P =
-    let e = P .channels .own-place (reads 16) 1 1 (sixteen .delivers) (sixteen .begins .idle) (sixteen .holds) .0 in
-    apart {k = 11} e (rw (sixteen .holds) refl)
+abbrev keeps : ℕ → ℕ → Extent → List ℕ → E.Result
+keeps a c x b = pick (leb capacity (countOf (channel b a c))) (E.refuse 11 b) (E.deliver a c x b)
+
+kept : keeps 1 1 Whole (reads 16) .answer ≡ refused 11
+kept = rw (sixteen .holds) refl
+
+own-place-kept : RuledOut (delivers keeps)
+own-place-kept P = apart
+    (P .channels .own-place (reads 16) 1 1 (sixteen .delivers) (sixteen .begins .idle) (sixteen .holds) .0) kept
 
 overflow-taken : RuledOut (delivers (λ a c x b. takes b))
 overflow-taken P = answers refl (P .channels .overflow)
