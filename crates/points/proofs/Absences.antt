@@ -8,6 +8,7 @@ use mathlib.Core.Bool.{Bool, true, false, cond, decide, _||_}
 use mathlib.Core.List.{List, [], _∷_, map}
 use lib.ListN.{length, getD, replicate}
 use Rattle.octets.specs.Answer.{Answer, result, refused}
+use Rattle.octets.proofs.Test.{true-false}
 use Rattle.view.specs.declared.View.{View}
 use Rattle.table.specs.Quorum.{faults}
 use Rattle.record.specs.declared.Operation.the-variants.{Scan}
@@ -36,9 +37,9 @@ use Rattle.mirror.proofs.Checks.{is-fit, is-sound}
 use Rattle.mirror.proofs.Says.{says-count}
 use Rattle.mirror.proofs.Demand2.{demand2}
 use Rattle.mirror.proofs.Demand3.{demand3}
-use Rattle.points.specs.Points.{Delivery, delivery, scanThen, AllWhole, NothingWaits, ShowsNone, Absences}
+use Rattle.points.specs.Absences.{Delivery, delivery, scanThen, AllWhole, NothingWaits, ShowsNone}
 use Rattle.points.proofs.Stops.{start-mirrors}
-use Rattle.points.proofs.Capacity.{accepts}
+use Rattle.points.proofs.Begins.{accepts}
 
 abbrev delivers : List Delivery → List R.Event
 delivers ds = map delivery ds
@@ -122,7 +123,9 @@ all-absent (x ∷ v) h = ap₂ (λ y l. y ∷ l) (h 0 (omega arith)) (all-absent
 none-shown : (n c s : ℕ) (x : T.Fate) → Fit n (T.scanning c) x s → Finished x → LongFate n x
     → ((w : ℕ) → OneTo n w → T.entryAt (T.viewOf x) w ≡ absent) → T.viewOf x ≡ replicate n absent
 none-shown n c s (T.ended k (A.shown r v)) fit end long each = all-absent v
-    (λ i h. ap (λ j. getD v j absent) (let e : i ≡ suc i - 1 = omega arith in e) ∙ each (suc i) (omega arith, omega arith))
+    (λ i h.
+    let e : i ≡ suc i - 1 = omega arith in
+    ap (λ j. getD v j absent) e ∙ each (suc i) (omega arith, omega arith))
     ∙ ap (λ k. replicate k absent) long
 
 -- ---- the scan
@@ -146,10 +149,15 @@ module _ (n c : ℕ) (size : OneTo 16 n) (at : OneTo n c) (b : List ℕ) (long :
   -- Its begin is accepted.
   begins : E.begin c Scan Whole start .answer ≡ result None
   unfolding A.limit
-  begins = accepts start c Scan (is-fit (size .0) (size .1) mirror) (is-sound (size .0) (size .1) mirror)
-      (subst (λ j. OneTo j c) (sym same-n) at) (mirror .shows .says c at .stop)
-      (same-idle (follows .wait)) (not-full follows (omega arith))
-      (λ k o up. omega (arith, says-count (size .1) (mirror .shows .says k (in-start o)) c at))
+  begins = accepts start c Scan (record {
+    fit = is-fit (size .0) (size .1) mirror;
+    usable = is-sound (size .0) (size .1) mirror;
+    at = subst (λ j. OneTo j c) (sym same-n) at;
+    stands = mirror .shows .says c at .stop;
+    idle = same-idle (follows .wait);
+    left = not-full follows (omega arith);
+    cut = λ e. true-false false e refl;
+  }) (λ k o up. omega (arith, says-count (size .1) (mirror .shows .says k (in-start o)) c at))
 
   module _ (ds : List Delivery) where
     abbrev tr : T.Trace
@@ -167,7 +175,7 @@ module _ (n c : ℕ) (size : OneTo 16 n) (at : OneTo n c) (b : List ℕ) (long :
     no-update zero d p e = subst Updates (sym e ∙ scans) tt
     no-update (suc u) d p e = subst Updates (sym e ∙ deliveries-begin n ds later u) tt
 
-    stands : AllWhole ds → T.stopped tr c ≡ false
+    pub stands : AllWhole ds → T.stopped tr c ≡ false
     unfolding R.traceFrom T.stopped
     stands w = ap₂ _||_
         (ap (λ y. T.stopsBy (K.begin c A.scan K.whole) (answerOf n (E.begin c Scan Whole start .view) y) c) begins)
@@ -191,16 +199,10 @@ module _ (n c : ℕ) (size : OneTo 16 n) (at : OneTo n c) (b : List ℕ) (long :
       long-view : LongFate n (T.fate tr 0)
       long-view = subst (λ x. LongFate n (T.fateOf tr 0 x)) (sym scans) (long-first n c 0 start (scanThen c ds))
 
-      shows-none : ShowsNone n c tr
+      pub shows-none : ShowsNone n c tr
       shows-none = record {
         begun = scans;
         finished = finished;
         view = none-shown n c 0 (T.fate tr 0) (subst (λ x. Fit n x (T.fate tr 0) (tagOf tr 0 x)) scans fits) finished
             long-view (scan-without-updates (demand3 n size b long (scanThen c ds) .0) no-update 0 is-scan finished);
       }
-
-pub absences-hold : Absences
-absences-hold = record {
-  whole = λ n c size at b long ds w. shows-none n c size at b long ds (stands n c size at b long ds w);
-  cut = shows-none;
-}

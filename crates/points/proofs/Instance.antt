@@ -1,41 +1,61 @@
--- The point on absences at a list that it speaks of: the scan of a cluster of one node and its five deliveries, after
--- which nothing waits. So its premise can be met.
+-- The point on absences, of the run of the calls; and a list that it speaks of: the scan of a cluster of one node and
+-- its five deliveries, after which nothing waits. So its premise can be met.
 use Prim.Native.Nat.{ℕ}
 use native.Mathlib.Omega.{arith}
 use native.Mathlib.Decide.{ℕ-discrete, decLe, decLt}
-use mathlib.Core.Path.{_≡_, refl, ap, ap₂, _∙_}
-use mathlib.Core.Bool.{decide}
-use mathlib.Core.List.{List, [], map}
-use lib.ListN.{length, replicate}
+use mathlib.Core.Path.{_≡_, refl, sym, ap, ap₂, _∙_, subst}
+use mathlib.Core.Bool.{false, decide}
+use mathlib.Core.List.{List, [], _∷_, map}
+use lib.ListN.{length}
 use Rattle.theory.specs.Count.{count}
 use Rattle.theory.specs.Update.{upd, upd2}
 use Rattle.layout.specs.Layout.{clusterSize}
-use Rattle.cluster.specs.declared.Extent.the-variants.{Whole}
+use Rattle.cluster.specs.Event.{Result, fresh}
 use Rattle.eqaso.specs.Message.{same}
 use Rattle.eqaso.specs.Algorithm.{limit, has, within, newest, table, kept, moveOn}
 use Rattle.eqaso.specs.Cluster.{entries, sentTo, roomy, event}
-use Rattle.eqaso.specs.Trace.{traceFrom, trace, letOutTo, handedOver, waits}
+use Rattle.eqaso.specs.Trace as T
 use Rattle.mirror.specs.Mirrors.{channelRoom}
 use Rattle.mirror.specs.Run as R
 use Rattle.mirror.proofs.Demand2.{demand2}
-use Rattle.points.specs.Points.{Delivery, scanThen, NothingWaits, ShowsNone}
-use Rattle.points.proofs.Absences.{absences-hold}
+use Rattle.points.specs.Calls as C
+use Rattle.points.specs.Absences.{scanThen, five, NothingWaits, ShowsNone, Absences}
+use Rattle.points.proofs.Absences.{stands, shows-none}
 
-abbrev deliveries : List Delivery
-deliveries = replicate 5 (record { sender = 1; receiver = 1; extent = Whole })
+-- The run of the code's calls is the run on bytes.
+same-event : (e : R.Event) (b : List ℕ) → C.event C.code e b ≡ R.event e b
+same-event (R.begin c o x) b = refl
+same-event (R.deliver a c x) b = refl
+same-event (R.stop c) b = refl
+
+same-trace : (n : ℕ) (b : List ℕ) (es : List R.Event) → C.traceFrom C.code n b es ≡ R.traceFrom n b es
+unfolding C.traceFrom R.traceFrom
+same-trace n b [] = refl
+same-trace n b (e ∷ es) = ap (λ (r : Result). R.seen n e r ∷ C.traceFrom C.code n (r .bytes) es) (same-event e b)
+    ∙ ap (λ l. R.seen n e (R.event e b) ∷ l) (same-trace n (R.event e b .bytes) es)
 
 -- Computed of the algorithm over sets.
-all-handed : waits (trace 1 0 channelRoom (map R.meaning (scanThen 1 deliveries))) 1 1 ≡ []
-unfolding traceFrom event roomy sentTo entries moveOn kept table newest within has limit same upd upd2 count ℕ-discrete decLe decLt decide letOutTo handedOver
+all-handed : T.waits (T.trace 1 0 channelRoom (map R.meaning (scanThen 1 five))) 1 1 ≡ []
+unfolding T.traceFrom event roomy sentTo entries moveOn kept table newest within has limit same upd upd2 count ℕ-discrete decLe decLt decide T.letOutTo T.handedOver
 all-handed = refl
 
-pub scan-of-one : (b : List ℕ) → length b ≡ clusterSize 1 → ShowsNone 1 1 (R.traceOf 1 b (scanThen 1 deliveries))
-scan-of-one b long = absences-hold .whole 1 1 (omega arith, omega arith) (omega arith, omega arith) b long deliveries
-    (refl, (refl, (refl, (refl, (refl, tt))))) nothing
-  where
-    nothing : NothingWaits 1 (R.traceOf 1 b (scanThen 1 deliveries))
-    nothing a c (lo, hi) (low, high) up =
-        let first : a ≡ 1 = omega arith in
-        let second : c ≡ 1 = omega arith in
-        ap₂ (λ x y. waits (R.traceOf 1 b (scanThen 1 deliveries)) x y) first second
-        ∙ ap (λ tr. waits tr 1 1) (demand2 1 (omega arith, omega arith) b long .same (scanThen 1 deliveries)) ∙ all-handed
+nothing-waits : (b : List ℕ) → length b ≡ clusterSize 1 → NothingWaits 1 (R.traceOf 1 b (scanThen 1 five))
+nothing-waits b long a c (lo, hi) (low, high) up =
+    let first : a ≡ 1 = omega arith in
+    let second : c ≡ 1 = omega arith in
+    ap₂ (λ x y. T.waits (R.traceOf 1 b (scanThen 1 five)) x y) first second
+    ∙ ap (λ tr. T.waits tr 1 1) (demand2 1 (omega arith, omega arith) b long .same (scanThen 1 five)) ∙ all-handed
+
+pub absences-hold : Absences C.code
+absences-hold = record {
+  whole = λ n c size at b long ds w quiet.
+      let e = same-trace n (fresh n b .bytes) (scanThen c ds) in
+      subst (ShowsNone n c) (sym e) (shows-none n c size at b long ds (stands n c size at b long ds w)
+      (subst (NothingWaits n) e quiet));
+  cut = λ n c size at b long ds up quiet.
+      let e = same-trace n (fresh n b .bytes) (scanThen c ds) in
+      subst (ShowsNone n c) (sym e) (shows-none n c size at b long ds (subst (λ tr. T.stopped tr c ≡ false) e up)
+      (subst (NothingWaits n) e quiet));
+  all-delivered = λ b long.
+      subst (NothingWaits 1) (sym (same-trace 1 (fresh 1 b .bytes) (scanThen 1 five))) (nothing-waits b long);
+}

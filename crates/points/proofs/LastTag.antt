@@ -1,56 +1,56 @@
--- The last read answer of an operation, handed to a node in bytes: what the call leaves is what the step shows.
-use Prim.Native.Nat.{ℕ, _+_, _-_, _≤_, _<_}
+-- The last read answer of an operation, handed to a node in bytes: the whole step, and so all that the call leaves.
+use Prim.Native.Nat.{ℕ, _+_, _-_, _≤_, max}
 use native.Mathlib.Omega.{arith}
-use mathlib.Core.Path.{_≡_, refl, sym, ap, _∙_, subst}
-use mathlib.Core.Bool.{true}
-use mathlib.Core.List.{List, [], _∷_, _++_, append-nil}
-use lib.ListN.{length}
-use borrow.Author.Tests.{le-leb, le-ltb, leb-true}
-use Rattle.octets.specs.Answer.{result}
+use mathlib.Core.Path.{_≡_, refl, ap, _∙_}
+use mathlib.Core.Bool.{true, false}
+use mathlib.Core.List.{List, [], _++_, append-nil}
+use lib.ListN.{length, length-replicate}
+use borrow.Author.Tests.{le-leb, le-ltb, leb-true, eq-eqb, ne-eqb}
 use Rattle.octets.specs.Bytes.{put}
 use Rattle.octets.proofs.Put.{put-nil}
 use Rattle.octets.proofs.Test.{both-true, both-right}
+use Rattle.view.specs.Report.{noReport}
 use Rattle.view.specs.Size.{limit}
-use Rattle.view.specs.View.{noView, viewBytes}
+use Rattle.view.specs.View.{noView}
 use Rattle.view.specs.declared.Report.{Report}
 use Rattle.wire.specs.Layout.{isRequest, isTag, encode, allowed}
-use Rattle.wire.specs.declared.Message.{Message}
 use Rattle.wire.specs.declared.Message.the-variants.{ReadAnswer, Write, Value}
-use Rattle.wire.proofs.RoundTrip.{read-only}
-use Rattle.table.specs.Quorum.{with, size, faults, isQuorum}
+use Rattle.wire.proofs.RoundTrip.{read-back, read-only}
+use Rattle.table.specs.Loop.{all, count}
+use Rattle.table.specs.Quorum.{member, with, only, size, faults, isQuorum}
+use Rattle.table.specs.Table.{heardWithin}
+use Rattle.table.proofs.Entries.{within-absent}
 use Rattle.table.proofs.Sets.{size-with}
+use Rattle.record.specs.Record.{waiting, closed}
+use Rattle.record.specs.Usable.{stillUses}
 use Rattle.record.specs.declared.Node.{Node}
 use Rattle.record.specs.declared.Operation.{Operation}
 use Rattle.record.specs.declared.Operation.the-variants.{Update, Scan}
 use Rattle.record.specs.declared.Kind.the-variants.{Update as UpdateKind, Scan as ScanKind}
-use Rattle.record.specs.declared.Wait.{Wait}
-use Rattle.record.specs.declared.Wait.the-variants.{Idle, Writing}
-use Rattle.record.proofs.Parts.{parts}
-use Rattle.node.specs.Move.{messageStep}
+use Rattle.record.specs.declared.Wait.the-variants.{Idle, Reading}
+use Rattle.record.proofs.Parts.{parts, usable-of, reading-of}
+use Rattle.node.specs.Move.{opened, writing, afterRead, readPass, writePass, comparePass, borrowPass}
+use Rattle.node.specs.Move.{writes, compares, borrows, moveOn, messageStep}
+use Rattle.node.specs.React.{react, readAnswered}
+use Rattle.node.specs.Step.{started, afterReading, ended}
 use Rattle.node.specs.Told as K
-use Rattle.node.specs.declared.Ending.{Ending}
-use Rattle.node.specs.declared.Ending.the-variants.{None}
+use Rattle.node.specs.declared.Ending.the-variants.{Spent}
+use Rattle.node.specs.declared.Sent.the-variants.{Nothing, One, Two}
 use Rattle.node.specs.declared.Step.{Step}
-use Rattle.node.proofs.Points.{Shows, spent, goes-on, scan-goes-on}
 use Rattle.node.proofs.Turns.{reading-most}
+use Rattle.node.proofs.Waits.{no-quorum}
 use Rattle.endpoint.specs.Bytes.{run}
 use Rattle.endpoint.specs.Entry as N
 use Rattle.endpoint.proofs.Refusals.{message-read, taken-goes}
-use Rattle.points.specs.Points.{LastAnswer, used, Leaves, LastTag}
-
--- What is let out of a step.
-leaves : {x : Step} {ms : List Message} {w : Wait} {e : Ending} → Shows x ms w e → (out l : List ℕ)
-    → put out 0 (run (viewBytes (x .node .n) (x .outbox .view)) ms) ≡ l → Leaves (N.letOut x out) (K.told (result e) (x .view)) w l
-unfolding N.letOut
-leaves {x} S out l h = record {
-  told = ap (λ e. K.told (result e) (x .view)) (S .ending);
-  wait = S .wait;
-  bytes = ap (λ ms. put out 0 (run (viewBytes (x .node .n) (x .outbox .view)) ms)) (S .sent) ∙ h;
-}
+use Rattle.points.specs.Calls.{code}
+use Rattle.points.specs.LastTag.{LastAnswer, used, spentBy, goesOn, scanGoesOn, reader, MeetsAt, LastTag}
 
 module _ (c : Node) (o : Operation) (m s t : ℕ) (b out : List ℕ) (L : LastAnswer c o m s t b out) where
+  abbrev f : ℕ
+  f = faults (c .n)
+
   abbrev step : Step
-  step = messageStep (faults (c .n)) c s (ReadAnswer (c .request) t) noView
+  step = messageStep f c s (ReadAnswer (c .request) t) noView
 
   -- The call takes the step.
   steps : N.message c s b out ≡ N.letOut step out
@@ -58,12 +58,12 @@ module _ (c : Node) (o : Operation) (m s t : ℕ) (b out : List ℕ) (L : LastAn
       (both-true (le-leb 1 s (L .sender .0)) (le-leb s (c .n) (L .sender .1))) (ReadAnswer (c .request) t) (L .says)
       ∙ taken-goes c s b out (ReadAnswer (c .request) t) refl
 
-  quorum : isQuorum (c .n) (faults (c .n)) (size (c .n) (with (L .answered) s)) ≡ true
-  quorum = le-leb (c .n - faults (c .n)) (size (c .n) (with (L .answered) s))
+  quorum : isQuorum (c .n) f (size (c .n) (with (L .answered) s)) ≡ true
+  quorum = le-leb (c .n - f) (size (c .n) (with (L .answered) s))
       (omega (arith, L .short, size-with (c .n) (L .answered) s (L .sender .0) (L .sender .1) (L .new)))
 
-  few : faults (c .n) < c .n
-  few = omega (arith, L .sender .0, L .sender .1)
+  none-yet : isQuorum (c .n) f (size (c .n) 0) ≡ false
+  none-yet = no-quorum (c .n) f (omega (arith, L .sender .0, L .sender .1))
 
   -- No tag is above the limit.
   largest-most : m ≤ limit
@@ -77,35 +77,102 @@ module _ (c : Node) (o : Operation) (m s t : ℕ) (b out : List ℕ) (L : LastAn
   answer-most = leb-true t limit (both-right (isRequest (c .request)) (isTag t)
       (read-only (c .n) b (ReadAnswer (c .request) t) (L .says) .allowed-is))
 
-  left-by : {ms : List Message} {w : Wait} {e : Ending} → Shows step ms w e → (l : List ℕ)
-      → put out 0 (run (viewBytes (step .node .n) (step .outbox .view)) ms) ≡ l
-      → Leaves (N.message c s b out) (K.told (result e) (step .view)) w l
-  left-by {ms} {w} {e} S l h = subst (λ x. Leaves x (K.told (result e) (step .view)) w l) (sym steps) (leaves S out l h)
+  -- The answer is counted, and the quorum is there: the operation goes on with the tag used.
+  abbrev counted : Step
+  counted = started (waiting c (Reading o (with (L .answered) s) (max m t))) s Nothing
+
+  counts : readAnswered c s (c .request) t (c .wait) ≡ counted .node
+  unfolding readAnswered
+  counts = ap (readAnswered c s (c .request) t) (L .reads) ∙ rw (eq-eqb (c .request) (c .request) refl, L .new)
+
+  passes : readPass f counted (counted .node) (counted .node .wait) ≡ afterRead counted (counted .node) o (used c m t)
+  unfolding readPass
+  passes = rw quorum
+
+  step-reads : step ≡ borrows (compares f (writes f (afterRead counted (counted .node) o (used c m t))))
+  unfolding messageStep react moveOn
+  step-reads = ap (λ (x : Node). moveOn f (started x s Nothing)) counts
+      ∙ ap (λ (x : Step). borrows (compares f (writes f x))) passes
 
 module _ (c : Node) (p : Report) (m s t : ℕ) (b out : List ℕ) (L : LastAnswer c (Update p) m s t b out) where
-  abbrev update : Operation
-  update = Update p
+  abbrev counting : Step
+  counting = counted c (Update p) m s t b out L
 
-  ends : used c m t ≡ limit → Leaves (N.message c s b out) (K.spent K.spentNumber) Idle out
-  unfolding run
-  ends h = left-by c update m s t b out L
-      (spent (faults (c .n)) c s t noView (L .answered) m (L .new) (quorum c update m s t b out L) (L .reads) h)
-      out (put-nil out 0)
+  ends : used c m t ≡ limit → N.message c s b out ≡ spentBy c out
+  unfolding N.letOut run afterRead writePass comparePass borrowPass
+  ends h = steps c (Update p) m s t b out L ∙ ap (λ (x : Step). N.letOut x out) whole
+      ∙ ap (λ l. record { answer = K.spent 13; node = closed c Idle; length = 0; out = l }) (put-nil out 0)
+    where
+      whole : step c (Update p) m s t b out L ≡ ended counting (closed c Idle) Spent noView
+      whole = rw (step-reads c (Update p) m s t b out L, eq-eqb (used c m t) limit h) refl
 
-  one-more : used c m t ≡ limit - 1 → Leaves (N.message c s b out) K.nothing (Writing UpdateKind 0 (limit - 1) 0)
-      (put out 0 (encode (Value limit (c .own) p) [] ++ encode (Write (c .request + 1) (limit - 1)) []))
-  unfolding run encode
-  one-more h = left-by c update m s t b out L
-      (subst (λ u. Shows (step c update m s t b out L) (Value (u + 1) (c .own) p ∷ Write (c .request + 1) u ∷ [])
-      (Writing UpdateKind 0 u 0) None) h
-      (goes-on (faults (c .n)) c s t noView (L .answered) m (L .new) (quorum c update m s t b out L)
-      (few c update m s t b out L) (L .reads) (omega (arith, h))))
-      (put out 0 (encode (Value limit (c .own) p) [] ++ encode (Write (c .request + 1) (limit - 1)) []))
-      (ap (λ l. put out 0 (encode (Value limit (c .own) p) [] ++ l))
-      (append-nil (encode (Write (c .request + 1) (limit - 1)) [])))
+  one-more : used c m t ≡ limit - 1 → N.message c s b out ≡ goesOn c p out
+  unfolding N.letOut run encode afterRead opened writePass comparePass borrowPass
+  one-more h = steps c (Update p) m s t b out L ∙ ap (λ (x : Step). N.letOut x out) (whole ∙ ap opens h)
+      ∙ ap (λ l. record {
+        answer = K.nothing;
+        node = opened c UpdateKind 0 (limit - 1);
+        length = 56;
+        out = put out 0 (encode (Value limit (c .own) p) [] ++ l);
+      }) (append-nil (encode (Write (c .request + 1) (limit - 1)) []))
+    where
+      opens : ℕ → Step
+      opens u = afterReading counting (opened c UpdateKind 0 u) (Two (Value (u + 1) (c .own) p) (writing c u))
 
-pub last-tag-holds : LastTag
-unfolding run encode
+      whole : step c (Update p) m s t b out L ≡ opens (used c m t)
+      whole = rw (
+        step-reads c (Update p) m s t b out L,
+        ne-eqb (used c m t) limit (λ x. omega arith),
+        none-yet c (Update p) m s t b out L,
+      ) refl
+
+scans : (c : Node) (m s t : ℕ) (b out : List ℕ) (L : LastAnswer c Scan m s t b out) → used c m t ≡ limit
+    → N.message c s b out ≡ scanGoesOn c out
+unfolding N.letOut run encode afterRead opened writePass comparePass borrowPass
+scans c m s t b out L h = steps c Scan m s t b out L ∙ ap (λ (x : Step). N.letOut x out) (whole ∙ ap opens h)
+    ∙ ap (λ l. record { answer = K.nothing; node = opened c ScanKind 1 limit; length = 26; out = put out 0 l })
+    (append-nil (encode (Write (c .request + 1) limit) []))
+  where
+    opens : ℕ → Step
+    opens u = afterReading (counted c Scan m s t b out L) (opened c ScanKind 1 u) (One (writing c u))
+
+    whole : step c Scan m s t b out L ≡ opens (used c m t)
+    whole = rw (step-reads c Scan m s t b out L, none-yet c Scan m s t b out L) refl
+
+-- Request numbers are left for an operation that reads with the first.
+few-used : (o : Operation) → stillUses (Reading o (with 0 1) 0) ≤ limit - 1
+few-used (Update p) = omega arith
+few-used Scan = omega arith
+
+meets : (top t : ℕ) → top ≤ limit → t ≤ limit → (o : Operation) → MeetsAt top t o
+unfolding allowed heardWithin all count member with only size
+meets top t h k o = record {
+  room = omega (arith, length-replicate {A = ℕ} 512 0);
+  is-usable = usable-of (reader top o) (record {
+    n-low = omega arith;
+    n-high = omega arith;
+    own-low = omega arith;
+    own-high = omega arith;
+    max-high = h;
+    request-high = omega arith;
+    kept-high = omega arith;
+    wait-ok = reading-of 3 o (with 0 1) 0 refl (omega arith);
+    enough = few-used o;
+    heard-ok = refl;
+    last-ok = within-absent limit;
+    max-ok = within-absent top;
+    round-ok = within-absent limit;
+    kept-ok = within-absent 0;
+  });
+  answered = with 0 1;
+  reads = refl;
+  short = refl;
+  sender = (omega arith, omega arith);
+  new = refl;
+  says = read-back 3 (ReadAnswer 1 t) [] refl (both-true refl (le-leb t limit k));
+}
+
+pub last-tag-holds : LastTag code
 last-tag-holds = record {
   spent = ends;
   by-answer = λ c p m s t b out L h. ends c p m s t b out L (omega (
@@ -121,10 +188,9 @@ last-tag-holds = record {
     answer-most c (Update p) m s t b out L,
   ));
   one-less = one-more;
-  scan-goes-on = λ c m s t b out L h. left-by c Scan m s t b out L
-      (subst (λ u. Shows (step c Scan m s t b out L) (Write (c .request + 1) u ∷ []) (Writing ScanKind 1 u 0) None) h
-      (scan-goes-on (faults (c .n)) c s t noView (L .answered) m (L .new) (quorum c Scan m s t b out L)
-      (few c Scan m s t b out L) (L .reads)))
-      (put out 0 (encode (Write (c .request + 1) limit) []))
-      (ap (put out 0) (append-nil (encode (Write (c .request + 1) limit) [])));
+  scan-goes-on = scans;
+  an-answer = meets 0 limit (omega arith) (omega arith) (Update noReport);
+  an-own = meets limit 0 (omega arith) (omega arith) (Update noReport);
+  a-less = meets 0 (limit - 1) (omega arith) (omega arith) (Update noReport);
+  a-scan = meets 0 limit (omega arith) (omega arith) Scan;
 }

@@ -1,7 +1,14 @@
 pub mod Absences
-pub mod Calls
-pub mod Capacity
+pub mod Begins
+pub mod Channels
+pub mod Counts
+pub mod Filled
 pub mod Instance
+pub mod Judged
 pub mod LastTag
+pub mod Messages
 pub mod Proved
+pub mod RuledOut
+pub mod RuledOutRuns
 pub mod Stops
+pub mod Wrong

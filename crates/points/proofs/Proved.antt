@@ -1,11 +1,11 @@
--- Document 01's points marked P hold, all of them.
+-- Document 01's points marked P hold of the code, all of them.
 use mathlib.Core.Path.{refl}
 use Rattle.points.specs.Points.{Points}
-use Rattle.points.proofs.Calls.{sizes-hold, faults-hold, read-one-holds, good-bytes}
+use Rattle.points.proofs.Messages.{sizes-hold, faults-hold, read-one-holds, good-bytes}
 use Rattle.points.proofs.LastTag.{last-tag-holds}
 use Rattle.points.proofs.Stops.{stops-hold}
-use Rattle.points.proofs.Absences.{absences-hold}
-use Rattle.points.proofs.Capacity.{capacity-holds}
+use Rattle.points.proofs.Instance.{absences-hold}
+use Rattle.points.proofs.Channels.{channels-hold}
 
 pub points : Points
 points = record {
@@ -17,5 +17,5 @@ points = record {
   last-tag = last-tag-holds;
   stops = stops-hold;
   absences = absences-hold;
-  capacity = capacity-holds;
+  channels = channels-hold;
 }

@@ -1,22 +1,24 @@
--- Stops at a fresh cluster: of one node none may stop, of three one may.
+-- Stops: of one node none may stop, of three one may.
 use Prim.Native.Nat.{ℕ, zero, suc, _+_, _≤_, _<_}
 use native.Mathlib.Omega.{arith}
 use native.Mathlib.Decide.{ℕ-discrete}
-use mathlib.Core.Path.{_≡_, refl, sym, ap, _∙_, subst}
+use mathlib.Core.Path.{_≡_, sym, ap, _∙_, subst}
 use mathlib.Core.Bool.{Bool, true, false}
 use mathlib.Core.List.{List, []}
 use lib.ListN.{length}
-use borrow.Author.Tests.{lt-ltb, le-ltb}
+use borrow.Author.Tests.{le-leb, lt-ltb, le-ltb}
 use Rattle.octets.specs.Answer.{result}
 use Rattle.octets.specs.Test.{pick}
+use Rattle.octets.proofs.Test.{both-true, not-true-false}
 use Rattle.theory.proofs.Count.{count-none}
-use Rattle.theory.proofs.Update.{upd-same, upd-other}
+use Rattle.theory.proofs.Update.{upd-same}
 use Rattle.view.specs.View.{noView}
 use Rattle.table.specs.Loop.{count}
 use Rattle.table.specs.Quorum.{faults}
 use Rattle.node.specs.declared.Ending.the-variants.{None}
 use Rattle.block.specs.Block.{halt}
-use Rattle.layout.specs.Layout.{clusterSize, stopped, onBlock}
+use Rattle.layout.specs.Layout.{clusterSize, stopped, onBlock, isNode}
+use Rattle.layout.proofs.Check.{sound-few}
 use Rattle.cluster.specs.Event.{Result, refuse, fresh}
 use Rattle.halting.specs.Stop.{stop}
 use Rattle.halting.proofs.Told.{stop-is, stop-stopped, stop-many, stop-halts}
@@ -28,8 +30,11 @@ use Rattle.mirror.specs.Run.{after}
 use Rattle.mirror.proofs.Checks.{is-fit, is-sound, same-stopped}
 use Rattle.mirror.proofs.Run.{run-mirrors}
 use Rattle.mirror.proofs.Stops.{stop-mirrors}
-use Rattle.points.specs.Points.{Stops}
-use Rattle.points.proofs.Capacity.{node-is}
+use Rattle.points.specs.Calls.{code}
+use Rattle.points.specs.Stops.{IsCluster, OneStopped, Stops}
+
+pub node-is : (n c : ℕ) → OneTo n c → isNode n c ≡ true
+node-is n c (lo, hi) = both-true (le-leb 1 c lo) (le-leb c n hi)
 
 -- Fresh bytes mirror the cluster at its start.
 pub start-mirrors : (n : ℕ) → OneTo 16 n → (b : List ℕ) → length b ≡ clusterSize n
@@ -37,54 +42,91 @@ pub start-mirrors : (n : ℕ) → OneTo 16 n → (b : List ℕ) → length b ≡
 unfolding after K.after
 start-mirrors n (low, small) b long = run-mirrors n low small b long []
 
--- A test that holds of one of 1 to n is counted.
-count-some : (n : ℕ) (p : ℕ → Bool) (a : ℕ) → OneTo n a → p a ≡ true → 1 ≤ count n p
-unfolding count
-count-some zero p a o e = absurd (omega arith)
-count-some (suc n) p a o e = elim (ℕ-discrete a (suc n)) [
-  | yes h ↦ rw (ap p (sym h) ∙ e) (omega arith)
-  | no h ↦ more (p (suc n)) (count-some n p a (o .0, omega arith) e)
-]
-  where
-    more : (t : Bool) → 1 ≤ count n p → 1 ≤ pick t (count n p + 1) (count n p)
-    more true h = omega arith
-    more false h = h
+-- Bytes that mirror a cluster are those of a cluster.
+pub is-cluster : {n : ℕ} → OneTo 16 n → {b : List ℕ} {σ : K.Cluster} → Mirrors n b σ → IsCluster n b
+is-cluster (low, small) M = record {
+  states = M .shows .states;
+  fit = is-fit low small M;
+  usable = is-sound low small M;
+}
 
--- Stops on bytes b that mirror σ.
-module _ {n : ℕ} (low : 1 ≤ n) (small : n ≤ 16) {b : List ℕ} {σ : K.Cluster} (M : Mirrors n b σ) (c : ℕ)
-    (o : OneTo n c) where
-  flag : stopped b c ≡ σ .stopped c
-  flag = M .shows .says c o .stop
+-- A test that holds of one of 1 to n is counted, and so are two.
+module _ (p : ℕ → Bool) where
+  more : (n : ℕ) (t : Bool) → count n p ≤ pick t (count n p + 1) (count n p)
+  more n true = omega arith
+  more n false = omega arith
 
-  -- 4, 10, or the stop.
-  stopped-before : σ .stopped c ≡ true → stop c b ≡ refuse 4 b
-  stopped-before e = stop-is c b n (sym (M .shows .states)) (is-fit low small M) (is-sound low small M)
-      ∙ stop-stopped c b n (node-is n c o) (flag ∙ e)
+  count-some : (n a : ℕ) → OneTo n a → p a ≡ true → 1 ≤ count n p
+  unfolding count
+  count-some zero a o e = absurd (omega arith)
+  count-some (suc n) a o e = elim (ℕ-discrete a (suc n)) [
+    | yes h ↦ rw (ap p (sym h) ∙ e) (omega arith)
+    | no h ↦ omega (arith, more n (p (suc n)), count-some n a (o .0, omega arith) e)
+  ]
 
-  many-stopped : σ .stopped c ≡ false → faults n ≤ count n (stopped b) → stop c b ≡ refuse 10 b
-  many-stopped e h = stop-is c b n (sym (M .shows .states)) (is-fit low small M) (is-sound low small M)
-      ∙ stop-many c b n (node-is n c o) (flag ∙ e) (le-ltb (count n (stopped b)) (faults n) h)
+  count-two : (n a c : ℕ) → OneTo n a → OneTo n c → (c ≡ a → ⊥) → p a ≡ true → p c ≡ true → 2 ≤ count n p
+  unfolding count
+  count-two zero a c o q ne e h = absurd (omega arith)
+  count-two (suc n) a c o q ne e h = elim (ℕ-discrete a (suc n)) [
+    | yes z ↦ rw (ap p (sym z) ∙ e) (omega (arith, count-some n c (q .0, omega arith) h))
+    | no z ↦ elim (ℕ-discrete c (suc n)) [
+      | yes y ↦ rw (ap p (sym y) ∙ h) (omega (arith, count-some n a (o .0, omega arith) e))
+      | no y ↦ omega (arith, more n (p (suc n)), count-two n a c (o .0, omega arith) (q .0, omega arith) ne e h)
+    ]
+  ]
 
-  stops-now : σ .stopped c ≡ false → count n (stopped b) < faults n
+-- A stop of node c of any cluster: 4, 10, or the stop.
+module _ {n : ℕ} {b : List ℕ} (I : IsCluster n b) (c : ℕ) (o : OneTo n c) where
+  pub few : count n (stopped b) ≤ faults n
+  few = subst (λ k. count k (stopped b) ≤ faults k) (I .states) (sound-few b (I .usable))
+
+  stopped-before : stopped b c ≡ true → stop c b ≡ refuse 4 b
+  stopped-before e = stop-is c b n (sym (I .states)) (I .fit) (I .usable) ∙ stop-stopped c b n (node-is n c o) e
+
+  many-stopped : stopped b c ≡ false → faults n ≤ count n (stopped b) → stop c b ≡ refuse 10 b
+  many-stopped e h = stop-is c b n (sym (I .states)) (I .fit) (I .usable)
+      ∙ stop-many c b n (node-is n c o) e (le-ltb (count n (stopped b)) (faults n) h)
+
+  stops-now : stopped b c ≡ false → count n (stopped b) < faults n
       → stop c b ≡ record { bytes = onBlock c (halt n) b; answer = result None; view = noView; sent = [] }
-  stops-now e h = stop-is c b n (sym (M .shows .states)) (is-fit low small M) (is-sound low small M)
-      ∙ stop-halts c b n (node-is n c o) (flag ∙ e) (lt-ltb (count n (stopped b)) (faults n) h)
+  stops-now e h = stop-is c b n (sym (I .states)) (I .fit) (I .usable)
+      ∙ stop-halts c b n (node-is n c o) e (lt-ltb (count n (stopped b)) (faults n) h)
 
--- At the start nobody has stopped.
-none-stopped : {n : ℕ} (low : 1 ≤ n) (small : n ≤ 16) {b : List ℕ} → Mirrors n b K.start → count n (stopped b) ≡ 0
-none-stopped {n} low small M = same-stopped low small M ∙ count-none n
+-- One node never stops.
+alone : (b : List ℕ) → IsCluster 1 b → stop 1 b ≡ refuse 10 b
+alone b I = many-stopped I 1 here
+    (not-true-false (stopped b 1) (λ e. omega (arith, few I 1 here, count-some (stopped b) 1 1 here e))) (omega arith)
+  where
+    here : OneTo 1 1
+    here = (omega arith, omega arith)
+
+-- Of three nodes of which one has stopped the others stand.
+second-stop : (b : List ℕ) (a c : ℕ) → OneStopped b a → OneTo 3 c → (c ≡ a → ⊥) → stop c b ≡ refuse 10 b
+second-stop b a c S o ne = many-stopped (S .three) c o
+    (not-true-false (stopped b c) (λ e. omega (
+      arith,
+      few (S .three) c o,
+      count-two (stopped b) 3 a c (S .node) o ne (S .stop) e,
+    )))
+    (omega (arith, count-some (stopped b) 3 a (S .node) (S .stop)))
 
 -- A fresh cluster of three nodes, of which a stops.
 module _ (b : List ℕ) (long : length b ≡ clusterSize 3) (a : ℕ) (at : OneTo 3 a) where
   abbrev three : List ℕ
   three = fresh 3 b .bytes
 
-  start : Mirrors 3 three K.start
-  start = start-mirrors 3 (omega arith, omega arith) b long
+  size : OneTo 16 3
+  size = (omega arith, omega arith)
 
-  first-stop : stop a three ≡ record { bytes = onBlock a (halt 3) three; answer = result None; view = noView; sent = [] }
-  first-stop = stops-now (omega arith) (omega arith) start a at refl
-      (omega (arith, none-stopped (omega arith) (omega arith) start))
+  start : Mirrors 3 three K.start
+  start = start-mirrors 3 size b long
+
+  none-stopped : count 3 (stopped three) ≡ 0
+  none-stopped = same-stopped (size .0) (size .1) start ∙ count-none 3
+
+  first-stop : stop a three
+      ≡ record { bytes = onBlock a (halt 3) three; answer = result None; view = noView; sent = [] }
+  first-stop = stops-now (is-cluster size start) a at (start .shows .says a at .stop) (omega (arith, none-stopped))
 
   abbrev left : List ℕ
   left = stop a three .bytes
@@ -92,21 +134,23 @@ module _ (b : List ℕ) (long : length b ≡ clusterSize 3) (a : ℕ) (at : OneT
   one-stopped : Mirrors 3 left (K.commit a (K.cut 0) (A.still A.fresh) [] (λ c d. []) K.start .cluster)
   one-stopped = subst (λ (r : Result). Mirrors 3 (r .bytes)
       (K.commit a (K.cut 0) (A.still A.fresh) [] (λ c d. []) K.start .cluster)) (sym first-stop)
-      (stop-mirrors (omega arith) start a at (omega (arith, count-none 3)))
+      (stop-mirrors (size .1) start a at (omega (arith, count-none 3)))
 
-  second-stop : (c : ℕ) → OneTo 3 c → (c ≡ a → ⊥) → stop c left ≡ refuse 10 left
-  second-stop c o e = many-stopped (omega arith) (omega arith) one-stopped c o (upd-other (λ k. false) a true c e)
-      (count-some 3 (stopped left) a at (one-stopped .shows .says a at .stop ∙ upd-same (λ k. false) a true))
+  leaves-one : OneStopped left a
+  leaves-one = record {
+    three = is-cluster size one-stopped;
+    node = at;
+    stop = one-stopped .shows .says a at .stop ∙ upd-same (λ k. false) a true;
+  }
 
-  same-stop : stop a left ≡ refuse 4 left
-  same-stop = stopped-before (omega arith) (omega arith) one-stopped a at (upd-same (λ k. false) a true)
-
-pub stops-hold : Stops
+pub stops-hold : Stops code
 stops-hold = record {
-  single = λ b long.
-      let M = start-mirrors 1 (omega arith, omega arith) b long in
-      many-stopped (omega arith) (omega arith) M 1 (omega arith, omega arith) refl (omega arith);
-  first = λ b long a at. ap (λ (r : Result). r .answer) (first-stop b long a at);
-  second = λ b long a c at. second-stop b long a at c;
-  again = same-stop;
+  single = alone;
+  fresh-single = λ b long. is-cluster (omega arith, omega arith) (start-mirrors 1 (omega arith, omega arith) b long);
+  second = second-stop;
+  again = λ b a S. stopped-before (S .three) a (S .node) (S .stop);
+  first = λ b long a at. record {
+    answer = ap (λ (r : Result). r .answer) (first-stop b long a at);
+    leaves = leaves-one b long a at;
+  };
 }

@@ -1,1 +1,7 @@
+pub mod Absences
+pub mod Calls
+pub mod Channels
+pub mod LastTag
+pub mod Messages
 pub mod Points
+pub mod Stops

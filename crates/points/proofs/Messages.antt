@@ -4,14 +4,13 @@ use native.Mathlib.Omega.{arith}
 use mathlib.Core.Path.{_≡_, refl, sym, ap, _∙_}
 use mathlib.Core.Bool.{true, false}
 use mathlib.Core.List.{List}
-use lib.ListN.{length, getD, replicate}
-use lib.Dec.{leb}
-use borrow.Author.Tests.{eq-eqb, ne-eqb}
+use lib.ListN.{length, getD}
+use borrow.Author.Tests.{le-leb, eq-eqb, ne-eqb}
 use Rattle.octets.specs.Answer.{Answer, result, refused}
 use Rattle.octets.specs.Bytes.{part}
 use Rattle.octets.specs.Loop.{allTo, sumTo}
 use Rattle.octets.proofs.Put.{put-over}
-use Rattle.octets.proofs.Test.{both-left}
+use Rattle.octets.proofs.Test.{both-true}
 use Rattle.view.specs.Size.{isSize}
 use Rattle.view.specs.Report.{reportOf}
 use Rattle.view.specs.View.{viewOk}
@@ -27,63 +26,60 @@ use Rattle.table.proofs.Sets.{faults-largest}
 use Rattle.endpoint.specs.Entry as N
 use Rattle.layout.specs.Layout.{size as statedSize}
 use Rattle.cluster.proofs.Told.{fresh-none, fresh-is}
-use Rattle.points.specs.Points.{Refused, zeros, Taken, Sizes, Faults, readOne, ReadOne, GoodBytes}
+use Rattle.eqaso.specs.Order.{OneTo}
+use Rattle.points.specs.Calls.{code}
+use Rattle.points.specs.Messages.{Refused, Taken, Sizes, Faults, readOne, ReadOne, GoodBytes}
 
-not-taken : (n : ℕ) → isSize n ≡ false → Refused n
+-- A call to write, by its answer.
+writes : (n : ℕ) (m : Message) (v out : List ℕ) {a : Answer ℕ} → answer n m v (length out) ≡ a
+    → code .write n m v out ≡ (a, after a (encode m v) out)
+writes n m v out e = ap (λ x. (x, after x (encode m v) out)) e
+
+not-taken : (n : ℕ) → isSize n ≡ false → Refused code n
 unfolding answer figuresOf N.fresh
 not-taken n s = record {
   read = λ b. refuses-one n b s;
-  write = λ m v room. rw s refl;
+  write = λ m v out. writes n m v out (rw s refl);
   fresh-node = λ own. rw s refl;
   fresh-cluster = λ b. fresh-none n b s;
   figures = λ v e. rw (eq-eqb (length v) (16 * n) e, s) refl;
 }
 
-is-taken : (n : ℕ) → isSize n ≡ true → figuresOf n (replicate (16 * n) 0) ≡ result zeros → Taken n
+is-taken : (n : ℕ) → OneTo 16 n → Taken code n
 unfolding figuresOf N.fresh statedSize
-is-taken n s none = record {
+is-taken n (low, small) = record {
   read = λ m v h. read-back n m v s h;
-  write = λ m v room h l. answered n m v room s h l;
-  fresh-node = rw (s, both-left (leb 1 n) (leb n 16) s) refl;
+  write = λ m v out h l. writes n m v out (answered n m v (length out) s h l);
+  fresh-node = λ own (lo, hi). rw (s, le-leb 1 own lo, le-leb own n hi) refl;
   fresh-cluster = λ b e. fresh-is n b s (e ∙ rw s refl);
   figures = λ v e ok. rw (eq-eqb (length v) (16 * n) e, s, ok) refl;
-  figures-none = none;
 }
+  where
+    s : isSize n ≡ true
+    s = both-true (le-leb 1 n low) (le-leb n 16 small)
 
-pub sizes-hold : Sizes
+pub sizes-hold : Sizes code
 unfolding figuresOf viewOk allTo sumTo totals reportOf part
 sizes-hold = record {
   none = not-taken 0 refl;
   seventeen = not-taken 17 refl;
-  one = is-taken 1 refl refl;
-  sixteen = is-taken 16 refl refl;
+  taken = is-taken;
+  absent-1 = refl;
+  absent-16 = refl;
   length-first = λ n v h. rw (ne-eqb (length v) (16 * n) h) refl;
 }
 
-pub faults-hold : Faults
-faults-hold = record {
-  faults-1 = refl;
-  faults-2 = refl;
-  faults-3 = refl;
-  faults-4 = refl;
-  faults-5 = refl;
-  faults-16 = refl;
-  largest = faults-largest;
-}
+pub faults-hold : Faults code
+faults-hold = record { values = refl; largest = faults-largest }
 
-pub read-one-holds : (n : ℕ) → isSize n ≡ true → ReadOne n
+pub read-one-holds : (n : ℕ) → isSize n ≡ true → ReadOne code n
 unfolding decode front said begins encode allowed part answer
 read-one-holds n s = record {
-  written = λ v out e. (
-    write-one v,
-    ap (λ a. after a (encode (Read 1) v) out) (write-one v) ∙ put-over out readOne (sym e),
-  );
+  written = λ v out e. writes n (Read 1) v out (rw (s, e) refl)
+      ∙ ap (λ o. (result 15, o)) (put-over out readOne (sym e));
   read = rw s refl;
   less = rw s refl;
 }
-  where
-    write-one : (v : List ℕ) → answer n (Read 1) v 15 ≡ result 15
-    write-one v = rw s refl
 
 -- Only good messages are of kind 7.
 only-good : (n : ℕ) (m : Message) (v : List ℕ) → allowed n m v ≡ true → getD (encode m v) 3 0 ≡ 7
@@ -97,12 +93,13 @@ only-good n (Echo t) v h e = absurd (omega arith)
 only-good n (Value t w p) v h e = absurd (omega arith)
 only-good n (Good t) v h e = length-encode n (Good t) v h
 
-pub good-bytes : (n : ℕ) → isSize n ≡ true → GoodBytes n (18 + 16 * n)
+pub good-bytes : (n : ℕ) → isSize n ≡ true → GoodBytes code n (18 + 16 * n)
 unfolding allowed answer size
 good-bytes n s = record {
-  long = λ t v h. length-encode n (Good t) v h;
+  long = λ t v out h l. answered n (Good t) v (length out) s h (rw (length-encode n (Good t) v h) l)
+      ∙ ap result (length-encode n (Good t) v h);
   other-bytes = λ b kind h. other b kind h (decode n b) refl;
-  other-view = λ t v room h. rw (s, ne-eqb (length v) (16 * n) (λ e. h (omega arith))) refl;
+  other-view = λ t v out h. writes n (Good t) v out (rw (s, ne-eqb (length v) (16 * n) (λ e. h (omega arith))) refl);
 }
   where
     other : (b : List ℕ) → getD b 3 0 ≡ 7 → (length b ≡ 18 + 16 * n → ⊥) → (a : Answer Message) → decode n b ≡ a

@@ -1,0 +1,136 @@
+-- The point on channels: the sixteenth message on a trunk is taken, the seventeenth is 11.
+use Prim.Native.Nat.{ℕ, _+_, _-_, _≤_, _<_}
+use mathlib.Core.Path.{_≡_}
+use mathlib.Core.Bool.{true, false}
+use mathlib.Core.List.{List}
+use lib.Dec.{eqb}
+use lib.ListN.{replicate}
+use Rattle.octets.specs.Answer.{result}
+use Rattle.octets.specs.Test.{pick, both}
+use Rattle.view.specs.View.{noView, viewOf}
+use Rattle.wire.specs.Codec.{front, viewAt}
+use Rattle.wire.specs.declared.Message.{Message}
+use Rattle.wire.specs.declared.Message.the-variants.{Read, Write}
+use Rattle.table.specs.Loop.{count}
+use Rattle.table.specs.Quorum.{faults}
+use Rattle.record.specs.Usable.{isOpen, full}
+use Rattle.record.specs.declared.Operation.{Operation}
+use Rattle.node.specs.Move.{messageStep, beginStep}
+use Rattle.node.specs.Stale.{staleMessage}
+use Rattle.node.specs.declared.Ending.{Ending}
+use Rattle.node.specs.declared.Ending.the-variants.{None}
+use Rattle.region.specs.Channel.{countOf, first}
+use Rattle.entries.specs.Entries.{Entry, entry, entries, goTo}
+use Rattle.layout.specs.Layout.{clusterSize, stated, stopped, node, channel, fits, sound}
+use Rattle.cluster.specs.Event.{Result, refuse, within, isCut, letOut, freshBytes}
+use Rattle.cluster.specs.declared.Extent.{Extent}
+use Rattle.cluster.specs.declared.Extent.the-variants.{Whole}
+use Rattle.eqaso.specs.Order.{OneTo}
+use Rattle.points.specs.Calls.{Calls}
+
+-- ---- where no refusal before 11 applies
+
+-- One node more may stop, if the event is cut.
+abbrev pub MayCut : List ℕ → Extent → Type 0
+MayCut b x = isCut x ≡ true → count (stated b) (stopped b) < faults (stated b)
+
+-- An operation begins at node c.
+pub record MayBegin (b : List ℕ) (c : ℕ) (x : Extent) : Type 0 where
+  pub fit : fits b ≡ true
+  pub usable : sound b ≡ true
+  pub at : OneTo (stated b) c
+  pub stands : stopped b c ≡ false
+  pub idle : isOpen (node b c .wait) ≡ false
+  pub left : full (node b c) ≡ false
+  pub cut : MayCut b x
+
+-- The message m, which has waited longest on the channel from a to c, is delivered.
+pub record MayDeliver (b : List ℕ) (a c : ℕ) (x : Extent) (m : Message) : Type 0 where
+  pub fit : fits b ≡ true
+  pub usable : sound b ≡ true
+  pub sender : OneTo (stated b) a
+  pub receiver : OneTo (stated b) c
+  pub stands : stopped b c ≡ false
+  pub some : 0 < countOf (channel b a c)
+  pub size : ℕ
+  pub says : front (stated b) (first (channel b a c)) ≡ result (m, size)
+  pub new : staleMessage (node b c) a m ≡ false
+  pub cut : MayCut b x
+
+-- ---- how 11 is judged: on the channels as the event would leave them
+
+-- The entries that the event lets out: the step's list, or its first part.
+abbrev pub begun : List ℕ → ℕ → Operation → Extent → List Entry
+begun b c o x = within x (entries (stated b) c (beginStep (faults (stated b)) (node b c) o .outbox))
+
+abbrev pub handled : List ℕ → (a c : ℕ) → Extent → Message → List Entry
+handled b a c x m = within x (entries (stated b) a (messageStep (faults (stated b)) (node b c) a m
+    (viewOf (stated b) (viewAt (stated b) (first (channel b a c)))) .outbox))
+
+-- What waits from c to k: all of it for a begin; without the delivered message, if it was one of c to itself.
+abbrev pub waits : List ℕ → (c k : ℕ) → ℕ
+waits b c k = countOf (channel b c k)
+
+abbrev pub stillWaits : List ℕ → (a c k : ℕ) → ℕ
+stillWaits b a c k = waits b c k - pick (both (eqb a c) (eqb k c)) 1 0
+
+-- Node k stands after the event of c: it stood before, and is not a node that is cut.
+pub record StandsAfter (b : List ℕ) (c : ℕ) (x : Extent) (k : ℕ) : Type 0 where
+  pub at : OneTo (stated b) k
+  pub stood : stopped b k ≡ false
+  pub uncut : isCut x ≡ true → k ≡ c → ⊥
+
+-- No channel from c to a node that stands after the event would hold more than sixteen. Of the others none changes but
+-- by losing messages.
+abbrev pub Room : List ℕ → ℕ → Extent → (waits : ℕ → ℕ) → List Entry → Type 0
+Room b c x waits l = (k : ℕ) → StandsAfter b c x k → waits k + goTo k l ≤ 16
+
+abbrev pub Accepted : Result → Type 0
+Accepted r = (e : Ending) × (r .answer ≡ result e)
+
+-- Event r of node c on bytes b: accepted just if there is room, else 11 and every byte as before. Then the channels
+-- hold what waited and what was let out, and none more than sixteen.
+pub record Judged (b : List ℕ) (c : ℕ) (x : Extent) (waits : ℕ → ℕ) (l : List Entry) (r : Result) : Type 0 where
+  pub accepted : Room b c x waits l → Accepted r
+  pub only : Accepted r → Room b c x waits l
+  pub full : (Room b c x waits l → ⊥) → r ≡ refuse 11 b
+  pub holds : Accepted r → (k : ℕ) → StandsAfter b c x k → countOf (channel (r .bytes) c k) ≡ waits k + goTo k l
+  pub most : Accepted r → (a k : ℕ) → OneTo (stated b) a → OneTo (stated b) k → countOf (channel (r .bytes) a k) ≤ 16
+
+-- ---- the cases
+
+-- A cluster of one node, on whose channel to itself k messages m wait.
+abbrev pub filled : ℕ → Message → List ℕ
+filled k m = letOut 1 1 (replicate k (entry noView m 1)) (freshBytes 1 (clusterSize 1))
+
+pub record Filled (k : ℕ) (m : Message) : Type 0 where
+  pub begins : MayBegin (filled k m) 1 Whole
+  pub delivers : MayDeliver (filled k m) 1 1 Whole m
+  pub states : stated (filled k m) ≡ 1
+  pub holds : countOf (channel (filled k m) 1 1) ≡ k
+  pub maxtag : node (filled k m) 1 .maxtag ≡ 0
+
+pub record Channels (calls : Calls) : Type 0 where
+  pub begin : (b : List ℕ) (c : ℕ) (o : Operation) (x : Extent) → MayBegin b c x
+      → Judged b c x (waits b c) (begun b c o x) (calls .begin c o x b)
+  pub deliver : (b : List ℕ) (a c : ℕ) (x : Extent) (m : Message) → MayDeliver b a c x m
+      → Judged b c x (stillWaits b a c) (handled b a c x m) (calls .deliver a c x b)
+  -- A begin lets one message out to each node: the sixteenth is taken, the seventeenth is not.
+  pub sixteenth : (b : List ℕ) (c d : ℕ) (o : Operation) → MayBegin b c Whole → OneTo (stated b) d
+      → stopped b d ≡ false → countOf (channel b c d) ≡ 15
+      → ((k : ℕ) → OneTo (stated b) k → stopped b k ≡ false → countOf (channel b c k) ≤ 15)
+      → (calls .begin c o Whole b .answer ≡ result None)
+      × (countOf (channel (calls .begin c o Whole b .bytes) c d) ≡ 16)
+  pub seventeenth : (b : List ℕ) (c d : ℕ) (o : Operation) → MayBegin b c Whole → OneTo (stated b) d
+      → stopped b d ≡ false → countOf (channel b c d) ≡ 16 → calls .begin c o Whole b ≡ refuse 11 b
+  -- A delivery frees its own place: of sixteen messages of a node to itself one is delivered, and its answer is taken.
+  pub own-place : (b : List ℕ) (c q : ℕ) → MayDeliver b c c Whole (Read q) → isOpen (node b c .wait) ≡ false
+      → countOf (channel b c c) ≡ 16
+      → (calls .deliver c c Whole b .answer ≡ result None)
+      × (countOf (channel (calls .deliver c c Whole b .bytes) c c) ≡ 16)
+  -- It frees no more: a write with a tag above maxtag is echoed and answered, and of sixteen such none is delivered.
+  pub overflow : calls .deliver 1 1 Whole (filled 16 (Write 1 1)) ≡ refuse 11 (filled 16 (Write 1 1))
+  -- There are such clusters.
+  pub fifteen-reads : Filled 15 (Read 1)
+  pub sixteen-reads : Filled 16 (Read 1)
+  pub sixteen-writes : Filled 16 (Write 1 1)
