@@ -19,3 +19,5 @@ pub mod Run
 pub mod Demand2
 pub mod Ceases
 pub mod Demand3
+pub mod Tags
+pub mod Refused
