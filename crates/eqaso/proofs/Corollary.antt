@@ -18,7 +18,7 @@ use Rattle.eqaso.proofs.Items.{own-view}
 use Rattle.eqaso.proofs.Kept.{Kept}
 
 scan-placed : (tr : Trace) (s : ℕ) (b : Begun) (x : Fate) → IsScan b → Finished x → PlacedBy tr s b x
-scan-placed tr s (scanning c) (ended k e) h f = tt
+scan-placed tr s (scanning c) x h f = f
 
 pub scan-without-updates : {n : ℕ} {tr : Trace} → SingleOrder n tr
     → ((u c p : ℕ) → ¬ (begun tr u ≡ updating c p)) → (s : ℕ) → IsScan (begun tr s) → Finished (fate tr s)

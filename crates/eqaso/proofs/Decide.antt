@@ -56,12 +56,11 @@ module _ (tr : Trace) where
 
   placed-by? : (t : ℕ) (b : Begun) (x : Fate) → Dec (PlacedBy tr t b x)
   placed-by? t nothing x = no λ h. h
-  placed-by? t (scanning c) unfinished = no λ h. h
-  placed-by? t (scanning c) (ended k e) = yes tt
+  placed-by? t (scanning c) x = finished? x
   placed-by? t (updating c p) unfinished = shown? c (tagAt tr t c) p
-  placed-by? t (updating c p) (ended k none) = yes tt
+  placed-by? t (updating c p) (ended k none) = no λ h. h
   placed-by? t (updating c p) (ended k (done r v)) = yes tt
-  placed-by? t (updating c p) (ended k (shown r v)) = yes tt
+  placed-by? t (updating c p) (ended k (shown r v)) = no λ h. h
   placed-by? t (updating c p) (ended k spent) = no λ h. h
 
   pub placed? : (t : ℕ) → Dec (Placed tr t)

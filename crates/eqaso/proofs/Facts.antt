@@ -3,6 +3,7 @@
 use Prim.Native.Nat.{ℕ, _≤_, _<_}
 use mathlib.Core.Path.{_≡_}
 use mathlib.Core.Logic.{_⊎_}
+use lib.ListN.{length}
 use Rattle.eqaso.specs.Message.{Entry, absent, View}
 use Rattle.eqaso.specs.Algorithm.{none, done, shown, spent}
 use Rattle.eqaso.specs.Trace.{Begun, nothing, updating, scanning, Fate, unfinished, ended, entryAt}
@@ -46,7 +47,8 @@ pub record Facts (n now : ℕ) (B : Book) : Type 0 where
   pub between : (t : ℕ) → Between t now (B .fate t)
   -- The operations of one node follow each other.
   pub apart : (a b c : ℕ) → At (B .begun a) c → At (B .begun b) c → a < b → EndedBefore (B .fate a) b
-  -- Of each two views one is below the other.
+  -- A view has an entry for each node, and of each two views one is below the other.
+  pub sized : (a : ℕ) → HasView (B .fate a) → length (viewIn (B .fate a)) ≡ n
   pub chain : (a b : ℕ) → HasView (B .fate a) → HasView (B .fate b)
       → Comparable n (viewIn (B .fate a)) (viewIn (B .fate b))
   pub places : (a : ℕ) → HasView (B .fate a) → (w : ℕ) → OneTo n w → Place B w (entryAt (viewIn (B .fate a)) w)
@@ -67,6 +69,7 @@ pub record TagDue (B : Book) (t s : ℕ) : Type 0 where
 
 -- Owed when the operation at t ends with view v.
 pub record ViewDue (n : ℕ) (B : Book) (t : ℕ) (v : View) : Type 0 where
+  pub sized : length v ≡ n
   pub chain : (a : ℕ) → HasView (B .fate a) → Comparable n (viewIn (B .fate a)) v
   pub grows : (a : ℕ) → EndedBefore (B .fate a) t → HasView (B .fate a) → Below n (viewIn (B .fate a)) v
   pub places : (w : ℕ) → OneTo n w → Place B w (entryAt v w)

@@ -40,6 +40,7 @@ facts-later {n} {now} {B} f = record {
   blank = λ t le. f .blank t (omega arith);
   between = λ t. between-later t now (B .fate t) (f .between t);
   apart = f .apart;
+  sized = f .sized;
   chain = f .chain;
   places = f .places;
   closed = f .closed;
@@ -121,6 +122,7 @@ module _ {n now : ℕ} {B : Book} (f : Facts n now B) (b : Begun) where
         blank = λ t le. upd-other (B .begun) now b t (omega arith) ∙ f .blank t (omega arith);
         between = λ t. between-later t now (B .fate t) (f .between t);
         apart = apart-begins c at free;
+        sized = f .sized;
         chain = f .chain;
         places = λ a h w o. place-begins w _ (f .places a h w o);
         closed = λ a h u x i j p q eu ex before pos.

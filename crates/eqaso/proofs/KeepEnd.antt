@@ -3,6 +3,7 @@ use Prim.Native.Nat.{ℕ, suc, _<_}
 use native.Mathlib.Omega.{arith}
 use mathlib.Core.Path.{_≡_}
 use mathlib.Core.Logic.{inl, inr}
+use lib.ListN.{length}
 use Rattle.theory.specs.Update.{upd}
 use Rattle.theory.proofs.Update.{upd-all}
 use Rattle.eqaso.specs.Message.{View}
@@ -85,6 +86,7 @@ module _ {n now : ℕ} {B : Book} (f : Facts n now B) {c t : ℕ} (o : OpenAt B 
     between = upd-all (λ j x. Between j (suc now) x) (B .fate) t new
         (λ j ne. between-later j now (B .fate j) (f .between j)) (begun-before, omega arith);
     apart = apart-ends;
+    sized = upd-all (λ a x. HasView x → length (viewIn x) ≡ n) (B .fate) t new (λ a ne. f .sized a) (λ h. due h .sized);
     chain = chain-ends;
     places = places-ends;
     closed = closed-ends;

@@ -93,6 +93,7 @@ module _ {n now : ℕ} {B : Book} (f : Facts n now B) {c t p s : ℕ} (o : OpenA
     blank = f .blank;
     between = f .between;
     apart = f .apart;
+    sized = f .sized;
     chain = f .chain;
     places = λ a h w one. place-tags w _ (f .places a h w one);
     closed = closed-tags;

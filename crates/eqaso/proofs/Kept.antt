@@ -149,6 +149,7 @@ kept-start n = record {
     blank = λ t le. refl;
     between = λ t. tt;
     apart = λ a b c h. absurd h;
+    sized = λ a h. absurd h;
     chain = λ a b h. absurd h;
     places = λ a h. absurd h;
     closed = λ a h. absurd h;

@@ -99,3 +99,7 @@ pub mod Runs
 pub mod Instance
 pub mod ReadOff
 pub mod RuledOut
+pub mod RuledOutEndings
+pub mod RuledOutLine
+pub mod RuledOutTime
+pub mod RuledOutOpen

@@ -12,10 +12,11 @@ use Rattle.order.specs.Line.{update, scan, Line}
 use Rattle.order.proofs.Line.{line, latest}
 use Rattle.order.proofs.Sequence.{before-in, before-within}
 use Rattle.eqaso.specs.Message.{absent}
-use Rattle.eqaso.specs.Algorithm.{none, done, spent}
-use Rattle.eqaso.specs.Trace.{Trace, Begun, updating, scanning, begun, Fate, unfinished, ended, fate, tagAt}
-use Rattle.eqaso.specs.Trace.{entryAt}
-use Rattle.eqaso.specs.Order.{IsScan, Shows, PlacedBy, Placed, written, SingleOrder}
+use Rattle.eqaso.specs.Algorithm.{none, done, shown, spent}
+use Rattle.eqaso.specs.Trace.{Trace, Begun, nothing, updating, scanning, begun, Fate, unfinished, ended}
+use Rattle.eqaso.specs.Trace.{fate, tagAt, entryAt}
+use Rattle.eqaso.specs.Order.{IsScan, Shows, EndsInKind, PlacedBy, Placed, written, SingleOrder}
+use Rattle.eqaso.specs.Claims.{HasView, viewIn}
 use Rattle.eqaso.proofs.Book.{tagOf, plain, bookOf, At}
 use Rattle.eqaso.proofs.Facts.{Fit, Facts, Place}
 use Rattle.eqaso.proofs.Items.{kindOf, view, tag, Scan, update-at, scan-at, all, placed-of, all-of, holds-to}
@@ -30,6 +31,15 @@ before-trans {a} {u} s l m n = before-in ℕ-discrete u (before ℕ-discrete s l
 
 scan-kind : (b : Begun) → IsScan b → kindOf b ≡ scan
 scan-kind (scanning c) h = refl
+
+ends-in-kind : (n : ℕ) (b : Begun) (x : Fate) (s : ℕ) → Fit n b x s → (HasView x → length (viewIn x) ≡ n)
+    → EndsInKind n b x
+ends-in-kind n nothing x s fit sized = tt
+ends-in-kind n (updating c p) unfinished s fit sized = tt
+ends-in-kind n (updating c p) (ended k (done r v)) s fit sized = sized tt
+ends-in-kind n (updating c p) (ended k spent) s fit sized = tt
+ends-in-kind n (scanning c) unfinished s fit sized = tt
+ends-in-kind n (scanning c) (ended k (shown r v)) s fit sized = sized tt
 
 module _ (n : ℕ) (tr : Trace) (F : Facts n (length tr) (plain tr)) where
   -- An update with a tag that a scan shows has a place.
@@ -89,6 +99,7 @@ module _ (n : ℕ) (tr : Trace) (F : Facts n (length tr) (plain tr)) where
 
   single : SingleOrder n tr
   single = record {
+    kinds = λ t. ends-in-kind n (begun tr t) (fate tr t) (tag n tr F t) (F .fit t) (F .sized t);
     line = order .line;
     once = order .once;
     members = λ t. (λ i. placed-of n tr F t (order .whole t .0 i), λ h. order .whole t .1 (all-of n tr F t h));

@@ -156,6 +156,7 @@ module _ (n f : ℕ) where
       pub view-due : {base : Logs} {t T : ℕ} {A : List Value} {v : View} → Final n f out base v T A
           → ((a : ℕ) → EndedBefore (B .fate a) t → LeftIn n f base B a) → ViewDue n B t v
       view-due {base} {t} {T} {A} {v} x prior = record {
+        sized = ap length (x .is) ∙ length-table (λ w. newest w T A) n;
         chain = λ a h. comparable-views (certified-of out (B .begun a) (B .fate a) (B .tag a) (F .fit a) h (left a))
             (T, (A, x .is, x .cert));
         grows = λ a h view.

@@ -29,7 +29,7 @@ sixteen = atMost 16
 abbrev pub Claim3 : Type 0
 Claim3 = (n f : ℕ) → OneTo 16 n → Faults n f → Demand3 n f sixteen
 
--- Demand 3 on links without a limit, where an event is never refused because a channel is full.
+-- Demand 3 on links without a limit, where no channel is ever full.
 abbrev pub OnLinks : Type 0
 OnLinks = (n f : ℕ) → f + f < n → Demand3 n f always
 

@@ -6,6 +6,7 @@ use mathlib.Core.Path.{_≡_}
 use mathlib.Core.Logic.{_↔_}
 use mathlib.Core.Bool.{Bool, false}
 use mathlib.Core.List.{List, [], _∷_}
+use lib.ListN.{length}
 use Rattle.theory.specs.Log.{_∈_}
 use Rattle.order.specs.Sequence.{Once, before}
 use Rattle.eqaso.specs.Message.{Entry, absent}
@@ -35,16 +36,30 @@ pub record Shows (tr : Trace) (s c t p : ℕ) : Type 0 where
   pub tagged : 0 < t
   pub entry : entryAt (viewOf (fate tr s)) c ≡ record { tag = t; report = p }
 
--- What has a place in the order: a finished scan, a finished update that is not spent, and an unfinished update that
--- some finished scan shows.
+-- An operation that has finished ended as its kind does: an update is done, with a view that its client is not given,
+-- or it is spent; a scan shows its view. A view has an entry for each of the n nodes.
+abbrev pub EndsInKind : ℕ → Begun → Fate → Type 0
+EndsInKind n nothing x = Unit {0}
+EndsInKind n (updating c p) unfinished = Unit {0}
+EndsInKind n (updating c p) (ended k none) = ⊥
+EndsInKind n (updating c p) (ended k (done r v)) = length v ≡ n
+EndsInKind n (updating c p) (ended k (shown r v)) = ⊥
+EndsInKind n (updating c p) (ended k spent) = Unit {0}
+EndsInKind n (scanning c) unfinished = Unit {0}
+EndsInKind n (scanning c) (ended k none) = ⊥
+EndsInKind n (scanning c) (ended k (done r v)) = ⊥
+EndsInKind n (scanning c) (ended k (shown r v)) = length v ≡ n
+EndsInKind n (scanning c) (ended k spent) = ⊥
+
+-- What has a place in the order: a finished scan, an update that is done, and an unfinished update that some finished
+-- scan shows. A spent update has none.
 abbrev pub PlacedBy : Trace → ℕ → Begun → Fate → Type 0
 PlacedBy tr t nothing x = ⊥
-PlacedBy tr t (scanning c) unfinished = ⊥
-PlacedBy tr t (scanning c) (ended k e) = Unit {0}
+PlacedBy tr t (scanning c) x = Finished x
 PlacedBy tr t (updating c p) unfinished = (s : ℕ) × Shows tr s c (tagAt tr t c) p
-PlacedBy tr t (updating c p) (ended k none) = Unit {0}
+PlacedBy tr t (updating c p) (ended k none) = ⊥
 PlacedBy tr t (updating c p) (ended k (done r v)) = Unit {0}
-PlacedBy tr t (updating c p) (ended k (shown r v)) = Unit {0}
+PlacedBy tr t (updating c p) (ended k (shown r v)) = ⊥
 PlacedBy tr t (updating c p) (ended k spent) = ⊥
 
 abbrev pub Placed : Trace → ℕ → Type 0
@@ -60,8 +75,10 @@ abbrev pub EndedBefore : Fate → ℕ → Type 0
 EndedBefore unfinished t = ⊥
 EndedBefore (ended k e) t = k < t
 
--- One single order: a line of operations such that
+-- One single order: each operation that has finished ended as its kind does,
 pub record SingleOrder (n : ℕ) (tr : Trace) : Type 0 where
+  pub kinds : (t : ℕ) → EndsInKind n (begun tr t) (fate tr t)
+  -- and there is a line of operations such that
   pub line : List ℕ
   -- each stands once,
   pub once : Once line
@@ -89,6 +106,6 @@ NothingWaits n tr = (a b : ℕ) → OneTo n a → OneTo n b → stopped tr b ≡
 abbrev pub Quiet : ℕ → Trace → Type 0
 Quiet n tr = NothingWaits n tr → (t : ℕ) → ClosedBy tr t (begun tr t)
 
--- Demand 3: of every list of events, with any numbers.
+-- Demand 3: of every list of events, with any numbers, on channels with a given room.
 abbrev pub Demand3 : (n f : ℕ) (room : ℕ → Bool) → Type 0
 Demand3 n f room = (es : List Event) → SingleOrder n (trace n f room es) × Quiet n (trace n f room es)

@@ -11,7 +11,7 @@ use Rattle.mirror.specs.Run.{meaning}
 use Rattle.mirror.specs.Demand3.{Demand3}
 use Rattle.mirror.proofs.Demand2.{demand2}
 
-half : (n : ℕ) → 1 ≤ n → faults n + faults n < n
+pub half : (n : ℕ) → 1 ≤ n → faults n + faults n < n
 half n low = omega arith
 
 pub demand3 : Demand3

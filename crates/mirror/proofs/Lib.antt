@@ -21,3 +21,5 @@ pub mod RuledSlots
 pub mod RuledOut
 pub mod Ceases
 pub mod Demand3
+pub mod Tags
+pub mod Refused

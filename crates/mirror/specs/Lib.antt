@@ -4,3 +4,5 @@ pub mod Run
 pub mod Encodes
 pub mod Demand2
 pub mod Demand3
+pub mod Tags
+pub mod Refused

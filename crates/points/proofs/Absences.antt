@@ -1,19 +1,15 @@
 -- A scan at a fresh cluster and any deliveries after it: once nothing waits it has finished, and it shows no report of
 -- any node, since no update was begun.
-use Prim.Native.Nat.{ℕ, zero, suc, _+_, _-_, _<_}
+use Prim.Native.Nat.{ℕ, zero, suc, _-_, _<_}
 use native.Mathlib.Omega.{arith}
-use native.Mathlib.Decide.{ℕ-discrete}
 use mathlib.Core.Path.{_≡_, refl, sym, ap, ap₂, _∙_, subst}
-use mathlib.Core.Bool.{Bool, true, false, cond, decide, _||_}
+use mathlib.Core.Bool.{false, _||_}
 use mathlib.Core.List.{List, [], _∷_, map}
 use lib.ListN.{length, getD, replicate}
-use Rattle.octets.specs.Answer.{Answer, result, refused}
+use Rattle.octets.specs.Answer.{result}
 use Rattle.octets.proofs.Test.{true-false}
-use Rattle.view.specs.declared.View.{View}
-use Rattle.table.specs.Quorum.{faults}
 use Rattle.record.specs.declared.Operation.the-variants.{Scan}
-use Rattle.node.specs.declared.Ending.{Ending}
-use Rattle.node.specs.declared.Ending.the-variants.{None, Done, Scan as Scanned, Spent}
+use Rattle.node.specs.declared.Ending.the-variants.{None}
 use Rattle.layout.specs.Layout.{clusterSize, stated, stopped, node}
 use Rattle.cluster.specs.Event as E
 use Rattle.cluster.specs.declared.Extent.the-variants.{Whole}
@@ -21,21 +17,15 @@ use Rattle.eqaso.specs.Message.{Entry, absent}
 use Rattle.eqaso.specs.Algorithm as A
 use Rattle.eqaso.specs.Cluster as K
 use Rattle.eqaso.specs.Trace as T
-use Rattle.eqaso.specs.Order.{OneTo, Finished, IsScan, ClosedBy}
-use Rattle.eqaso.proofs.Book.{tagOf, bookOf}
+use Rattle.eqaso.specs.Order.{OneTo, Finished, IsScan, EndsInKind, SingleOrder, ClosedBy}
 use Rattle.eqaso.proofs.Corollary.{scan-without-updates}
-use Rattle.eqaso.proofs.Entries.{length-table}
-use Rattle.eqaso.proofs.Facts.{Fit}
-use Rattle.eqaso.proofs.Run.{good}
-use Rattle.refine.specs.Meaning.{entryOf}
 use Rattle.refine.specs.Follows.{Follows}
 use Rattle.refine.proofs.Steps.{same-idle, not-full}
-use Rattle.mirror.specs.Mirrors.{channelRoom, Mirrors, extentOf}
+use Rattle.mirror.specs.Mirrors.{Mirrors, extentOf}
 use Rattle.mirror.specs.SameResult.{answerOf}
 use Rattle.mirror.specs.Run as R
 use Rattle.mirror.proofs.Checks.{is-fit, is-sound}
 use Rattle.mirror.proofs.Says.{says-count}
-use Rattle.mirror.proofs.Demand2.{demand2}
 use Rattle.mirror.proofs.Demand3.{demand3}
 use Rattle.points.specs.Absences.{Delivery, delivery, scanThen, AllWhole, NothingWaits, ShowsNone}
 use Rattle.points.proofs.Stops.{start-mirrors}
@@ -78,51 +68,14 @@ module _ (n : ℕ) where
       ∙ stops-none (d .sender) (d .receiver) (answers d b) c)
       (deliveries-stop ds w (R.event (delivery d) b .bytes) c)
 
-  -- ---- a view has an entry for each node
-
-  abbrev Long : A.Ending → Type 0
-  Long A.none = Unit {0}
-  Long (A.done r v) = Unit {0}
-  Long (A.shown r v) = length v ≡ n
-  Long A.spent = Unit {0}
-
-  abbrev LongFate : T.Fate → Type 0
-  LongFate T.unfinished = Unit {0}
-  LongFate (T.ended k e) = Long e
-
-  long-answer : (v : View) (y : Answer Ending) → Long (T.endingOf (answerOf n v y))
-  long-answer v (refused k) = tt
-  long-answer v (result None) = tt
-  long-answer v (result (Done r)) = tt
-  long-answer v (result (Scanned r)) = length-table (entryOf v) n
-  long-answer v (result Spent) = tt
-
-  long-by : (k : ℕ) (e : A.Ending) (x : T.Fate) → Long e → LongFate x → LongFate (T.fateBy k e x)
-  long-by k A.none x h l = l
-  long-by k (A.done r v) x h l = tt
-  long-by k (A.shown r v) x h l = h
-  long-by k A.spent x h l = tt
-
-  long-here : (t : Bool) (e : A.Ending) → Long e → Long (cond t e A.none)
-  long-here true e h = h
-  long-here false e h = tt
-
-  long-first : (c k : ℕ) (b : List ℕ) (es : List R.Event) → LongFate (T.firstEnding c k (R.traceFrom n b es))
-  unfolding R.traceFrom T.firstEnding
-  long-first c k b [] = tt
-  long-first c k b (e ∷ es) = long-by k (T.endingAt c (R.seen n e (R.event e b))) _
-      (long-here (decide (ℕ-discrete (T.handler (R.meaning e)) c)) _
-      (long-answer (R.event e b .view) (R.event e b .answer)))
-      (long-first c (suc k) (R.event e b .bytes) es)
-
 -- A list of which every entry is absent.
 all-absent : (v : List Entry) → ((i : ℕ) → i < length v → getD v i absent ≡ absent) → v ≡ replicate (length v) absent
 all-absent [] h = refl
 all-absent (x ∷ v) h = ap₂ (λ y l. y ∷ l) (h 0 (omega arith)) (all-absent v (λ i l. h (suc i) (omega arith)))
 
-none-shown : (n c s : ℕ) (x : T.Fate) → Fit n (T.scanning c) x s → Finished x → LongFate n x
+none-shown : (n c : ℕ) (x : T.Fate) → EndsInKind n (T.scanning c) x → Finished x
     → ((w : ℕ) → OneTo n w → T.entryAt (T.viewOf x) w ≡ absent) → T.viewOf x ≡ replicate n absent
-none-shown n c s (T.ended k (A.shown r v)) fit end long each = all-absent v
+none-shown n c (T.ended k (A.shown r v)) long end each = all-absent v
     (λ i h.
     let e : i ≡ suc i - 1 = omega arith in
     ap (λ j. getD v j absent) e ∙ each (suc i) (omega arith, omega arith))
@@ -185,24 +138,16 @@ module _ (n c : ℕ) (size : OneTo 16 n) (at : OneTo n c) (b : List ℕ) (long :
       finished : Finished (T.fate tr 0)
       finished = subst (ClosedBy tr 0) scans (demand3 n size b long (scanThen c ds) .1 quiet 0) up
 
+      order : SingleOrder n tr
+      order = demand3 n size b long (scanThen c ds) .0
+
       is-scan : IsScan (T.begun tr 0)
       is-scan = subst IsScan (sym scans) tt
-
-      fits : Fit n (T.begun tr 0) (T.fate tr 0) (tagOf tr 0 (T.begun tr 0))
-      unfolding bookOf
-      fits =
-          let half : faults n + faults n < n = omega (arith, size .0) in
-          subst (λ x. Fit n (T.begun x 0) (T.fate x 0) (tagOf x 0 (T.begun x 0)))
-          (sym (demand2 n size b long .same (scanThen c ds)))
-          (good n (faults n) channelRoom half (map R.meaning (scanThen c ds)) .kept .facts .fit 0)
-
-      long-view : LongFate n (T.fate tr 0)
-      long-view = subst (λ x. LongFate n (T.fateOf tr 0 x)) (sym scans) (long-first n c 0 start (scanThen c ds))
 
       pub shows-none : ShowsNone n c tr
       shows-none = record {
         begun = scans;
         finished = finished;
-        view = none-shown n c 0 (T.fate tr 0) (subst (λ x. Fit n x (T.fate tr 0) (tagOf tr 0 x)) scans fits) finished
-            long-view (scan-without-updates (demand3 n size b long (scanThen c ds) .0) no-update 0 is-scan finished);
+        view = none-shown n c (T.fate tr 0) (subst (λ x. EndsInKind n x (T.fate tr 0)) scans (order .kinds 0)) finished
+            (scan-without-updates order no-update 0 is-scan finished);
       }

@@ -1,0 +1,104 @@
+-- A refused event does nothing: as the events are defined, only a refusal answers with one.
+use Prim.Native.Nat.{ℕ}
+use lib.Dec.{ltb}
+use mathlib.Core.Path.{_≡_, ap, subst}
+use mathlib.Core.Bool.{Bool, true, false, not}
+use mathlib.Core.List.{List, [], _∷_}
+use Rattle.octets.specs.Answer.{Answer, result, refused}
+use Rattle.octets.specs.Test.{both}
+use Rattle.view.specs.View.{noView, viewOf}
+use Rattle.wire.specs.Codec.{front, viewAt}
+use Rattle.wire.specs.declared.Message.{Message}
+use Rattle.table.specs.Quorum.{faults}
+use Rattle.record.specs.Usable.{isOpen, full}
+use Rattle.node.specs.Move.{messageStep, beginStep}
+use Rattle.node.specs.Stale.{staleMessage}
+use Rattle.node.specs.declared.Step.{Step}
+use Rattle.node.specs.declared.Ending.{Ending}
+use Rattle.node.specs.declared.Ending.the-variants.{None}
+use Rattle.region.specs.Channel.{countOf, first}
+use Rattle.block.specs.Block.{takeOff, halt}
+use Rattle.entries.specs.Entries.{entries}
+use Rattle.layout.specs.Layout.{stated, stopped, node, channel, onBlock, fits, sound, isNode}
+use Rattle.cluster.specs.Event as E
+use Rattle.cluster.specs.declared.Extent.{Extent}
+use Rattle.halting.specs.Stop as S
+use Rattle.mirror.specs.Run.{Event, begin, deliver, stop, event, seen, traceFrom}
+use Rattle.mirror.specs.Refused.{RefusedDoesNothing}
+
+-- The number of a refusal; 0 for a result.
+abbrev number : Answer Ending → ℕ
+number (result e) = 0
+number (refused k) = k
+
+abbrev IsResult : Answer Ending → Type 0
+IsResult (result e) = Unit {0}
+IsResult (refused k) = ⊥
+
+module _ (b : List ℕ) where
+  -- Where the answer is a refusal, the event has done nothing.
+  record Plain (r : E.Result) : Type 0 where
+    is : (k : ℕ) → r .answer ≡ refused k → r ≡ E.refuse k b
+
+  refuses : (k : ℕ) → Plain (E.refuse k b)
+  refuses k = record { is = λ j e. ap (λ z. E.refuse (number z) b) e }
+
+  accepts : (r : E.Result) → IsResult (r .answer) → Plain r
+  accepts r h = record { is = λ k e. absurd (subst IsResult e h) }
+
+  demands : (t : Bool) (k : ℕ) {r : E.Result} → Plain r → Plain (E.demand t k b r)
+  demands true k p = p
+  demands false k p = refuses k
+
+  settles : (n a c : ℕ) (x : Extent) (s : Step) (found : List ℕ) → Plain (E.settle n a c x s found b)
+  unfolding E.settle
+  settles n a c x s found =
+      let out = E.within x (entries n a (s .outbox)) in
+      demands (E.roomy n c out (E.stepped n c x s found)) 11 (accepts (E.commit n c x s out found) tt)
+
+  abbrev n : ℕ
+  n = stated b
+
+  checks : {r : E.Result} → Plain r → Plain (E.checked b r)
+  checks p = demands (fits b) 12 (demands (sound b) 2 p)
+
+  plain : (e : Event) → Plain (event e b)
+  unfolding E.begin E.deliver S.stop
+  plain (begin c o x) = checks
+      (demands (isNode n c) 3
+      (demands (not (stopped b c)) 4
+      (demands (not (isOpen (node b c .wait))) 5
+      (demands (not (full (node b c))) 6
+      (demands (E.mayCut n x b) 10
+      (settles n c c x (beginStep (faults n) (node b c) o) b))))))
+  plain (deliver a c x) = checks
+      (demands (both (isNode n a) (isNode n c)) 3
+      (demands (not (stopped b c)) 4
+      (demands (ltb 0 (countOf (channel b a c))) 8 (handed (front n slot)))))
+    where
+      slot : List ℕ
+      slot = first (channel b a c)
+
+      handed : (m : Answer (Message × ℕ)) → Plain (E.deliverMessage n a c x b slot m)
+      handed (refused k) = refuses 7
+      handed (result p) =
+          demands (not (staleMessage (node b c) a (p .0))) 9
+          (demands (E.mayCut n x b) 10
+          (settles n a c x (messageStep (faults n) (node b c) a (p .0) (viewOf n (viewAt n slot)))
+          (onBlock c (takeOff a) b)))
+  plain (stop c) = checks
+      (demands (isNode n c) 3
+      (demands (not (stopped b c)) 4
+      (demands (E.mayStop n b) 10
+      (accepts (record { bytes = onBlock c (halt n) b; answer = result None; view = noView; sent = [] }) tt))))
+
+pub refused-does-nothing : RefusedDoesNothing
+unfolding traceFrom
+refused-does-nothing e b k h =
+    let is : event e b ≡ E.refuse k b = plain b e .is k h in
+    record {
+      bytes = ap (λ r. r .bytes) is;
+      view = ap (λ r. r .view) is;
+      sent = ap (λ r. r .sent) is;
+      seen = λ n es. ap (λ r. seen n e r ∷ traceFrom n (r .bytes) es) is;
+    }

@@ -1,0 +1,15 @@
+-- The tags of the code are as document 01 words them: its trace is the trace of the algorithm over sets.
+use mathlib.Core.Path.{sym, subst}
+use mathlib.Core.List.{map}
+use Rattle.table.specs.Quorum.{faults}
+use Rattle.eqaso.specs.Claims.{TagsAsWorded}
+use Rattle.eqaso.proofs.Claims.{tags-as-worded}
+use Rattle.mirror.specs.Mirrors.{channelRoom}
+use Rattle.mirror.specs.Run.{meaning}
+use Rattle.mirror.specs.Tags.{TagsOfCode}
+use Rattle.mirror.proofs.Demand2.{demand2}
+use Rattle.mirror.proofs.Demand3.{half}
+
+pub tags-of-code : TagsOfCode
+tags-of-code n size b long es = subst TagsAsWorded (sym (demand2 n size b long .same es))
+    (tags-as-worded n (faults n) channelRoom (half n (size .0)) (map meaning es))

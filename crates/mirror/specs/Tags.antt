@@ -1,0 +1,14 @@
+-- Document 01's words for the tag of an update, of the code's own trace: in every run on lent bytes they fit one number
+-- at most, which is the tag, and the tags of a node rise.
+use Prim.Native.Nat.{ℕ}
+use mathlib.Core.Path.{_≡_}
+use mathlib.Core.List.{List}
+use lib.ListN.{length}
+use Rattle.layout.specs.Layout.{clusterSize}
+use Rattle.eqaso.specs.Order.{OneTo}
+use Rattle.eqaso.specs.Claims.{TagsAsWorded}
+use Rattle.mirror.specs.Run.{Event, traceOf}
+
+abbrev pub TagsOfCode : Type 0
+TagsOfCode = (n : ℕ) → OneTo 16 n → (b : List ℕ) → length b ≡ clusterSize n → (es : List Event)
+    → TagsAsWorded (traceOf n b es)
