@@ -45,12 +45,13 @@ fn some_event(dice: &mut Dice, n: usize, habits: &Habits, b: &[u8]) -> Event {
     Event::Deliver { from: node(dice), to: node(dice), cut }
 }
 
-/// Damages a few places: words of a record, the head of a channel, bytes of the oldest message, or any bytes.
+/// Damages a few places: words of a record, entries of its views past n, the head of a channel, bytes of the oldest
+/// message, or any bytes.
 fn damage(dice: &mut Dice, n: usize, b: &mut [u8]) {
     let block = 1 + 73345 * dice.below(n);
     let channel = block + 3169 + 4386 * dice.below(n);
     let put = |b: &mut [u8], at: usize, x: u64| b[at..at + 8].copy_from_slice(&x.to_be_bytes());
-    match dice.below(12) {
+    match dice.below(13) {
         0..=2 => {
             let at = block + 1 + 8 * dice.below(12);
             put(b, at, odd_number(dice));
@@ -74,6 +75,12 @@ fn damage(dice: &mut Dice, n: usize, b: &mut [u8]) {
                     put(b, block + 1 + 8 * word, dice.below(6) as u64);
                 }
             }
+        }
+        11 if n < 16 => {
+            // A report past n, often one that refusal 2 lets pass: no view may show it.
+            let entry = block + 2145 + 256 * dice.below(4) + 16 * (n + dice.below(16 - n));
+            put(b, entry, dice.below(3) as u64);
+            put(b, entry + 8, dice.next());
         }
         _ => {
             let at = dice.below(b.len());
@@ -110,6 +117,10 @@ impl Pair {
             Proved::apply(&mut self.proved, event, &mut self.views.0),
             Plain::apply(&mut self.plain, event, &mut self.views.1),
         );
+        let past = 16 * self.proved.first().map_or(0, |&n| n as usize);
+        if (30..=33).contains(&told.0) {
+            assert!(self.views.0[past..].iter().all(|&x| x == 0), "a report past n after {event:?}");
+        }
         self.same(told, event)
     }
 

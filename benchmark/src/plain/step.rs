@@ -51,6 +51,12 @@ impl Step {
         self.count += 1;
     }
 
+    /// The view that the step gives out: n entries of a table, and nothing past them.
+    fn show(&mut self, place: usize) {
+        let end = 16 * self.record.n();
+        self.view[..end].copy_from_slice(&self.record.view(place)[..end]);
+    }
+
     /// The begin of an operation at an idle node. It waits for answers, so there is nothing to move on.
     pub fn begin(&mut self, operation: Operation) {
         self.wait = Wait::Reading { operation, answered: 0, largest: 0 };
@@ -142,7 +148,7 @@ impl Step {
         }
         if let Wait::Borrowing { kind, tag } = self.wait {
             if tag <= self.record.kept() {
-                self.view = *self.record.view(KEPTVIEW);
+                self.show(KEPTVIEW);
                 self.end(kind, Rule::Borrowed);
             }
         }
@@ -164,7 +170,7 @@ impl Step {
     }
 
     fn after_good(&mut self, kind: Kind, round: u64, tag: u64) {
-        self.view = *self.record.view(ATROUND);
+        self.show(ATROUND);
         self.send(Message::Good { tag });
         if round == 0 {
             self.open_round(kind, 1, (tag + 1).max(self.record.maxtag()));

@@ -4,4 +4,5 @@ pub mod Moved
 pub mod Reacted
 pub mod Room
 pub mod Settled
+pub mod Shown
 pub mod Told

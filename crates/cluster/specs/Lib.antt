@@ -2,3 +2,4 @@ pub mod Event
 pub mod Outcome
 pub mod Room
 pub mod First
+pub mod Shown

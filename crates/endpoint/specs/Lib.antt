@@ -2,3 +2,4 @@ pub mod Bytes
 pub mod Entry
 pub mod Outcome
 pub mod Room
+pub mod Shown

@@ -73,7 +73,8 @@ pub extern "C" fn snapshot_begin_scan(b: &mut [u8], c: usize, cut: bool, m: usiz
     event_code(cluster::begin(b, c, Operation::Scan, extent_of(cut, m)))
 }
 
-// Delivers what has waited longest on the channel from a to c. The view of a scan that ends goes to `view`.
+// Delivers what has waited longest on the channel from a to c. The view of a scan that ends goes to `view`: n entries,
+// then zeros.
 #[no_mangle]
 pub extern "C" fn snapshot_deliver(
     b: &mut [u8],

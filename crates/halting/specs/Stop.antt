@@ -1,6 +1,7 @@
 -- The stop of a node (document 01: a cabinet): it takes part in nothing more, and what waits for it is gone. 12, 2 as for
 -- every event. 3: no node has that number. 4: it has stopped. 10: f nodes have stopped.
 use Prim.Native.Nat.{ℕ}
+use mathlib.Core.Path.{_≡_}
 use mathlib.Core.Bool.{not}
 use mathlib.Core.List.{List, []}
 use Rattle.octets.specs.Answer.{result}
@@ -19,3 +20,7 @@ stopIn n c b =
 
 unfoldable pub stop : ℕ → List ℕ → Result
 stop c b = checked b (stopIn (stated b) c b)
+
+-- It shows nothing.
+abbrev pub StopAbsent : Type 0
+StopAbsent = (c : ℕ) (b : List ℕ) → stop c b .view ≡ noView

@@ -27,7 +27,7 @@ use Rattle.node.specs.declared.Step.{Step}
 use Rattle.node.specs.declared.Rule.the-variants.{Borrowed}
 use Rattle.node.specs.Claims.{MustWait}
 use Rattle.node.specs.Step.{started, ended, endingOf}
-use Rattle.node.specs.Move.{opened, afterRead, afterGood, afterFailed, moveOn, begun}
+use Rattle.node.specs.Move.{opened, afterRead, lentView, afterGood, afterFailed, moveOn, begun}
 use Rattle.node.specs.Move.{readPass, writePass, comparePass, borrowPass, reads, writes, compares, borrows}
 use Rattle.node.proofs.Numbers.{on-pick}
 use Rattle.node.proofs.Turns.{reads-on}
@@ -84,7 +84,7 @@ module _ (f : ℕ) (s : Step) where
 
   -- the view kept is borrowed
   pub borrow-on : {k : Kind} {r : ℕ} → s .node .wait ≡ Borrowing k r → leb r (s .node .kept) ≡ true
-      → moveOn f s ≡ ended s (closed (s .node) Idle) (endingOf k Borrowed) (s .node .keptview)
+      → moveOn f s ≡ ended s (closed (s .node) Idle) (endingOf k Borrowed) (lentView (s .node))
   unfolding readPass writePass comparePass borrowPass
   borrow-on e q =
       past (ap (readPass f s (s .node)) e) (ap (writePass f s (s .node)) e)

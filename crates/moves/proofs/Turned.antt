@@ -9,7 +9,7 @@ use Rattle.octets.specs.Bytes.{Bytes, put}
 use Rattle.octets.specs.Loop.{join}
 use Rattle.octets.specs.Word.{wordBytes}
 use Rattle.view.specs.Size.{limit}
-use Rattle.view.specs.View.{viewBytes, noView}
+use Rattle.view.specs.View.{viewBytes, noView, firstOf}
 use Rattle.view.specs.declared.Report.{Report}
 use Rattle.view.specs.declared.View.{View}
 use Rattle.wire.specs.declared.Message.the-variants.{Value, Good}
@@ -26,8 +26,9 @@ use Rattle.node.specs.declared.Ending.the-variants.{None, Spent}
 use Rattle.node.specs.declared.Rule.the-variants.{Direct, Borrowed}
 use Rattle.node.specs.declared.Step.{Step}
 use Rattle.node.specs.Step.{started, endingOf}
-use Rattle.node.specs.Move.{opened, writing, nextTag, afterRead, afterGood, afterFailed, borrowPass, borrows}
-use Rattle.region.specs.Record.{recordSize, waitBytes, recordOf, recordBytes}
+use Rattle.node.specs.Move.{opened, writing, nextTag, heldView, lentView, afterRead, afterGood, afterFailed, borrowPass}
+use Rattle.node.specs.Move.{borrows}
+use Rattle.region.specs.Record.{recordSize, waitBytes, viewIn, recordOf, recordBytes}
 use Rattle.handlers.specs.declared.Head.{Head}
 use Rattle.handlers.specs.Handled.{headOf}
 use Rattle.handlers.proofs.Sections.{tables-of, atround-put, assembled}
@@ -44,6 +45,11 @@ turned-bytes r b l next w v d e p =
     p ∙ ap₂ (λ (h : Head) (x : List ℕ). put x 0
     (wordBytes (h .n ∷ h .own ∷ h .maxtag ∷ next (h .request) ∷ h .kept ∷ []) ++ waitBytes w)) d e
     ∙ assembled (turned (recordOf r) (next (recordOf r .request)) w v) (atround-put (tables-of r b l) v)
+
+-- the places of a view that are given out: as many as the record has nodes
+pub places-of : (r : List ℕ) (i : ℕ) {n : ℕ} → recordOf r .n ≡ n
+    → firstOf n (viewIn r i) ≡ firstOf (recordOf r .n) (viewIn r i)
+places-of r i e = ap (λ (m : ℕ). firstOf m (viewIn r i)) (sym e)
 
 -- a view of zeros is absent
 pub zeros : (r : List ℕ) → length r ≡ 256 → replicate (length r) 0 ≡ viewBytes 16 noView
@@ -76,12 +82,12 @@ module _ (c : Node) (to : ℕ) (sent : Sent) where
 
   module _ (k : Kind) (i t : ℕ) where
     pub good-open : eqb i 0 ≡ true → afterGood (started c to sent) c k i t ≡ stepOf (opened c k 1 (nextTag c 0 t))
-        (effectOf to sent Nothing (Two (Good t) (writing c (nextTag c 0 t))) (c .atround) None noView)
+        (effectOf to sent Nothing (Two (Good t) (writing c (nextTag c 0 t))) (heldView c) None noView)
     unfolding afterGood
     good-open e = rw e refl
 
     pub good-end : eqb i 0 ≡ false → afterGood (started c to sent) c k i t ≡ stepOf (closed c Idle)
-        (effectOf to sent Nothing (One (Good t)) (c .atround) (endingOf k (Direct i)) (c .atround))
+        (effectOf to sent Nothing (One (Good t)) (heldView c) (endingOf k (Direct i)) (heldView c))
     unfolding afterGood
     good-end e = rw e refl
 
@@ -93,7 +99,7 @@ module _ (c : Node) (to : ℕ) (sent : Sent) where
 
     pub failed-lend : ltb i 3 ≡ false → leb t (c .kept) ≡ true
         → borrows (afterFailed (started c to sent) c k i t)
-        ≡ stepOf (closed c Idle) (effectOf to sent Nothing Nothing noView (endingOf k Borrowed) (c .keptview))
+        ≡ stepOf (closed c Idle) (effectOf to sent Nothing Nothing noView (endingOf k Borrowed) (lentView c))
     unfolding afterFailed borrowPass
     failed-lend e q = rw (e, q) refl
 

@@ -98,9 +98,9 @@ fn compare_in(
 {
     if is_quorum(n, f, agreeing_in(r, n, get_word(r, 8) as usize)) {
         if get_word(r, 16) <= t {
-            return good_in(r, to, sent, k, i, t);
+            return good_in(r, n, to, sent, k, i, t);
         }
-        return failed_in(r, to, sent, k, i, t);
+        return failed_in(r, n, to, sent, k, i, t);
     }
     waiting_in(
         r,
@@ -146,7 +146,7 @@ pub fn move_in(r: &mut [u8], n: usize, f: usize, to: usize, sent: Sent) -> Effec
         Wait::Comparing { kind, round, tag } => compare_in(r, n, f, to, sent, kind, round, tag),
         Wait::Borrowing { kind, tag } => {
             if tag <= get_word(r, 32) {
-                return lend_in(r, to, sent, kind);
+                return lend_in(r, n, to, sent, kind);
             }
             rested(to, sent)
         }

@@ -32,7 +32,7 @@ ghost use Rattle.node.specs.declared.Sent.the-variants.{Nothing};
 ghost use Rattle.node.specs.declared.Ending.the-variants.{None};
 ghost use Rattle.node.specs.declared.Rule.the-variants.{Borrowed};
 ghost use Rattle.node.specs.Step.{started, ended, endingOf};
-ghost use Rattle.node.specs.Move.{opened, nextTag, afterRead, afterGood, afterFailed, borrows};
+ghost use Rattle.node.specs.Move.{opened, nextTag, afterRead, lentView, afterGood, afterFailed, borrows};
 ghost use Rattle.region.specs.Record.{recordSize, recordOf, recordBytes};
 ghost use Rattle.moves.specs.Moved.{isStep, effectOf};
 
@@ -179,13 +179,14 @@ fn next_in(r: &[u8], i: u64, t: u64) -> u64
     top
 }
 
-// A good round: after round 0 the next one opens, any other ends the operation.
-pub fn good_in(r: &mut [u8], to: usize, sent: Sent, k: Kind, i: u64, t: u64) -> Effect
-    requires { ⌜ (length (now r) ≡ recordSize) × (recordOf (now r) .request ≤ limit) × (t ≤ limit) ⌝ }
+// A good round: after round 0 the next one opens, any other ends the operation. Its view is of n places.
+pub fn good_in(r: &mut [u8], n: usize, to: usize, sent: Sent, k: Kind, i: u64, t: u64) -> Effect
+    requires { ⌜ (length (now r) ≡ recordSize) × (recordOf (now r) .n ≡ n) × (n ≤ 16)
+        × (recordOf (now r) .request ≤ limit) × (t ≤ limit) ⌝ }
     ensures { λ e. ⌜ isStep e (now (r .exit))
         (afterGood (started (recordOf (now (r .entry))) to sent) (recordOf (now (r .entry))) k i t) ⌝ }
 {
-    let held = load_view(r, 2);
+    let held = load_view(r, 2, n);
     let good = Message::Good { tag: t };
     if i == 0 {
         let next = next_in(r, 0, t);
@@ -217,13 +218,13 @@ pub fn good_in(r: &mut [u8], to: usize, sent: Sent, k: Kind, i: u64, t: u64) -> 
 }
 
 // The operation ends with the view of the good message kept.
-pub fn lend_in(r: &mut [u8], to: usize, sent: Sent, k: Kind) -> Effect
-    requires { ⌜ length (now r) ≡ recordSize ⌝ }
+pub fn lend_in(r: &mut [u8], n: usize, to: usize, sent: Sent, k: Kind) -> Effect
+    requires { ⌜ (length (now r) ≡ recordSize) × (recordOf (now r) .n ≡ n) × (n ≤ 16) ⌝ }
     ensures { λ e. ⌜ isStep e (now (r .exit))
         (ended (started (recordOf (now (r .entry))) to sent) (closed (recordOf (now (r .entry))) Idle)
-        (endingOf k Borrowed) (recordOf (now (r .entry)) .keptview)) ⌝ }
+        (endingOf k Borrowed) (lentView (recordOf (now (r .entry))))) ⌝ }
 {
-    let v = load_view(r, 3);
+    let v = load_view(r, 3, n);
     close_in(r, Wait::Idle);
     effect_of(
         to,
@@ -237,8 +238,9 @@ pub fn lend_in(r: &mut [u8], to: usize, sent: Sent, k: Kind) -> Effect
 }
 
 // A failed round: the next one opens; after the third the operation borrows, now if it can.
-pub fn failed_in(r: &mut [u8], to: usize, sent: Sent, k: Kind, i: u64, t: u64) -> Effect
-    requires { ⌜ (length (now r) ≡ recordSize) × (recordOf (now r) .request ≤ limit) × (t ≤ limit) ⌝ }
+pub fn failed_in(r: &mut [u8], n: usize, to: usize, sent: Sent, k: Kind, i: u64, t: u64) -> Effect
+    requires { ⌜ (length (now r) ≡ recordSize) × (recordOf (now r) .n ≡ n) × (n ≤ 16)
+        × (recordOf (now r) .request ≤ limit) × (t ≤ limit) ⌝ }
     ensures { λ e. ⌜ isStep e (now (r .exit))
         (borrows (afterFailed (started (recordOf (now (r .entry))) to sent) (recordOf (now (r .entry))) k i t)) ⌝ }
 {
@@ -260,7 +262,7 @@ pub fn failed_in(r: &mut [u8], to: usize, sent: Sent, k: Kind, i: u64, t: u64) -
         );
     }
     if t <= get_word(r, 32) {
-        return lend_in(r, to, sent, k);
+        return lend_in(r, n, to, sent, k);
     }
     close_in(r, Wait::Borrowing { kind: k, tag: t });
     rested(to, sent)

@@ -19,6 +19,7 @@ use Rattle.wire.specs.Layout.{size, isRequest, isTag}
 use Rattle.wire.specs.declared.Message.{Message}
 use Rattle.wire.specs.declared.Message.the-variants.{Read, ReadAnswer, Write, WriteAnswer, Echo, Value, Good}
 use Rattle.table.specs.Quorum.{size as setSize, isQuorum, agreeing}
+use Rattle.table.proofs.Entries.{within-first}
 use Rattle.record.specs.Record.{waiting}
 use Rattle.record.specs.declared.Node.{Node}
 use Rattle.record.specs.declared.Operation.{Operation}
@@ -33,7 +34,8 @@ use Rattle.node.specs.Step.{listed, messages, started}
 use Rattle.node.specs.Allowed.{lawful}
 use Rattle.node.specs.Claims.{AllLawful, sizes}
 use Rattle.node.specs.React.{isNew, react}
-use Rattle.node.specs.Move.{afterRead, readPass, writePass, nextTag, afterGood, afterFailed, comparePass, borrowPass, reads, writes, compares, borrows, moveOn, begun}
+use Rattle.node.specs.Move.{afterRead, readPass, writePass, nextTag, heldView, afterGood, afterFailed, comparePass}
+use Rattle.node.specs.Move.{borrowPass, reads, writes, compares, borrows, moveOn, begun}
 use Rattle.node.proofs.Numbers.{max-most, on-pick}
 use Rattle.node.proofs.Safe.{reads-parts, writes-parts, next-high}
 use Rattle.node.proofs.Same.{reads-keep, writes-keep, compares-keep}
@@ -163,7 +165,8 @@ module _ (f : ℕ) (s : Step) (k : Sends (s .node .n) s) where
       let c = waiting (s .node) (Comparing kd i r) in
       let o : Round i r = round-parts i r (p .wait-ok) in
       let n = s .node .n in
-      let good : lawful n (Good r) (c .atround) ≡ true = both-true (le-leb r limit (o .tag)) (p .round-ok) in
+      let good : lawful n (Good r) (heldView c) ≡ true =
+      both-true (le-leb r limit (o .tag)) (within-first n r (c .atround) (p .round-ok)) in
       on-pick (Sends n) (isQuorum n f (agreeing n (c .own) (c .heard) (c .atround .tags))) _ _
       (λ e. on-pick (Sends n) (leb (c .maxtag) r) _ _
       (λ e. on-pick (Sends n) (eqb i 0) _ _
@@ -174,7 +177,13 @@ module _ (f : ℕ) (s : Step) (k : Sends (s .node .n) s) where
         reading = k .reading;
         comparing =
             record {
-              lawful-all = (good, (write-lawful n (c .atround) (c .request) (nextTag c 0 r) (omega arith) (next-high c 0 r p (rw zero at o)), tt));
+              lawful-all = (
+                good,
+                (
+                  write-lawful n (heldView c) (c .request) (nextTag c 0 r) (omega arith) (next-high c 0 r p (rw zero at o)),
+                  tt,
+                ),
+              );
               small = omega arith;
             };
       })

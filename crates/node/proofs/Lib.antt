@@ -7,6 +7,7 @@ pub mod Points
 pub mod Safe
 pub mod Same
 pub mod Session
+pub mod Shown
 pub mod Theorems
 pub mod Turns
 pub mod Waits

@@ -9,7 +9,9 @@ use lib.Dec.{ltb, eqb}
 use borrow.Author.Tests.{ltb-true, ltb-false, ne-eqb, eq-eqb}
 use Rattle.octets.specs.Test.{pick}
 use Rattle.octets.proofs.Test.{pick-same, true-false}
-use Rattle.view.specs.Size.{limit}
+use Rattle.view.specs.Size.{limit, nodes}
+use Rattle.view.specs.View.{AbsentPast}
+use Rattle.view.proofs.First.{none-absent}
 use Rattle.view.specs.declared.View.{View}
 use Rattle.wire.specs.Layout.{size as wire-size}
 use Rattle.wire.specs.declared.Message.{Message}
@@ -30,6 +32,7 @@ use Rattle.node.specs.Move.{moveOn, messageStep, begun, beginStep}
 use Rattle.node.specs.Theorems as claim
 use Rattle.node.proofs.Numbers.{on-picks}
 use Rattle.node.proofs.Safe.{move-on-parts}
+use Rattle.node.proofs.Shown.{move-on-shows}
 use Rattle.node.proofs.Handled.{react-parts, begun-parts}
 use Rattle.node.proofs.Same.{move-on-keeps, read-answered-keeps, write-answered-keeps, react-keeps}
 use Rattle.node.proofs.Waits.{must-wait, begin-asks}
@@ -47,6 +50,21 @@ message-n f c s m v = move-on-keeps (λ (d : Node). d .n) (λ d q w u. refl) f (
 pub begin-n : claim.BeginSize
 unfolding beginStep begun
 begin-n f c o = move-on-keeps (λ (d : Node). d .n) (λ d q w u. refl) f (begun c o)
+
+-- what is shown
+
+pub message-absent : claim.MessageAbsent
+unfolding messageStep
+message-absent f c s m v h =
+    let e = react-n c s m v in
+    let d = react c s m v in
+    let n : d .node .n ≤ nodes = rw e h in
+    subst (λ (k : ℕ). AbsentPast k (moveOn f d .view)) e
+    (move-on-shows f d n (rw (react-started c s m v) (none-absent (d .node .n) n)))
+
+pub begin-absent : claim.BeginAbsent
+unfolding beginStep begun
+begin-absent f c o h = move-on-shows f (begun c o) h (none-absent (c .n) h)
 
 -- ---- a message is handled
 

@@ -8,7 +8,7 @@ use Rattle.wire.specs.declared.Message.{Message}
 use Rattle.view.specs.declared.View.{View}
 use Rattle.octets.specs.Test.{pick}
 use Rattle.view.specs.Size.{limit}
-use Rattle.view.specs.View.{noView}
+use Rattle.view.specs.View.{noView, firstOf}
 use Rattle.table.specs.Table.{newest}
 use Rattle.table.specs.Quorum.{size, isQuorum, agreeing}
 use Rattle.record.specs.Record.{turned, waiting, closed}
@@ -64,12 +64,20 @@ writePass f s c (Borrowing k r) = s
 abbrev pub nextTag : Node → ℕ → ℕ → ℕ
 nextTag c i r = pick (eqb i 0) (max (r + 1) (c .maxtag)) (c .maxtag)
 
+-- The view that a round gives out, and the one that is borrowed: of n places. What a record may hold past them is never
+-- shown.
+abbrev pub heldView : Node → View
+heldView c = firstOf (c .n) (c .atround)
+
+abbrev pub lentView : Node → View
+lentView c = firstOf (c .n) (c .keptview)
+
 -- Lines 18 and 19: a good round. After round 0 the renewal begins (lines 7 to 9), any other ends the operation (line 25).
 unfoldable pub afterGood : Step → Node → Kind → ℕ → ℕ → Step
 afterGood s c k i r =
     pick (eqb i 0)
-    (afterComparing s (opened c k 1 (nextTag c 0 r)) (Two (Good r) (writing c (nextTag c 0 r))) (c .atround))
-    (ended (afterComparing s c (One (Good r)) (c .atround)) (closed c Idle) (endingOf k (Direct i)) (c .atround))
+    (afterComparing s (opened c k 1 (nextTag c 0 r)) (Two (Good r) (writing c (nextTag c 0 r))) (heldView c))
+    (ended (afterComparing s c (One (Good r)) (heldView c)) (closed c Idle) (endingOf k (Direct i)) (heldView c))
 
 -- Line 21: a failed round. The next one opens, and after the third the operation borrows (lines 26 to 29).
 unfoldable pub afterFailed : Step → Node → Kind → ℕ → ℕ → Step
@@ -89,7 +97,7 @@ comparePass f s c (Borrowing k r) = s
 
 -- Lines 29 and 30, amendment 4: the kept view is borrowed once its tag is at least r.
 unfoldable pub borrowPass : Step → Node → Wait → Step
-borrowPass s c (Borrowing k r) = pick (leb r (c .kept)) (ended s (closed c Idle) (endingOf k Borrowed) (c .keptview)) s
+borrowPass s c (Borrowing k r) = pick (leb r (c .kept)) (ended s (closed c Idle) (endingOf k Borrowed) (lentView c)) s
 borrowPass s c Idle = s
 borrowPass s c (Reading o a m) = s
 borrowPass s c (Writing k i r a) = s

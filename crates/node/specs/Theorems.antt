@@ -7,6 +7,8 @@ use mathlib.Core.Logic.{_⊎_}
 use mathlib.Core.List.{[], _∷_}
 use Prim.Native.Nat.{ℕ, _+_, _≤_, _<_, max}
 use lib.ListN.{length}
+use Rattle.view.specs.Size.{nodes}
+use Rattle.view.specs.View.{AbsentPast}
 use Rattle.view.specs.declared.Report.{Report}
 use Rattle.view.specs.declared.View.{View}
 use Rattle.wire.specs.declared.Message.{Message}
@@ -55,6 +57,11 @@ MessageFits =
 -- The record stays one of n nodes.
 abbrev pub MessageSize : Type 0
 MessageSize = (f : ℕ) (c : Node) (s : ℕ) (m : Message) (v : View) → messageStep f c s m v .node .n ≡ c .n
+
+-- The view beside an ending has nothing past the record's n, whatever the record holds there.
+abbrev pub MessageAbsent : Type 0
+MessageAbsent = (f : ℕ) (c : Node) (s : ℕ) (m : Message) (v : View) → c .n ≤ nodes
+    → AbsentPast (c .n) (messageStep f c s m v .view)
 
 -- After a step the open operation must wait.
 abbrev pub MessageWaits : Type 0
@@ -133,6 +140,9 @@ BeginAsks =
 
 abbrev pub BeginWaits : Type 0
 BeginWaits = AtIdle (λ f c o. f < c .n → MustWait f (beginStep f c o .node) (beginStep f c o .node .wait))
+
+abbrev pub BeginAbsent : Type 0
+BeginAbsent = (f : ℕ) (c : Node) (o : Operation) → c .n ≤ nodes → AbsentPast (c .n) (beginStep f c o .view)
 
 abbrev pub BeginSize : Type 0
 BeginSize = (f : ℕ) (c : Node) (o : Operation) → beginStep f c o .node .n ≡ c .n

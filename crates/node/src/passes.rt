@@ -13,6 +13,7 @@ use table::larger;
 use table::quorum::agreeing_nodes;
 use table::quorum::is_quorum;
 use table::quorum::members;
+use view::first_of;
 ghost use mathlib.Core.Path.{_≡_};
 ghost use mathlib.Core.Bool.{true};
 ghost use Rattle.record.specs.Usable.{usable};
@@ -127,6 +128,7 @@ pub fn compare_pass(f: usize, s: Step) -> Step
 }
 
 pub fn borrow_pass(s: Step) -> Step
+    requires { ⌜ usable (s .node) ≡ true ⌝ }
     ensures { λ r. ⌜ r ≡ borrows s ⌝ }
 {
     let c = s.node;
@@ -155,7 +157,7 @@ pub fn borrow_pass(s: Step) -> Step
                     s,
                     closed_node(c, Wait::Idle),
                     ending_of(kind, Rule::Borrowed),
-                    c.keptview,
+                    first_of(c.n, c.keptview),
                 );
             }
             s

@@ -15,6 +15,7 @@ use table::views::newest_view;
 use view::LIMIT;
 use view::View;
 use view::absent;
+use view::first_of;
 use wire::Message;
 ghost use mathlib.Core.Path.{_≡_};
 ghost use Prim.Native.Nat.{_≤_};
@@ -153,11 +154,12 @@ pub fn next_tag(c: Node, i: u64, r: u64) -> u64
     c.maxtag
 }
 
-// A good round: after round 0 the next one opens, any other ends the operation.
+// A good round: after round 0 the next one opens, any other ends the operation. Its view is of n places.
 pub fn after_good(s: Step, c: Node, k: Kind, i: u64, r: u64) -> Step
-    requires { ⌜ (c .request ≤ limit) × (r ≤ limit) ⌝ }
+    requires { ⌜ (c .n ≤ 16) × (c .request ≤ limit) × (r ≤ limit) ⌝ }
     ensures { λ d. ⌜ d ≡ afterGood s c k i r ⌝ }
 {
+    let held = first_of(c.n, c.atround);
     if i == 0 {
         let t = next_tag(c, 0, r);
         let write = Message::Write {
@@ -168,15 +170,15 @@ pub fn after_good(s: Step, c: Node, k: Kind, i: u64, r: u64) -> Step
             s,
             opened_node(c, k, 1, t),
             Sent::Two(Message::Good { tag: r }, write),
-            c.atround,
+            held,
         );
     }
-    let told = after_comparing(s, c, Sent::One(Message::Good { tag: r }), c.atround);
+    let told = after_comparing(s, c, Sent::One(Message::Good { tag: r }), held);
     ended_step(
         told,
         closed_node(c, Wait::Idle),
         ending_of(k, Rule::Direct(i)),
-        c.atround,
+        held,
     )
 }
 

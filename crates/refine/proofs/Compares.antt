@@ -8,7 +8,7 @@ use mathlib.Core.List.{[], _∷_, append-nil}
 use Rattle.theory.specs.Count as C
 use Rattle.view.specs.declared.View.{View}
 use Rattle.wire.specs.declared.Message.the-variants.{Good}
-use Rattle.view.specs.View.{noView}
+use Rattle.view.specs.View.{noView, firstOf}
 use Rattle.table.specs.Quorum.{agreeing, isQuorum}
 use Rattle.record.specs.Record.{closed}
 use Rattle.record.specs.declared.Node.{Node}
@@ -19,7 +19,8 @@ use Rattle.node.specs.declared.Rule.{Rule}
 use Rattle.node.specs.declared.Rule.the-variants.{Direct, Borrowed}
 use Rattle.node.specs.declared.Step.{Step}
 use Rattle.node.specs.Step as S
-use Rattle.node.specs.Move.{opened, writing, afterGood, afterFailed, comparePass, borrowPass, compares, borrows}
+use Rattle.node.specs.Move.{opened, writing, heldView, lentView, afterGood, afterFailed, comparePass, borrowPass}
+use Rattle.node.specs.Move.{compares, borrows}
 use Rattle.eqaso.specs.Message as M
 use Rattle.eqaso.specs.Algorithm as A
 use Rattle.eqaso.specs.Algorithm.{_then_}
@@ -27,7 +28,7 @@ use Rattle.eqaso.specs.Bounded.{BoundedNode}
 use Rattle.refine.specs.Meaning.{viewOf, kindOf, number, ruleOf, endingOf}
 use Rattle.refine.specs.Follows.{SameWait, Holds, HoldsRound, Follows}
 use Rattle.refine.proofs.Choice.{Tells, le-tells-as, same-side}
-use Rattle.refine.proofs.Tables.{same-view, sized-absent}
+use Rattle.refine.proofs.Tables.{same-view, view-first, sized-absent}
 use Rattle.refine.proofs.Agreement.{agreeing-tells}
 use Rattle.refine.proofs.Turned.{follows-turned, follows-opened, follows-closed, request-next}
 use Rattle.refine.proofs.Lockstep.{Asked, Whole, Over, Together, asked-whole, whole-more, follow-pass}
@@ -42,6 +43,10 @@ same-finish n A.scan r v e = ap (A.shown (ruleOf r)) e
 over-finish : (op : A.Operation) (r : A.Rule) (l : M.View) → Over (A.finish op r l) A.idle
 over-finish (A.update p) r l = refl
 over-finish A.scan r l = refl
+
+-- A view that is given out means what the table of the record means.
+given-out : {n m : ℕ} → m ≡ n → (v : View) → viewOf n (firstOf m v) ≡ viewOf n v
+given-out {n} e v = ap (λ k. viewOf n (firstOf k v)) e ∙ view-first n v
 
 -- A quorum of agreeing nodes, at a record that follows.
 agreement-tells : {n i : ℕ} {ν : A.Node} {c : Node} (F : Follows n i ν c) → BoundedNode n ν → (f u : ℕ)
@@ -90,20 +95,20 @@ module _ {n i k : ℕ} (small : n ≤ 16) (f : ℕ) (s : Step) (t : A.Step) wher
     }
 
     module _ (held : Holds n (s .node .atround) u (t .node .all)) where
-      view : viewOf n (s .node .atround) ≡ A.viewUpto n u (t .node .all)
-      view = same-view n u (s .node .atround) (t .node .all) held
+      view : viewOf n (heldView (s .node)) ≡ A.viewUpto n u (t .node .all)
+      view = given-out (T .node .size) (s .node .atround) ∙ same-view n u (s .node .atround) (t .node .all) held
 
       -- A good round ends the operation.
       ends : (j : ℕ) (r : A.Round) → ruleOf (Direct j) ≡ A.direct r
-          → R (S.ended (S.afterComparing s (s .node) (One (Good u)) (s .node .atround)) (closed (s .node) Idle)
-          (S.endingOf (kindOf op) (Direct j)) (s .node .atround))
+          → R (S.ended (S.afterComparing s (s .node) (One (Good u)) (heldView (s .node))) (closed (s .node) Idle)
+          (S.endingOf (kindOf op) (Direct j)) (heldView (s .node)))
           (A.ended (A.finish op (A.direct r) (A.viewUpto n u (t .node .all)))
           (M.good u (A.viewUpto n u (t .node .all)) ∷ [])
           (A.waiting A.idle (t .node)))
       unfolding R
       ends j r e = record {
-        sent = whole-more (s .outbox) (One (Good u)) (s .node .atround) (T .sent) (ap (λ l. M.good u l ∷ []) view);
-        ending = same-finish n op (Direct j) (s .node .atround) view
+        sent = whole-more (s .outbox) (One (Good u)) (heldView (s .node)) (T .sent) (ap (λ l. M.good u l ∷ []) view);
+        ending = same-finish n op (Direct j) (heldView (s .node)) view
             ∙ ap (λ x. A.finish op x (A.viewUpto n u (t .node .all))) e;
         node = follows-closed (T .node);
         to = T .to;
@@ -116,10 +121,10 @@ module _ {n i k : ℕ} (small : n ≤ 16) (f : ℕ) (s : Step) (t : A.Step) wher
       unfolding R afterGood
       after-good A.round0 = subst (λ z. R
           (S.afterComparing s (opened (s .node) (kindOf op) 1 z) (Two (Good u) (writing (s .node) z))
-          (s .node .atround))
+          (heldView (s .node)))
           (A.afterGood op A.round0 u (A.viewUpto n u (t .node .all)) (t .node))) (sym next-tag) (record {
             sent = whole-more (s .outbox) (Two (Good u) (writing (s .node) (max (suc u) (t .node .maxtag))))
-                (s .node .atround) (T .sent)
+                (heldView (s .node)) (T .sent)
                 (ap₂ (λ l q. M.good u l ∷ M.write q (max (suc u) (t .node .maxtag)) ∷ []) view
                 (request-next (T .node)));
             ending = T .ending ∙ going;
@@ -168,7 +173,8 @@ module _ {n i k : ℕ} (s : Step) (t : A.Step) where
       (le-tells-as refl (T .node .kept))
       (λ h. record {
         sent = rw (append-nil (t .sent)) (T .sent);
-        ending = same-finish n op Borrowed (s .node .keptview) (T .node .keptview);
+        ending = same-finish n op Borrowed (lentView (s .node))
+            (given-out (T .node .size) (s .node .keptview) ∙ T .node .keptview);
         node = follows-closed (T .node);
         to = T .to;
         bounded = T .bounded;

@@ -11,7 +11,8 @@ use lib.Seq.{getD-set-same, getD-set-other}
 use Rattle.view.specs.declared.Report.{Report}
 use Rattle.view.specs.declared.View.{View}
 use Rattle.view.specs.Report.{noReport}
-use Rattle.view.specs.View.{noView}
+use Rattle.view.specs.View.{noView, firstOf}
+use Rattle.view.proofs.First.{first-tag, first-report}
 use Rattle.table.specs.Table.{tagOf, put, newest, newestTag, newestReport, cell, heardOf}
 use Rattle.table.proofs.Laws.{length-tab}
 use Rattle.table.proofs.Entries.{newest-tag, newest-report, put-tag, put-report, put-tag-other, put-report-other}
@@ -79,6 +80,15 @@ same-table (suc n) f g h = ap₂ (λ l x. l ++ (x ∷ [])) (same-table n f g (λ
 
 pub same-view : (n t : ℕ) (v : View) (l : List M.Value) → Holds n v t l → viewOf n v ≡ A.viewUpto n t l
 same-view n t v l h = same-table n (entryOf v) (λ w. A.newest w t l) h
+
+-- The first places of a view have what the view has of the nodes 1 to n.
+pub view-first : (n : ℕ) (v : View) → viewOf n (firstOf n v) ≡ viewOf n v
+view-first n v = same-table n (entryOf (firstOf n v)) (entryOf v) (λ w at.
+    let i : w - 1 < n = omega (arith, at .0, at .1) in
+    ap₂ (λ (t : ℕ) (p : Report). entry t p) (first-tag n v (w - 1) i) (first-report n v (w - 1) i))
+  where
+    entry : ℕ → Report → M.Entry
+    entry t p = record { tag = t; report = code p }
 
 pub view-absent : (n : ℕ) → viewOf n noView ≡ replicate n M.absent
 unfolding A.table

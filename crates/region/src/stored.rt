@@ -11,7 +11,7 @@ ghost use mathlib.Core.List.{[], _∷_, _++_};
 ghost use lib.ListN.{length};
 ghost use Rattle.octets.specs.Bytes.{part, put};
 ghost use Rattle.octets.specs.Word.{wordBytes};
-ghost use Rattle.view.specs.View.{viewBytes};
+ghost use Rattle.view.specs.View.{viewBytes, firstOf};
 ghost use Rattle.region.specs.Record.{recordSize, scalar, kindCode, kindOf, operationOf, waitOf, waitIn, waitWords, waitReport, waitBytes, viewsBytes, viewPlace, viewIn, recordBytes, codesKnown};
 
 fn kind_of(code: u64) -> Kind
@@ -109,14 +109,14 @@ pub fn codes_known(b: &[u8]) -> bool
     octets::and(code <= 4, word(b, 6) <= 1)
 }
 
-// View i of the record.
-pub fn load_view(b: &[u8], i: usize) -> View
-    requires { ⌜ (length (now b) ≡ recordSize) × (i ≤ 3) ⌝ }
-    ensures { λ r. ⌜ r ≡ viewIn (now (b .entry)) i ⌝ }
+// The first n places of view i of the record.
+pub fn load_view(b: &[u8], i: usize, n: usize) -> View
+    requires { ⌜ (length (now b) ≡ recordSize) × (i ≤ 3) × (n ≤ 16) ⌝ }
+    ensures { λ r. ⌜ r ≡ firstOf n (viewIn (now (b .entry)) i) ⌝ }
 {
     let at = 2144 + 256 * i;
     let end = at + 256;
-    view::read_view(16, &b[at..end])
+    view::read_view(n, &b[at..end])
 }
 
 // The words of a wait.

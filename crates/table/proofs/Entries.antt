@@ -16,7 +16,8 @@ use Rattle.octets.proofs.Test.{both-left, both-right, both-true}
 use Rattle.octets.specs.Test.{pick}
 use Rattle.view.specs.Report.{noReport, isNone}
 use Rattle.view.specs.Size.{limit}
-use Rattle.view.specs.View.{noView}
+use Rattle.view.specs.View.{noView, firstOf}
+use Rattle.view.proofs.First.{first-tag, first-report, first-absent}
 use Rattle.table.specs.Loop.{either, all}
 use Rattle.table.specs.Table.{at, tagOf, reportOf, put, newestTag, newestReport, newest, entryOk, entryWithin, within, heardWithin}
 use Rattle.table.proofs.Laws.{all-at, all-all, getD-tab}
@@ -45,6 +46,16 @@ within-all t v h = all-all 16 (entryWithin t v) h
 pub within-absent : (t : ℕ) → within t noView ≡ true
 unfolding within all
 within-absent t = simp (leb·zero t)
+
+-- so are its first places
+pub within-first : (n t : ℕ) (v : View) → within t v ≡ true → within t (firstOf n v) ≡ true
+within-first n t v e = within-all t (firstOf n v) (λ w l k. elim (decLe w n) [
+  | yes h ↦ let i : w - 1 < n = omega arith in
+      rw (first-tag n v (w - 1) i, first-report n v (w - 1) i) (within-at t v w e l k)
+  | no h ↦ let i : n ≤ w - 1 = omega arith in
+      let a = first-absent n v (omega arith) in
+      rw (a .no-tag (w - 1) i, a .no-report (w - 1) i) (rw (leb·zero t) refl)
+])
 
 -- an entry that keeps a tag keeps a larger one
 entry-up : (t u x : ℕ) (p : Report) → t ≤ u → entryOk t x p ≡ true → entryOk u x p ≡ true

@@ -41,6 +41,14 @@ viewOf n b =
       reports = tab n (reportAt b) ++ replicate (nodes - n) noReport;
     }
 
+-- the first n places of a view, and nothing past them
+unfoldable pub firstOf : ℕ → View → View
+firstOf n v =
+    record {
+      tags = tab n (λ i. getD (v .tags) i 0) ++ replicate (nodes - n) 0;
+      reports = tab n (λ i. getD (v .reports) i noReport) ++ replicate (nodes - n) noReport;
+    }
+
 -- a view of sixteen places with nothing past the first n
 pub record AbsentPast (n : ℕ) (v : View) : Type 0 where
   pub size : n ≤ nodes

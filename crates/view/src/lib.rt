@@ -4,7 +4,7 @@ ghost use Prim.Native.Nat.{_+_, _*_, _≤_};
 ghost use lib.ListN.{length};
 ghost use Rattle.octets.specs.Bytes.{put};
 ghost use Rattle.view.specs.Report.{noReport, isNone, reportBytes, reportNumber, reportOf, reportFrom};
-ghost use Rattle.view.specs.View.{noView, viewBytes, viewOf, entryOk, viewOk};
+ghost use Rattle.view.specs.View.{noView, viewBytes, viewOf, firstOf, entryOk, viewOk};
 
 // The most nodes; the greatest tag and request number, 2^63 - 1; the bytes of a report and of a view's entry.
 pub const NODES: usize = 16;
@@ -136,6 +136,27 @@ pub fn read_view(n: usize, b: &[u8]) -> View
         let end = at + ENTRY;
         tags[i] = octets::get_word(b, at);
         reports[i] = read_report(&b[middle..end]);
+        i += 1;
+    }
+    View {
+        tags: tags,
+        reports: reports,
+    }
+}
+
+// The first n places of a view, and nothing past them.
+pub fn first_of(n: usize, v: View) -> View
+    requires { ⌜ n ≤ 16 ⌝ }
+    ensures { λ r. ⌜ r ≡ firstOf n v ⌝ }
+{
+    let all = v.tags;
+    let each = v.reports;
+    let mut tags = [0u64; 16];
+    let mut reports = [none(); 16];
+    let mut i = 0;
+    while i < n {
+        tags[i] = all[i];
+        reports[i] = each[i];
         i += 1;
     }
     View {

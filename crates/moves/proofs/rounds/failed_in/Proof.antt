@@ -11,9 +11,9 @@ use Rattle.moves.proofs.Turned.{is-step, failed-open, failed-lend, fail
 use Rattle.moves.proofs.rounds.failed_in.Statement.{statement}
 use Rattle.moves.proofs.rounds.failed_in.Tie as tie
 
-add-t15 : tie.Need-add-t15
+add-t16 : tie.Need-add-t16
 unfolding recordOf
-add-t15 c = search needs
+add-t16 c = search needs
 
 returns : tie.Need-returns
 unfolding recordOf
@@ -55,7 +55,7 @@ returns-3 c =
 pub failed-in-spec : {M : Type 1} → statement M
 failed-in-spec =
     tie.close
-    (tie.spec (λ c κs. search needs) (λ c κs. search needs) add-t15 (λ c. search needs) (λ c κs. search needs)
+    (tie.spec (λ c κs. search needs) (λ c κs. search needs) add-t16 (λ c. search needs) (λ c κs. search needs)
     (λ c κs. search needs) (λ c κs. search needs) (λ c κs. search needs) (λ c. search needs) returns (λ c κs. search needs)
     (λ c κs. search needs) (λ c. search needs) returns-2 (λ c κs. search needs) (λ c κs. search needs) (λ c. search needs)
     returns-3)

@@ -5,13 +5,13 @@ use Prim.Native.Nat.{ℕ}
 use borrow.Author.Tests.{eq-eqb, ne-eqb}
 use Rattle.node.specs.Move.{opened}
 use Rattle.region.specs.Record.{recordOf, recordBytes}
-use Rattle.moves.proofs.Turned.{is-step, good-open, good-end}
+use Rattle.moves.proofs.Turned.{is-step, places-of, good-open, good-end}
 use Rattle.moves.proofs.rounds.good_in.Statement.{statement}
 use Rattle.moves.proofs.rounds.good_in.Tie as tie
 
-add-t19 : tie.Need-add-t19
+add-t20 : tie.Need-add-t20
 unfolding recordOf
-add-t19 c = search needs
+add-t20 c = search needs
 
 returns : tie.Need-returns
 unfolding recordOf
@@ -20,7 +20,8 @@ returns c =
     let a = start .before .before .before .before .args in
     let d = recordOf (a .r .now) in
     let zero = start .if1 .taken in
-    let held = start .before .load-view .ensures in
+    let p = start .before .before .before .before .pre in
+    let held = start .before .load-view .ensures ∙ places-of (a .r .now) 2 (p .1) in
     let next = c .before .before .before .before .before .before .before .before .next-in .ensures in
     let request = c .before .before .before .before .before .before .get-word .ensures in
     let bytes = c .before .before .before .before .open-in .ensures in
@@ -33,13 +34,15 @@ unfolding recordOf
 returns-2 c =
     let a = c .before .before .before .before .before .before .before .before .before .before .args in
     let nonzero = c .before .before .before .before .before .before .if1 .left in
-    let held = c .before .before .before .before .before .before .before .load-view .ensures in
+    let p = c .before .before .before .before .before .before .before .before .before .before .pre in
+    let held = c .before .before .before .before .before .before .before .load-view .ensures
+    ∙ places-of (a .r .now) 2 (p .1) in
     is-step (good-end (recordOf (a .r .now)) (a .to) (a .sent) (a .k) (a .i) (a .t) (ne-eqb _ _ nonzero))
     (simp (c .effect-of2 .ensures, c .before .ending-of .ensures, held)) (c .before .before .before .before .close-in .ensures)
 
 pub good-in-spec : {M : Type 1} → statement M
 good-in-spec =
     tie.close
-    (tie.spec (λ c κs. search needs) (λ c κs. search needs) (λ c κs. search needs) add-t19 (λ c κs. search needs)
+    (tie.spec (λ c κs. search needs) (λ c κs. search needs) (λ c κs. search needs) add-t20 (λ c κs. search needs)
     (λ c κs. search needs) (λ c κs. search needs) (λ c. search needs) returns (λ c κs. search needs) (λ c κs. search needs)
     (λ c κs. search needs) (λ c. search needs) returns-2)

@@ -1,21 +1,26 @@
 -- `node::passes::borrow_pass` meets its contract. Assumes nothing.
 use borrow.Author.Needs.{needs}
 use borrow.Author.Tests.{le-leb, lt-leb}
+use Rattle.record.proofs.Parts.{parts}
 use Rattle.node.specs.Move.{borrowPass}
 use Rattle.node.proofs.passes.borrow_pass.Statement.{statement}
 use Rattle.node.proofs.passes.borrow_pass.Tie as tie
 
+first-of-requires : tie.Need-first-of-requires
+first-of-requires c κs = parts _ (c .before .before .before .before .before .before .before .before .pre) .n-high
+
 returns : tie.Need-returns
 unfolding borrowPass
 returns c =
-    let c3 = c .before .before .before in
-    let c6 = c3 .before .before .before in
-    rw (c6 .wait .given .1) (simp (
+    let c4 = c .before .before .before .before in
+    let c7 = c4 .before .before .before in
+    rw (c7 .wait .given .1) (simp (
       le-leb _ _
-          (c3 .if1 .taken),
+          (c4 .if1 .taken),
       c .ended-step .ensures,
-      c .before .ending-of .ensures,
-      c .before .before .closed-node .ensures,
+      c .before .first-of .ensures,
+      c .before .before .ending-of .ensures,
+      c .before .before .before .closed-node .ensures,
     ))
 
 returns-2 : tie.Need-returns-2
@@ -42,5 +47,5 @@ pub borrow-pass-spec : {M : Type 1} → statement M
 borrow-pass-spec =
     tie.close
     (tie.spec (λ c. search needs) (λ c. search needs) (λ c. search needs) (λ c. search needs) (λ c. search needs)
-    (λ c κs. search needs) (λ c κs. search needs)
+    (λ c κs. search needs) (λ c κs. search needs) first-of-requires
     (λ c κs. search needs) returns returns-2 returns-3 returns-4 returns-5 returns-6)

@@ -16,7 +16,9 @@ after-good-requires : tie.Need-after-good-requires
 after-good-requires c κs =
     let c10 = c .before .before .before .before .before .before .before .before .before .before in
     let c13 = c10 .before .before .before in
-    let d = c13 .args .s .node in let p = parts d (c13 .pre) in (p .request-high, comparing-most d p (c10 .wait .given .1) .tag)
+    let d = c13 .args .s .node in
+    let p = parts d (c13 .pre) in
+    (p .n-high, p .request-high, comparing-most d p (c10 .wait .given .1) .tag)
 
 returns : tie.Need-returns
 returns c =

@@ -3,7 +3,7 @@ use borrow.Author.Needs.{needs}
 use mathlib.Core.Path.{ap, _∙_}
 use Rattle.record.proofs.Parts.{parts, usable-of}
 use Rattle.node.specs.Move.{reads, writes, compares, borrows, moveOn}
-use Rattle.node.proofs.Safe.{reads-parts, writes-parts}
+use Rattle.node.proofs.Safe.{reads-parts, writes-parts, compares-parts}
 use Rattle.node.proofs.passes.move_on.Statement.{statement}
 use Rattle.node.proofs.passes.move_on.Tie as tie
 
@@ -15,6 +15,12 @@ compare-pass-requires : tie.Need-compare-pass-requires
 compare-pass-requires c κs = let a = c .before .before .args in
     rw (c .write-pass .ensures, c .before .read-pass .ensures)
     (usable-of _ (writes-parts (a .f) (reads (a .f) (a .s)) (reads-parts (a .f) (a .s) (parts _ (c .before .before .pre)))))
+
+borrow-pass-requires : tie.Need-borrow-pass-requires
+borrow-pass-requires c κs = let a = c .before .before .before .args in
+    rw (c .compare-pass .ensures, c .before .write-pass .ensures, c .before .before .read-pass .ensures)
+    (usable-of _ (compares-parts (a .f) (writes (a .f) (reads (a .f) (a .s))) (writes-parts (a .f) (reads (a .f) (a .s))
+    (reads-parts (a .f) (a .s) (parts _ (c .before .before .before .pre))))))
 
 returns : tie.Need-returns
 unfolding moveOn
@@ -28,4 +34,4 @@ returns c =
 pub move-on-spec : {M : Type 1} → statement M
 move-on-spec =
     tie.close
-    (tie.spec (λ c κs. search needs) write-pass-requires compare-pass-requires (λ c κs. search needs) returns)
+    (tie.spec (λ c κs. search needs) write-pass-requires compare-pass-requires borrow-pass-requires returns)

@@ -15,6 +15,7 @@ returns c =
       c .after-comparing .ensures,
       c .before .opened-node .ensures,
       c3 .next-tag .ensures,
+      c3 .before .before .first-of .ensures,
     )
 
 returns-2 : tie.Need-returns-2
@@ -28,10 +29,12 @@ returns-2 c =
       c3 .after-comparing2 .ensures,
       c .before .before .closed-node .ensures,
       c .before .ending-of .ensures,
+      c3 .before .before .first-of .ensures,
     )
 
 pub after-good-spec : {M : Type 1} → statement M
 after-good-spec =
     tie.close
-    (tie.spec (λ c κs. search needs) (λ c. search needs) (λ c κs. search needs) (λ c κs. search needs) returns
-    (λ c κs. search needs) (λ c κs. search needs) (λ c κs. search needs) (λ c κs. search needs) returns-2)
+    (tie.spec (λ c κs. search needs) (λ c κs. search needs) (λ c. search needs) (λ c κs. search needs)
+    (λ c κs. search needs) returns (λ c κs. search needs) (λ c κs. search needs) (λ c κs. search needs)
+    (λ c κs. search needs) returns-2)

@@ -1,7 +1,9 @@
 use borrow.Author.Needs.{needs}
-use mathlib.Core.Path.{_∙_, ap, refl}
+use mathlib.Core.Path.{_∙_, ap, sym, refl}
+use Rattle.octets.specs.Bytes.{part}
 use Rattle.octets.proofs.Lent.{lent}
 use Rattle.view.specs.View.{viewOf}
+use Rattle.view.proofs.First.{first-read}
 use Rattle.region.specs.Record.{viewPlace}
 use Rattle.region.proofs.stored.load_view.Statement.{statement}
 use Rattle.region.proofs.stored.load_view.Tie as tie
@@ -28,7 +30,12 @@ read-view-requires : tie.Need-read-view-requires
 read-view-requires c κs = search needs
 
 returns : tie.Need-returns
-returns c = c .read-view .ensures ∙ ap (viewOf 16) (lent (c .before .before .before .args .b .now) (viewPlace (c .before .before .before .args .i)) 256 refl)
+returns c =
+    let a = c .before .before .before .args in
+    let b = a .b .now in
+    let at = viewPlace (a .i) in
+    c .read-view .ensures ∙ ap (viewOf (a .n)) (lent b at 256 refl)
+    ∙ sym (first-read (a .n) (part b at 256) (c .before .before .before .pre .2))
 
 pub load-view-spec : {M : Type 1} → statement M
 load-view-spec =

@@ -1,0 +1,92 @@
+-- The view beside the answer of an event has nothing past the n stated: the claims of specs/Shown.
+use Prim.Native.Nat.{ℕ, _≤_}
+use mathlib.Core.Path.{_≡_, refl, subst}
+use mathlib.Core.Bool.{Bool, true, not}
+use mathlib.Core.List.{List}
+use lib.Dec.{ltb}
+use Rattle.octets.specs.Answer.{Answer, result, refused}
+use Rattle.octets.specs.Test.{both}
+use Rattle.octets.proofs.Test.{both-right}
+use Rattle.view.specs.Size.{nodes}
+use Rattle.view.specs.View.{noView, viewOf, AbsentPast}
+use Rattle.view.specs.declared.View.{View}
+use Rattle.view.proofs.First.{none-absent}
+use Rattle.wire.specs.Codec.{front, viewAt}
+use Rattle.wire.specs.declared.Message.{Message}
+use Rattle.table.specs.Quorum.{faults}
+use Rattle.record.specs.Usable.{isOpen, full}
+use Rattle.node.specs.Move.{messageStep, beginStep}
+use Rattle.node.specs.Stale.{staleMessage}
+use Rattle.node.specs.declared.Step.{Step}
+use Rattle.node.proofs.Numbers.{on-pick}
+use Rattle.node.proofs.Theorems as step
+use Rattle.region.specs.Channel.{countOf, first}
+use Rattle.block.specs.Block.{takeOff}
+use Rattle.entries.specs.Entries.{entries}
+use Rattle.layout.specs.Layout.{stated, stopped, node, channel, onBlock, fits, sound, isNode}
+use Rattle.cluster.specs.declared.Extent.{Extent}
+use Rattle.cluster.specs.Event.{Result, refuse, demand, within, isCut, mayCut, stepped, roomy, settle}
+use Rattle.cluster.specs.Event.{deliverMessage, begin, deliver}
+use Rattle.cluster.specs.Shown as claim
+use Rattle.cluster.proofs.Handed.{sound-n}
+
+module _ (n : ℕ) (h : n ≤ nodes) where
+  abbrev Shows : Result → Type 0
+  Shows r = AbsentPast n (r .view)
+
+  -- a refusal shows nothing
+  asked : (t : Bool) (k : ℕ) (b : List ℕ) (next : Result) → (t ≡ true → Shows next) → Shows (demand t k b next)
+  asked t k b next g = on-pick Shows t next (refuse k b) g (λ e. none-absent n h)
+
+  -- a step shows its own view, and a cut none
+  settled : (a c : ℕ) (x : Extent) (s : Step) (found b : List ℕ) → AbsentPast n (s .view)
+      → Shows (settle n a c x s found b)
+  unfolding settle
+  settled a c x s found b k =
+      asked (roomy n c (within x (entries n a (s .outbox))) (stepped n c x s found)) 11 b _
+      (λ e. on-pick (AbsentPast n) (isCut x) noView (s .view) (λ e. none-absent n h) (λ e. k))
+
+-- a record of sound bytes has the n that they state
+of-node : (b : List ℕ) → sound b ≡ true → (c : ℕ) → isNode (stated b) c ≡ true → stated b ≤ nodes → (v : View)
+    → (node b c .n ≤ nodes → AbsentPast (node b c .n) v) → AbsentPast (stated b) v
+of-node b s c i h v k =
+    let e : node b c .n ≡ stated b = sound-n b s (stated b) c refl i in
+    subst (λ (m : ℕ). AbsentPast m v) e (k (rw e h))
+
+pub begin-absent : claim.BeginAbsent
+unfolding begin
+begin-absent c o x b h =
+    let n = stated b in
+    asked n h (fits b) 12 b _ (λ f.
+    asked n h (sound b) 2 b _ (λ s.
+    asked n h (isNode n c) 3 b _ (λ i.
+    asked n h (not (stopped b c)) 4 b _ (λ e.
+    asked n h (not (isOpen (node b c .wait))) 5 b _ (λ e.
+    asked n h (not (full (node b c))) 6 b _ (λ e.
+    asked n h (mayCut n x b) 10 b _ (λ e.
+    settled n h c c x (beginStep (faults n) (node b c) o) b b
+    (of-node b s c i h _ (step.begin-absent (faults n) (node b c) o)))))))))
+
+-- what waits is read, or refused
+handed : (a c : ℕ) (x : Extent) (b : List ℕ) → stated b ≤ nodes → sound b ≡ true → isNode (stated b) c ≡ true
+    → (s : List ℕ) (p : Answer (Message × ℕ)) → AbsentPast (stated b) (deliverMessage (stated b) a c x b s p .view)
+handed a c x b h q i s (refused k) = none-absent (stated b) h
+handed a c x b h q i s (result p) =
+    let n = stated b in
+    let v = viewOf n (viewAt n s) in
+    asked n h (not (staleMessage (node b c) a (p .0))) 9 b _ (λ e.
+    asked n h (mayCut n x b) 10 b _ (λ e.
+    settled n h a c x (messageStep (faults n) (node b c) a (p .0) v) (onBlock c (takeOff a) b) b
+    (of-node b q c i h _ (step.message-absent (faults n) (node b c) a (p .0) v))))
+
+pub deliver-absent : claim.DeliverAbsent
+unfolding deliver
+deliver-absent a c x b h =
+    let n = stated b in
+    asked n h (fits b) 12 b _ (λ f.
+    asked n h (sound b) 2 b _ (λ s.
+    asked n h (both (isNode n a) (isNode n c)) 3 b _ (λ i.
+    asked n h (not (stopped b c)) 4 b _ (λ e.
+    asked n h (ltb 0 (countOf (channel b a c))) 8 b _ (λ e.
+    handed a c x b h s (both-right (isNode n a) (isNode n c) i) (first (channel b a c))
+    (front n (first (channel b a c))))))))
