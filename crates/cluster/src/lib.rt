@@ -30,7 +30,7 @@ use record::blank_node;
 use region::channel::index;
 use view::View;
 use wire::Found;
-use wire::read_prefix;
+use wire::parse_prefix;
 ghost use mathlib.Core.Path.{_≡_};
 ghost use mathlib.Core.Bool.{true, false};
 ghost use Prim.Native.Nat.{_+_, _*_, _≤_};
@@ -241,7 +241,7 @@ pub fn deliver(b: &mut [u8], a: usize, c: usize, x: Extent) -> Answer
     if waiting_at(b, a, c) == 0 {
         return refused(8);
     }
-    match read_prefix(n, first_at(b, a, c)) {
+    match parse_prefix(n, first_at(b, a, c)) {
         Found::Refused(_) => refused(7),
         Found::At(m, _) => hand_over(b, n, a, c, m, x),
     }

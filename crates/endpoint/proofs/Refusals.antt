@@ -8,7 +8,7 @@ use lib.Dec.{leb, ltb}
 use lib.ListN.{length}
 use Rattle.octets.specs.Answer.{result, refused}
 use Rattle.octets.specs.Test.{both}
-use Rattle.wire.specs.Codec.{decode}
+use Rattle.wire.specs.Codec.{decode, viewPart}
 use Rattle.wire.specs.declared.Message.{Message}
 use Rattle.table.specs.Quorum.{faults}
 use Rattle.record.specs.Usable.{usable, isOpen, full}
@@ -61,17 +61,18 @@ module _ (c : Node) (s : ℕ) (b out : List ℕ) where
         unfolding message taken
         message-7 r e = rw (h, u, k, e)
 
-        pub message-read : (m : Message) → decode (c .n) b ≡ result m → message c s b out ≡ taken c s b out (result m)
+        pub message-read : (m : Message) → decode (c .n) b ≡ result m → message c s b out
+            ≡ taken c s (viewPart (c .n) b) out (result m)
         unfolding message
         message-read m e = rw (h, u, k, e)
 
--- a message of the layout
-module _ (c : Node) (s : ℕ) (b out : List ℕ) (m : Message) where
-  pub taken-9 : staleMessage c s m ≡ true → taken c s b out (result m) ≡ refuse 9 c out
+-- a message of the layout, with the bytes of its view
+module _ (c : Node) (s : ℕ) (v out : List ℕ) (m : Message) where
+  pub taken-9 : staleMessage c s m ≡ true → taken c s v out (result m) ≡ refuse 9 c out
   unfolding taken
   taken-9 e = rw e
 
   pub taken-goes : staleMessage c s m ≡ false
-      → taken c s b out (result m) ≡ letOut (messageStep (faults (c .n)) c s m (beside (c .n) b m)) out
+      → taken c s v out (result m) ≡ letOut (messageStep (faults (c .n)) c s m (beside (c .n) v m)) out
   unfolding taken
   taken-goes e = rw e

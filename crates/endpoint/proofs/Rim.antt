@@ -2,16 +2,12 @@
 use mathlib.Core.Path.{_≡_}
 use mathlib.Core.Bool.{true}
 use mathlib.Core.List.{List, [], _∷_}
-use Prim.Native.Nat.{ℕ, _*_, _≤_}
-use lib.ListN.{length}
-use Rattle.octets.specs.Answer.{result}
+use Prim.Native.Nat.{ℕ, _≤_}
 use Rattle.view.specs.View.{viewBytes, viewOf}
 use Rattle.view.specs.declared.View.{View}
-use Rattle.wire.specs.Codec.{decode, viewPart}
+use Rattle.wire.specs.Layout.{allowed}
 use Rattle.wire.specs.declared.Message.{Message}
 use Rattle.wire.specs.declared.Message.the-variants.{Read, ReadAnswer, Write, WriteAnswer, Echo, Value, Good}
-use Rattle.wire.proofs.Numbers.{view-length}
-use Rattle.wire.proofs.RoundTrip.{read-only}
 use Rattle.node.specs.Allowed.{lawful}
 use Rattle.node.specs.Claims.{AllLawful}
 use Rattle.node.specs.Stale.{writerWithin}
@@ -24,25 +20,20 @@ all-allowed n v [] l h = tt
 all-allowed n v (m ∷ ms) l h = (lawful-allowed n m v l (h .0), all-allowed n v ms l (h .1))
 
 -- only a good message looks at the view
-beside-lawful : (n : ℕ) (b : List ℕ) (m : Message) → lawful n m (viewOf n (viewPart n b)) ≡ true
-    → lawful n m (beside n b m) ≡ true
-beside-lawful n b (Read q) h = h
-beside-lawful n b (ReadAnswer q t) h = h
-beside-lawful n b (Write q t) h = h
-beside-lawful n b (WriteAnswer q t) h = h
-beside-lawful n b (Echo t) h = h
-beside-lawful n b (Value t w p) h = h
-beside-lawful n b (Good t) h = h
+beside-lawful : (n : ℕ) (v : List ℕ) (m : Message) → lawful n m (viewOf n v) ≡ true → lawful n m (beside n v m) ≡ true
+beside-lawful n v (Read q) h = h
+beside-lawful n v (ReadAnswer q t) h = h
+beside-lawful n v (Write q t) h = h
+beside-lawful n v (WriteAnswer q t) h = h
+beside-lawful n v (Echo t) h = h
+beside-lawful n v (Value t w p) h = h
+beside-lawful n v (Good t) h = h
 
-module _ (n : ℕ) (b : List ℕ) where
+module _ (n : ℕ) (v : List ℕ) (m : Message) (h : allowed n m v ≡ true) where
   -- a message that is read is lawful, with the view that it carries
-  pub read-lawful : (m : Message) → decode n b ≡ result m → lawful n m (beside n b m) ≡ true
-  read-lawful m e = beside-lawful n b m (allowed-lawful n m (viewPart n b) (read-only n b m e .allowed-is))
+  pub read-lawful : lawful n m (beside n v m) ≡ true
+  read-lawful = beside-lawful n v m (allowed-lawful n m v h)
 
   -- its writer is one of 1 to 16, where it is a value
-  pub read-writer : (m : Message) → n ≤ 16 → decode n b ≡ result m → writerWithin 16 m ≡ true
-  read-writer m l e = lawful-writer n m (beside n b m) l (read-lawful m e)
-
-  -- the place of its view has 16n bytes, where it is a good one
-  pub good-length : (t : ℕ) → decode n b ≡ result (Good t) → length (viewPart n b) ≡ 16 * n
-  good-length t e = view-length n t (viewPart n b) (read-only n b (Good t) e .allowed-is)
+  pub read-writer : n ≤ 16 → writerWithin 16 m ≡ true
+  read-writer l = lawful-writer n m (beside n v m) l read-lawful

@@ -61,26 +61,27 @@ begin c o out =
     (pick (full c) (refuse 6 c out) (letOut (beginStep (faults (c .n)) c o) out)))
     (refuse 2 c out))
 
--- the view that a good message carries
+-- the view that a good message carries, in v
 abbrev pub beside : ℕ → List ℕ → Message → View
-beside n b (Read q) = noView
-beside n b (ReadAnswer q t) = noView
-beside n b (Write q t) = noView
-beside n b (WriteAnswer q t) = noView
-beside n b (Echo t) = noView
-beside n b (Value t w p) = noView
-beside n b (Good t) = viewOf n (viewPart n b)
+beside n v (Read q) = noView
+beside n v (ReadAnswer q t) = noView
+beside n v (Write q t) = noView
+beside n v (WriteAnswer q t) = noView
+beside n v (Echo t) = noView
+beside n v (Value t w p) = noView
+beside n v (Good t) = viewOf n v
 
+-- by what was read: the answer, and the bytes v of its view
 unfoldable pub taken : Node → ℕ → List ℕ → List ℕ → Answer Message → Outcome
-taken c s b out (refused k) = refuse 7 c out
-taken c s b out (result m) =
+taken c s v out (refused k) = refuse 7 c out
+taken c s v out (result m) =
     pick (staleMessage c s m) (refuse 9 c out)
-    (letOut (messageStep (faults (c .n)) c s m (beside (c .n) b m)) out)
+    (letOut (messageStep (faults (c .n)) c s m (beside (c .n) v m)) out)
 
 -- Message. 12, 2 as above. 3: sender not 1 to n. 7: not of the layout. 9: see staleMessage.
 unfoldable pub message : Node → ℕ → List ℕ → List ℕ → Outcome
 message c s b out =
     pick (ltb (length out) 512) (refuse 12 c out)
     (pick (usable c)
-    (pick (both (leb 1 s) (leb s (c .n))) (taken c s b out (decode (c .n) b)) (refuse 3 c out))
+    (pick (both (leb 1 s) (leb s (c .n))) (taken c s (viewPart (c .n) b) out (decode (c .n) b)) (refuse 3 c out))
     (refuse 2 c out))

@@ -21,7 +21,7 @@ use view::absent;
 use view::read_view;
 use wire::Message;
 use wire::Parsed;
-use wire::view_part;
+use wire::views::parsed_view;
 ghost use mathlib.Core.Path.{_≡_};
 ghost use mathlib.Core.Bool.{true};
 ghost use mathlib.Core.List.{List, []};
@@ -30,7 +30,7 @@ ghost use lib.ListN.{length};
 ghost use Rattle.octets.specs.Answer.{result};
 ghost use Rattle.view.specs.declared.View.{View};
 ghost use Rattle.record.specs.Usable.{usable};
-ghost use Rattle.wire.specs.Codec.{decode};
+ghost use Rattle.wire.specs.Layout.{allowed};
 ghost use Rattle.node.specs.Claims.{AllLawful, sizes};
 ghost use Rattle.node.specs.Step.{messages};
 ghost use Rattle.node.specs.Told.{told, shown};
@@ -149,10 +149,10 @@ pub fn begin(c: Node, o: Operation, out: &mut [u8]) -> Reply
     refused_reply(2, c)
 }
 
-// The view that a good message carries.
-fn view_beside(n: usize, b: &[u8], m: Message) -> View
-    requires { ⌜ (n ≤ 16) × (decode n (now b) ≡ result m) ⌝ }
-    ensures { λ r. ⌜ r ≡ beside n (now (b .entry)) m ⌝ }
+// The view that a good message carries, out of its bytes v.
+fn view_beside(n: usize, v: &[u8], m: Message) -> View
+    requires { ⌜ (n ≤ 16) × (allowed n m (now v) ≡ true) ⌝ }
+    ensures { λ r. ⌜ r ≡ beside n (now (v .entry)) m ⌝ }
 {
     match m {
         Message::Read { request: _ } => absent(),
@@ -165,21 +165,21 @@ fn view_beside(n: usize, b: &[u8], m: Message) -> View
             writer: _,
             report: _,
         } => absent(),
-        Message::Good { tag: _ } => read_view(n, view_part(n, b)),
+        Message::Good { tag: _ } => read_view(n, v),
     }
 }
 
-// A message that was read.
-fn taken_message(c: Node, s: usize, b: &[u8], m: Message, out: &mut [u8]) -> Reply
+// A message that was read, with the bytes of its view.
+fn taken_message(c: Node, s: usize, v: &[u8], m: Message, out: &mut [u8]) -> Reply
     requires { ⌜ (usable c ≡ true) × (1 ≤ s) × (s ≤ c .n)
-        × (decode (c .n) (now b) ≡ result m) × (512 ≤ length (now out)) ⌝ }
-    ensures { λ r. ⌜ tells r (now (out .exit)) (taken c s (now (b .entry)) (now (out .entry)) (result m)) ⌝ }
+        × (allowed (c .n) m (now v) ≡ true) × (512 ≤ length (now out)) ⌝ }
+    ensures { λ r. ⌜ tells r (now (out .exit)) (taken c s (now (v .entry)) (now (out .entry)) (result m)) ⌝ }
 {
     if is_stale_message(c, s, m) {
         return refused_reply(9, c);
     }
-    let v = view_beside(c.n, b, m);
-    let_out(message_step(most_faults(c.n), c, s, m, v), out)
+    let view = view_beside(c.n, v, m);
+    let_out(message_step(most_faults(c.n), c, s, m, view), out)
 }
 
 // Handles a message from node s; the messages that it gives rise to go to `out`.
@@ -191,8 +191,9 @@ pub fn message(c: Node, s: usize, b: &[u8], out: &mut [u8]) -> Reply
     }
     if is_usable(c) {
         if and(1 <= s, s <= c.n) {
-            return match wire::read(c.n, b) {
-                Parsed::Got(m) => taken_message(c, s, b, m, out),
+            let p = wire::parse(c.n, b);
+            return match p {
+                Parsed::Got(m) => taken_message(c, s, parsed_view(b, p), m, out),
                 Parsed::Refused(_) => refused_reply(7, c),
             };
         }

@@ -107,7 +107,7 @@ pub extern "C" fn snapshot_read(n: usize, b: &[u8], numbers: &mut [u64; 5]) -> u
     ensures { λ r. ⌜ (r ≡ readCode (decode n (now (b .entry))))
         × (now (numbers .exit) ≡ readNumbers (decode n (now (b .entry))) (now (numbers .entry))) ⌝ }
 {
-    match wire::read(n, b) {
+    match wire::parse(n, b) {
         Parsed::Got(m) => {
             *numbers = message_numbers(m);
             0

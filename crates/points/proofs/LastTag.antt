@@ -14,6 +14,7 @@ use Rattle.view.specs.Size.{limit}
 use Rattle.view.specs.View.{noView}
 use Rattle.view.specs.declared.Report.{Report}
 use Rattle.wire.specs.Layout.{isRequest, isTag, encode, allowed}
+use Rattle.wire.specs.Codec.{viewPart}
 use Rattle.wire.specs.declared.Message.the-variants.{ReadAnswer, Write, Value}
 use Rattle.wire.proofs.RoundTrip.{read-back, read-only}
 use Rattle.table.specs.Loop.{all, count}
@@ -56,7 +57,7 @@ module _ (c : Node) (o : Operation) (m s t : ℕ) (b out : List ℕ) (L : LastAn
   steps : N.message c s b out ≡ N.letOut step out
   steps = message-read c s b out (le-ltb (length out) 512 (L .room)) (L .is-usable)
       (both-true (le-leb 1 s (L .sender .0)) (le-leb s (c .n) (L .sender .1))) (ReadAnswer (c .request) t) (L .says)
-      ∙ taken-goes c s b out (ReadAnswer (c .request) t) refl
+      ∙ taken-goes c s (viewPart (c .n) b) out (ReadAnswer (c .request) t) refl
 
   quorum : isQuorum (c .n) f (size (c .n) (with (L .answered) s)) ≡ true
   quorum = le-leb (c .n - f) (size (c .n) (with (L .answered) s))

@@ -1,19 +1,29 @@
 -- The claims of specs/Laws hold.
-use mathlib.Core.Path.{sym, ap, _∙_}
+use mathlib.Core.Path.{_≡_, refl, sym, ap, _∙_}
 use mathlib.Core.List.{List, [], append-nil}
-use Prim.Native.Nat.{ℕ}
+use Prim.Native.Nat.{ℕ, _-_, _*_}
+use native.Mathlib.Omega.{arith}
+use lib.ListN.{drop}
+use Rattle.octets.specs.Answer.{Answer, result, refused}
+use Rattle.octets.specs.Bytes.{part}
 use Rattle.wire.specs.Layout.{encode}
-use Rattle.wire.specs.Codec.{viewAt, viewPart}
+use Rattle.wire.specs.Codec.{front, decode, viewAt, viewRead, viewPart, addressRead, viewAddress}
+use Rattle.wire.specs.Codec.{viewFound, frontPart, addressFound, frontAddress}
+use Rattle.wire.specs.declared.Message.{Message}
 use Rattle.wire.specs.declared.Message.the-variants.{Good}
 use Rattle.wire.specs.Laws as claim
 use Rattle.wire.proofs.Numbers as numbers
 use Rattle.wire.proofs.RoundTrip as trip
+use Rattle.wire.proofs.Handed as views
 
 pub read-back : claim.ReadBack
 read-back = trip.read-back
 
 pub view-back : claim.ViewBack
 view-back = trip.view-back
+
+pub front-view-back : claim.FrontViewBack
+front-view-back = trip.front-view-back
 
 pub front-back : claim.FrontBack
 front-back = trip.front-back
@@ -37,7 +47,41 @@ pub lengths : claim.Lengths
 lengths = numbers.length-encode
 
 pub view-place : claim.ViewPlace
+unfolding viewAddress
 view-place n t b e =
     let w = trip.read-only n b (Good t) e in
-    let v = viewPart n b in
-    sym (ap (viewAt n) (w .bytes ∙ sym (append-nil (encode (Good t) v))) ∙ trip.view-place n t v [] (w .allowed-is))
+    let v = viewPart n b in (
+      views.good-long n t b e,
+      sym (ap (viewAt n) (w .bytes ∙ sym (append-nil (encode (Good t) v)))
+          ∙ trip.view-place n t v [] (w .allowed-is)),
+      λ p. ap (λ (a : Answer Message). addressRead a p) e,
+    )
+
+pub front-view-place : claim.FrontViewPlace
+unfolding frontPart frontAddress
+front-view-place n t k b e =
+    let l = views.good-front n t k b e in
+    let i = l .0 in
+    let j : k - 18 ≡ 16 * n = omega (arith, i) in (
+      l .0,
+      l .1,
+      ap (λ (a : Answer (Message × ℕ)). viewFound b a) e ∙ ap (λ (m : ℕ). part b 18 m) j,
+      λ p. ap (λ (a : Answer (Message × ℕ)). addressFound a p) e,
+    )
+
+pub view-only-good : claim.ViewOnlyGood
+unfolding viewPart
+view-only-good n b h = go (decode n b) refl
+  where
+    go : (a : Answer Message) → decode n b ≡ a → viewRead b a ≡ []
+    go (result m) e = views.view-none m (drop 18 b) (λ t q. h t (e ∙ ap (λ (x : Message). result x) q))
+    go (refused c) e = refl
+
+pub front-view-only-good : claim.FrontViewOnlyGood
+unfolding frontPart
+front-view-only-good n b h = go (front n b) refl
+  where
+    go : (a : Answer (Message × ℕ)) → front n b ≡ a → viewFound b a ≡ []
+    go (result p) e = views.view-none (p .0) (part b 18 (p .1 - 18))
+        (λ t q. h t (p .1) (e ∙ ap (λ (x : Message). result (x, p .1)) q))
+    go (refused c) e = refl

@@ -1,23 +1,24 @@
 -- Reading gives back what was written, and only what could have been written is read. For every n from 1 to 16.
-use Prim.Native.Nat.{ℕ, _+_, _*_}
+use Prim.Native.Nat.{ℕ, _-_, _*_}
 use mathlib.Core.Path.{_≡_, refl, sym, ap, ap₂, _∙_}
 use mathlib.Core.Bool.{Bool, true, false}
 use mathlib.Core.List.{List, [], _++_, append-nil}
 use mathlib.Core.Logic.{_↔_}
 use native.Mathlib.Omega.{arith}
-use lib.ListN.{length, take, drop, getD, take-append-drop}
+use lib.ListN.{length, take, drop, take-append-drop}
 use lib.Seq.{take-at, take-length}
 use lib.Dec.{eqb}
 use borrow.Author.Tests.{eq-eqb, eqb-true}
 use Rattle.octets.specs.Answer.{Answer, result, refused}
 use Rattle.octets.specs.Test.{pick, both}
 use Rattle.octets.specs.Bytes.{part}
-use Rattle.octets.proofs.Test.{both-left, both-right, pick-same}
+use Rattle.octets.proofs.Test.{both-left, both-right}
 use Rattle.octets.proofs.Number.{num-be-suc}
 use Rattle.view.specs.Size.{isSize}
 use Rattle.view.proofs.ReportBytes.{report-back}
 use Rattle.wire.specs.Layout.{encode, allowed}
-use Rattle.wire.specs.Codec.{said, viewAt, begins, frontIs, front, whole, decode, viewPart, viewIn}
+use Rattle.wire.specs.Codec.{said, viewAt, begins, frontIs, front, whole, decode}
+use Rattle.wire.specs.Codec.{viewIn, viewRead, viewPart, viewFound, frontPart}
 use Rattle.wire.specs.declared.Message.{Message}
 use Rattle.wire.specs.declared.Message.the-variants.{Read, ReadAnswer, Write, WriteAnswer, Echo, Value, Good}
 use Rattle.wire.proofs.Numbers.{view-length}
@@ -82,24 +83,41 @@ read-back n m v s h =
     (front-back n m v [] s h) in
     rw e (rw (eq-eqb (length (encode m v)) (length (encode m v)) refl))
 
-none : (t u : Bool) → pick {A = List ℕ} t (pick u [] []) [] ≡ []
-none t u = ap (λ (x : List ℕ). pick t x []) (pick-same u []) ∙ pick-same t []
+-- and its view: only a good message has one, and it begins at byte 18
+view-after : (m : Message) (v : List ℕ) → viewIn m (drop 18 (encode m v)) ≡ viewIn m v
+unfolding encode
+view-after (Read r) v = refl
+view-after (ReadAnswer r t) v = refl
+view-after (Write r t) v = refl
+view-after (WriteAnswer r t) v = refl
+view-after (Echo t) v = refl
+view-after (Value t w p) v = refl
+view-after (Good t) v = refl
 
--- and its view
 pub view-back : (n : ℕ) (m : Message) (v : List ℕ) → isSize n ≡ true → allowed n m v ≡ true
     → viewPart n (encode m v) ≡ viewIn m v
-unfolding viewPart encode
-view-back n (Read r) v s h = none (isSize n) (eqb 15 (18 + 16 * n))
-view-back n (ReadAnswer r t) v s h = none (isSize n) (eqb 26 (18 + 16 * n))
-view-back n (Write r t) v s h = none (isSize n) (eqb 26 (18 + 16 * n))
-view-back n (WriteAnswer r t) v s h = none (isSize n) (eqb 26 (18 + 16 * n))
-view-back n (Echo t) v s h = none (isSize n) (eqb 15 (18 + 16 * n))
-view-back n (Value t w p) v s h = none (isSize n) (eqb 30 (18 + 16 * n))
-view-back n (Good t) v s h =
-    let l : length v ≡ 16 * n = view-length n t v h in
-    let e : viewAt n (encode (Good t) v) ≡ v =
-    ap (λ (b : List ℕ). viewAt n b) (sym (append-nil (encode (Good t) v))) ∙ view-place n t v [] h in
-    rw (s, eq-eqb (length (encode (Good t) v)) (18 + 16 * n) (omega arith)) e
+unfolding viewPart
+view-back n m v s h = ap (λ (a : Answer Message). viewRead (encode m v) a) (read-back n m v s h) ∙ view-after m v
+
+front-after : (m : Message) (v rest : List ℕ)
+    → viewIn m (part (encode m v ++ rest) 18 (length (encode m v) - 18)) ≡ viewIn m v
+unfolding encode part
+front-after (Read r) v rest = refl
+front-after (ReadAnswer r t) v rest = refl
+front-after (Write r t) v rest = refl
+front-after (WriteAnswer r t) v rest = refl
+front-after (Echo t) v rest = refl
+front-after (Value t w p) v rest = refl
+front-after (Good t) v rest =
+    let l : length v ≡ length (encode (Good t) v) - 18 = omega arith in
+    take-at v rest (length (encode (Good t) v) - 18) l
+
+pub front-view-back : (n : ℕ) (m : Message) (v rest : List ℕ) → isSize n ≡ true → allowed n m v ≡ true
+    → frontPart n (encode m v ++ rest) ≡ viewIn m v
+unfolding frontPart
+front-view-back n m v rest s h =
+    ap (λ (a : Answer (Message × ℕ)). viewFound (encode m v ++ rest) a) (front-back n m v rest s h)
+    ∙ front-after m v rest
 
 -- ---- only what could have been written is read
 
@@ -150,31 +168,28 @@ pub record Whole (n : ℕ) (b : List ℕ) (m : Message) : Type 0 where
   pub allowed-is : allowed n m (viewPart n b) ≡ true
   pub bytes : b ≡ encode m (viewPart n b)
 
--- the place of the view is the view's part, where it matters
+-- a message's bytes, and whether it is allowed, tell no more than its own view
+own-view : (n : ℕ) (m : Message) (v : List ℕ) → (allowed n m (viewIn m v) ≡ allowed n m v) × (encode m (viewIn m v)
+    ≡ encode m v)
+unfolding encode allowed
+own-view n (Read r) v = (refl, refl)
+own-view n (ReadAnswer r t) v = (refl, refl)
+own-view n (Write r t) v = (refl, refl)
+own-view n (WriteAnswer r t) v = (refl, refl)
+own-view n (Echo t) v = (refl, refl)
+own-view n (Value t w p) v = (refl, refl)
+own-view n (Good t) v = (refl, refl)
+
 placed : (n : ℕ) (b : List ℕ) (m : Message) → isSize n ≡ true → allowed n m (viewAt n b) ≡ true → b ≡ encode m
     (viewAt n b)
     → Whole n b m
-unfolding encode allowed viewPart
-placed n b (Read r) s h e = record { sized = s; allowed-is = h; bytes = e }
-placed n b (ReadAnswer r t) s h e = record { sized = s; allowed-is = h; bytes = e }
-placed n b (Write r t) s h e = record { sized = s; allowed-is = h; bytes = e }
-placed n b (WriteAnswer r t) s h e = record { sized = s; allowed-is = h; bytes = e }
-placed n b (Echo t) s h e = record { sized = s; allowed-is = h; bytes = e }
-placed n b (Value t w p) s h e = record { sized = s; allowed-is = h; bytes = e }
-placed n b (Good t) s h e =
-    let l : length (viewAt n b) ≡ 16 * n = view-length n t (viewAt n b) h in
-    let m : length b ≡ length (encode (Good t) (viewAt n b)) = ap (λ (x : List ℕ). length x) e in
-    let q : viewPart n b ≡ viewAt n b =
-    rw (
-      s,
-      eq-eqb (length b) (18 + 16 * n) (omega arith),
-      eq-eqb (getD b 3 0) 7
-          (ap (λ (x : List ℕ). getD x 3 0) e),
-    ) in
+placed n b m s h e =
+    let v = viewAt n b in
+    let q : viewPart n b ≡ viewIn m v = ap (λ (x : List ℕ). viewPart n x) e ∙ view-back n m v s h in
     record {
       sized = s;
-      allowed-is = ap (λ (x : List ℕ). allowed n (Good t) x) q ∙ h;
-      bytes = e ∙ ap (λ (x : List ℕ). encode (Good t) x) (sym q);
+      allowed-is = ap (λ (x : List ℕ). allowed n m x) q ∙ own-view n m v .0 ∙ h;
+      bytes = e ∙ sym (own-view n m v .1) ∙ ap (λ (x : List ℕ). encode m x) (sym q);
     }
 
 pub read-only : (n : ℕ) (b : List ℕ) (m : Message) → decode n b ≡ result m → Whole n b m

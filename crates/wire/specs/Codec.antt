@@ -1,9 +1,9 @@
 -- Reading and writing one message, for n nodes. Reading goes back from writing: bytes are read as the message whose
 -- encoding they are, and as nothing if they are no allowed message's.
-use Prim.Native.Nat.{ℕ, _+_, _*_}
-use mathlib.Core.Bool.{Bool}
+use Prim.Native.Nat.{ℕ, _+_, _-_, _*_}
+use mathlib.Core.Bool.{Bool, true, false}
 use mathlib.Core.List.{List, []}
-use lib.ListN.{length, take, getD}
+use lib.ListN.{length, take, drop, getD}
 use lib.Dec.{leb, eqb}
 use Rattle.octets.specs.Answer.{Answer, result, refused}
 use Rattle.octets.specs.Test.{pick, both}
@@ -52,20 +52,53 @@ whole k (refused c) = refused c
 unfoldable pub decode : ℕ → List ℕ → Answer Message
 decode n b = whole (length b) (front n b)
 
--- the view in bytes that are a good message; bytes of another kind or length have the empty part
-unfoldable pub viewPart : ℕ → List ℕ → List ℕ
-viewPart n b =
-    pick (isSize n) (pick (eqb (length b) (18 + entrySize * n)) (pick (eqb (getD b 3 0) 7) (viewAt n b) []) []) []
+-- whether a message carries a view
+abbrev pub isGood : Message → Bool
+isGood (Read r) = false
+isGood (ReadAnswer r t) = false
+isGood (Write r t) = false
+isGood (WriteAnswer r t) = false
+isGood (Echo t) = false
+isGood (Value t w p) = false
+isGood (Good t) = true
 
 -- the view that belongs to a message
 abbrev pub viewIn : Message → List ℕ → List ℕ
-viewIn (Read r) v = []
-viewIn (ReadAnswer r t) v = []
-viewIn (Write r t) v = []
-viewIn (WriteAnswer r t) v = []
-viewIn (Echo t) v = []
-viewIn (Value t w p) v = []
-viewIn (Good t) v = v
+viewIn m v = pick (isGood m) v []
+
+-- where it lies, if the message lies at p (a block of memory and an offset in it): an empty one lies at p itself
+abbrev pub addressIn : Message → ℕ × ℕ → ℕ × ℕ
+addressIn m p = pick (isGood m) (p .0, 18 + p .1) p
+
+-- the view in bytes that were read, by the answer: what stands from byte 18 on, if they are a good message
+abbrev pub viewRead : List ℕ → Answer Message → List ℕ
+viewRead b (result m) = viewIn m (drop 18 b)
+viewRead b (refused c) = []
+
+abbrev pub addressRead : Answer Message → ℕ × ℕ → ℕ × ℕ
+addressRead (result m) p = addressIn m p
+addressRead (refused c) p = p
+
+unfoldable pub viewPart : ℕ → List ℕ → List ℕ
+viewPart n b = viewRead b (decode n b)
+
+unfoldable pub viewAddress : ℕ → List ℕ → ℕ × ℕ → ℕ × ℕ
+viewAddress n b p = addressRead (decode n b) p
+
+-- the view in the message at the front: what stands from byte 18 to that message's end, if it is a good one
+abbrev pub viewFound : List ℕ → Answer (Message × ℕ) → List ℕ
+viewFound b (result p) = viewIn (p .0) (part b 18 (p .1 - 18))
+viewFound b (refused c) = []
+
+abbrev pub addressFound : Answer (Message × ℕ) → ℕ × ℕ → ℕ × ℕ
+addressFound (result p) a = addressIn (p .0) a
+addressFound (refused c) a = a
+
+unfoldable pub frontPart : ℕ → List ℕ → List ℕ
+frontPart n b = viewFound b (front n b)
+
+unfoldable pub frontAddress : ℕ → List ℕ → ℕ × ℕ → ℕ × ℕ
+frontAddress n b p = addressFound (front n b) p
 
 -- writing into a buffer of so many bytes, and the buffer afterwards
 unfoldable pub answer : ℕ → Message → List ℕ → ℕ → Answer ℕ

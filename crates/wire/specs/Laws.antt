@@ -1,16 +1,16 @@
 -- What is claimed of reading and writing one message, each claim under a name; proofs/Laws proves them. They hold for
 -- every n.
-use Prim.Native.Nat.{ℕ, _*_}
+use Prim.Native.Nat.{ℕ, _+_, _*_, _≤_}
 use mathlib.Core.Path.{_≡_}
 use mathlib.Core.Bool.{true, false}
-use mathlib.Core.List.{List, _++_}
+use mathlib.Core.List.{List, [], _++_}
 use mathlib.Core.Logic.{_↔_}
 use lib.ListN.{length}
 use Rattle.octets.specs.Answer.{result, refused}
 use Rattle.octets.specs.Bytes.{part}
 use Rattle.view.specs.Size.{isSize}
 use Rattle.wire.specs.Layout.{encode, allowed, size}
-use Rattle.wire.specs.Codec.{front, decode, viewPart, viewIn}
+use Rattle.wire.specs.Codec.{front, decode, viewIn, viewPart, viewAddress, frontPart, frontAddress}
 use Rattle.wire.specs.declared.Message.{Message}
 use Rattle.wire.specs.declared.Message.the-variants.{Good}
 
@@ -21,6 +21,10 @@ ReadBack = (n : ℕ) (m : Message) (v : List ℕ) → isSize n ≡ true → allo
 abbrev pub ViewBack : Type 0
 ViewBack = (n : ℕ) (m : Message) (v : List ℕ) → isSize n ≡ true → allowed n m v ≡ true
     → viewPart n (encode m v) ≡ viewIn m v
+
+abbrev pub FrontViewBack : Type 0
+FrontViewBack = (n : ℕ) (m : Message) (v rest : List ℕ) → isSize n ≡ true → allowed n m v ≡ true
+    → frontPart n (encode m v ++ rest) ≡ viewIn m v
 
 abbrev pub FrontBack : Type 0
 FrontBack = (n : ℕ) (m : Message) (v rest : List ℕ) → isSize n ≡ true → allowed n m v ≡ true
@@ -52,6 +56,21 @@ Injective = (n : ℕ) (m m′ : Message) (v v′ : List ℕ) → isSize n ≡ tr
 abbrev pub Lengths : Type 0
 Lengths = (n : ℕ) (m : Message) (v : List ℕ) → allowed n m v ≡ true → length (encode m v) ≡ size n m
 
--- The view of a good message is its bytes 18 to 18 + 16 n.
+-- The view of a good message is its bytes 18 to 18 + 16 n, in the caller's memory. With bytes after the message it is
+-- the same part.
 abbrev pub ViewPlace : Type 0
-ViewPlace = (n t : ℕ) (b : List ℕ) → decode n b ≡ result (Good t) → viewPart n b ≡ part b 18 (16 * n)
+ViewPlace = (n t : ℕ) (b : List ℕ) → decode n b ≡ result (Good t)
+    → (length b ≡ 18 + 16 * n) × (viewPart n b ≡ part b 18 (16 * n))
+    × ((p : ℕ × ℕ) → viewAddress n b p ≡ (p .0, 18 + p .1))
+
+abbrev pub FrontViewPlace : Type 0
+FrontViewPlace = (n t k : ℕ) (b : List ℕ) → front n b ≡ result (Good t, k)
+    → (k ≡ 18 + 16 * n) × (k ≤ length b) × (frontPart n b ≡ part b 18 (16 * n))
+    × ((p : ℕ × ℕ) → frontAddress n b p ≡ (p .0, 18 + p .1))
+
+-- Bytes that are refused, and messages of another kind, have the empty view.
+abbrev pub ViewOnlyGood : Type 0
+ViewOnlyGood = (n : ℕ) (b : List ℕ) → ((t : ℕ) → decode n b ≡ result (Good t) → ⊥) → viewPart n b ≡ []
+
+abbrev pub FrontViewOnlyGood : Type 0
+FrontViewOnlyGood = (n : ℕ) (b : List ℕ) → ((t k : ℕ) → front n b ≡ result (Good t, k) → ⊥) → frontPart n b ≡ []

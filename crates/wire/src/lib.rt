@@ -1,20 +1,26 @@
-// Messages in bytes: reading and writing one message, for n nodes. The view of a good message stays in its bytes.
+// Messages in bytes: reading and writing one message, for n nodes. The view of a good message stays in its bytes, and
+// the readers hand it back as a part of them.
 mod heads;
 mod puts;
+pub mod views;
 
 use octets::and;
 use view::ENTRY;
 use view::LIMIT;
 use view::NODES;
 use view::Report;
+use views::found_view;
+use views::parsed_view;
 ghost use mathlib.Core.Path.{_≡_};
 ghost use Prim.Native.Nat.{_≤_};
 ghost use lib.ListN.{length};
 ghost use lib.Dec.{leb};
+ghost use denote.Ref.{ptr};
 ghost use Rattle.octets.specs.Test.{both};
 ghost use Rattle.view.specs.Size.{isSize};
 ghost use Rattle.wire.specs.Layout.{encode, isRequest, isTag, allowed};
-ghost use Rattle.wire.specs.Codec.{front, decode, viewPart, answer, after};
+ghost use Rattle.wire.specs.Codec.{front, decode, answer, after};
+ghost use Rattle.wire.specs.Codec.{viewPart, viewAddress, frontPart, frontAddress};
 ghost use Rattle.wire.specs.declared.Message.the-variants.{Good};
 ghost use Rattle.wire.specs.Outcome.{parsed, found, written};
 
@@ -80,6 +86,18 @@ pub enum Written {
     Refused(u8),
 }
 
+// What the two readers hand back: the answer, and the view of a good message as a part of the caller's bytes. Of all
+// other bytes that part is empty.
+pub struct Reading<'a> {
+    pub parsed: Parsed,
+    pub view: &'a [u8],
+}
+
+pub struct Prefix<'a> {
+    pub found: Found,
+    pub view: &'a [u8],
+}
+
 // Whether there may be n nodes.
 pub fn is_size(n: usize) -> bool
     ensures { λ r. ⌜ r ≡ isSize n ⌝ }
@@ -118,8 +136,8 @@ pub(crate) fn is_held(n: usize, tag: u64, view: &[u8]) -> bool
     }
 }
 
-// Reads the message at the front of b: the message and its length, or 1, 7.
-pub fn read_prefix(n: usize, b: &[u8]) -> Found
+// The message at the front of b and its length, or 1, 7.
+pub fn parse_prefix(n: usize, b: &[u8]) -> Found
     ensures { λ r. ⌜ found r ≡ front n (now (b .entry)) ⌝ }
 {
     if is_size(n) {
@@ -129,11 +147,11 @@ pub fn read_prefix(n: usize, b: &[u8]) -> Found
     }
 }
 
-// Reads bytes that are one message: the message, or 1, 7.
-pub fn read(n: usize, b: &[u8]) -> Parsed
+// The message that b is, or 1, 7.
+pub fn parse(n: usize, b: &[u8]) -> Parsed
     ensures { λ r. ⌜ parsed r ≡ decode n (now (b .entry)) ⌝ }
 {
-    match read_prefix(n, b) {
+    match parse_prefix(n, b) {
         Found::At(m, end) => {
             if end == b.len() {
                 Parsed::Got(m)
@@ -145,20 +163,26 @@ pub fn read(n: usize, b: &[u8]) -> Parsed
     }
 }
 
-// The view in bytes that were read as a good message, as a part of them. Bytes of another kind or length have the
-// empty part; the message is not judged again.
-pub fn view_part(n: usize, b: &[u8]) -> &[u8]
-    ensures { λ r. ⌜ now r ≡ viewPart n (now (b .entry)) ⌝ }
+// Reads the message at the front of b: the message and its length, or 1, 7, and its view.
+pub fn read_prefix<'a>(n: usize, b: &'a [u8]) -> Prefix<'a>
+    ensures { λ r. ⌜ (found (r .found) ≡ front n (now (b .entry)))
+        × (now (r .view) ≡ frontPart n (now (b .entry)))
+        × (ptr (r .view) ≡ frontAddress n (now (b .entry)) (ptr (b .entry))) ⌝ }
 {
-    if is_size(n) {
-        if b.len() == GOOD_HEAD + ENTRY * n {
-            if b[3] == 7 { &b[18..] } else { &b[..0] }
-        } else {
-            &b[..0]
-        }
-    } else {
-        &b[..0]
-    }
+    let found = parse_prefix(n, b);
+    let view = found_view(b, found);
+    Prefix { found, view }
+}
+
+// Reads bytes that are one message: the message, or 1, 7, and its view.
+pub fn read<'a>(n: usize, b: &'a [u8]) -> Reading<'a>
+    ensures { λ r. ⌜ (parsed (r .parsed) ≡ decode n (now (b .entry)))
+        × (now (r .view) ≡ viewPart n (now (b .entry)))
+        × (ptr (r .view) ≡ viewAddress n (now (b .entry)) (ptr (b .entry))) ⌝ }
+{
+    let parsed = parse(n, b);
+    let view = parsed_view(b, parsed);
+    Reading { parsed, view }
 }
 
 // Writes a message, with its view if it is a good one, at the front of `out`: its length, or 1, 7, 12.

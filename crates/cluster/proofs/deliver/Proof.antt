@@ -137,8 +137,8 @@ first-at-requires c κs = let f : fits (c .before .before .before .before .befor
     let m = n-most (c .before .before .before .before .before .before .before .before .before .before .before .before .before .before .before .before .before .before .before .before .args .b .now) (c .before .before .before .before .before .before .before .before .before .before .before .index .result) (c .before .before .before .before .before .before .before .before .before .before .before .index .ensures .0) f s in
     (g .0, omega (arith, g .1, m), h .0, omega (arith, h .1, l))
 
-read-prefix-requires : tie.Need-read-prefix-requires
-read-prefix-requires c κs = search needs
+parse-prefix-requires : tie.Need-parse-prefix-requires
+parse-prefix-requires c κs = search needs
 
 enum-told : tie.Need-enum-told
 enum-told c = search needs
@@ -157,7 +157,7 @@ hand-over-requires c κs = let f : fits (c .before .before .before .before .befo
     let g = is-node (c .before .before .before .before .before .before .before .before .before .before .before .before .before .before .before .before .before .index .result) (c .before .before .before .before .before .before .before .before .before .before .before .before .before .before .before .before .before .before .before .before .before .before .before .before .before .before .args .a) (both-left (isNode (c .before .before .before .before .before .before .before .before .before .before .before .before .before .before .before .before .before .index .result) (c .before .before .before .before .before .before .before .before .before .before .before .before .before .before .before .before .before .before .before .before .before .before .before .before .before .before .args .a)) (isNode (c .before .before .before .before .before .before .before .before .before .before .before .before .before .before .before .before .before .index .result) (c .before .before .before .before .before .before .before .before .before .before .before .before .before .before .before .before .before .before .before .before .before .before .before .before .before .before .args .c)) k) in
     let h = is-node (c .before .before .before .before .before .before .before .before .before .before .before .before .before .before .before .before .before .index .result) (c .before .before .before .before .before .before .before .before .before .before .before .before .before .before .before .before .before .before .before .before .before .before .before .before .before .before .args .c) (both-right (isNode (c .before .before .before .before .before .before .before .before .before .before .before .before .before .before .before .before .before .index .result) (c .before .before .before .before .before .before .before .before .before .before .before .before .before .before .before .before .before .before .before .before .before .before .before .before .before .before .args .a)) (isNode (c .before .before .before .before .before .before .before .before .before .before .before .before .before .before .before .before .before .index .result) (c .before .before .before .before .before .before .before .before .before .before .before .before .before .before .before .before .before .before .before .before .before .before .before .before .before .before .args .c)) k) in
     let e : front (c .before .before .before .before .before .before .before .before .before .before .before .before .before .before .before .before .before .index .result) (first (channel (c .before .before .before .before .before .before .before .before .before .before .before .before .before .before .before .before .before .before .before .before .before .before .before .before .before .before .args .b .now) (c .before .before .before .before .before .before .before .before .before .before .before .before .before .before .before .before .before .before .before .before .before .before .before .before .before .before .args .a) (c .before .before .before .before .before .before .before .before .before .before .before .before .before .before .before .before .before .before .before .before .before .before .before .before .before .before .args .c))) ≡ result (c .before .before .m .given .0 .0, c .before .before .m .given .0 .1 .0) =
-    sym (ap (λ (t : List ℕ). front (c .before .before .before .before .before .before .before .before .before .before .before .before .before .before .before .before .before .index .result) t) (c .before .before .before .before .before .first-at .ensures)) ∙ sym (c .before .before .before .before .read-prefix .ensures) ∙ ap found (c .before .before .m .given .1) in (
+    sym (ap (λ (t : List ℕ). front (c .before .before .before .before .before .before .before .before .before .before .before .before .before .before .before .before .before .index .result) t) (c .before .before .before .before .before .first-at .ensures)) ∙ sym (c .before .before .before .before .parse-prefix .ensures) ∙ ap found (c .before .before .m .given .1) in (
       n-most (c .before .before .before .before .before .before .before .before .before .before .before .before .before .before .before .before .before .before .before .before .before .before .before .before .before .before .args .b .now) (c .before .before .before .before .before .before .before .before .before .before .before .before .before .before .before .before .before .index .result) (c .before .before .before .before .before .before .before .before .before .before .before .before .before .before .before .before .before .index .ensures .0) f s,
       g .0,
       g .1,
@@ -180,7 +180,7 @@ returns-6 c = let f : fits (c .before .before .before .before .before .before .b
     let up = sym (c .before .before .before .before .before .before .before .before .before .before .stopped-at .ensures) ∙ c .before .before .before .before .before .before .before .before .before .if4 .left in
     let some : ltb 0 (countOf (channel (c .before .before .before .before .before .before .before .before .before .before .before .before .before .before .before .before .before .before .before .before .before .before .before .before .before .args .b .now) (c .before .before .before .before .before .before .before .before .before .before .before .before .before .before .before .before .before .before .before .before .before .before .before .before .before .args .a) (c .before .before .before .before .before .before .before .before .before .before .before .before .before .before .before .before .before .before .before .before .before .before .before .before .before .args .c))) ≡ true =
     ap (λ (w : ℕ). ltb 0 w) (sym (c .before .before .before .before .before .before .before .waiting-at .ensures .0)) ∙ lt-ltb 0 (c .before .before .before .before .before .before .before .waiting-at .result) (some-waits (c .before .before .before .before .before .before .before .waiting-at .result) (c .before .before .before .before .before .before .if5 .left)) in
-    refuses 7 (deliver-unread (c .before .before .before .before .before .before .before .before .before .before .before .before .before .before .before .before .before .before .before .before .before .before .before .before .before .args .a) (c .before .before .before .before .before .before .before .before .before .before .before .before .before .before .before .before .before .before .before .before .before .before .before .before .before .args .c) (c .before .before .before .before .before .before .before .before .before .before .before .before .before .before .before .before .before .before .before .before .before .before .before .before .before .args .x) (c .before .before .before .before .before .before .before .before .before .before .before .before .before .before .before .before .before .before .before .before .before .before .before .before .before .args .b .now) (c .before .before .before .before .before .before .before .before .before .before .before .before .before .before .before .before .index .result) (c .before .before .before .before .before .before .before .before .before .before .before .before .before .before .before .before .index .ensures .0) f s k up some (c .before .enum-told .given .0 .0) (sym (ap (λ (t : List ℕ). front (c .before .before .before .before .before .before .before .before .before .before .before .before .before .before .before .before .index .result) t) (c .before .before .before .before .first-at .ensures)) ∙ sym (c .before .before .before .read-prefix .ensures) ∙ ap found (c .before .enum-told .given .1))) (c .refused6 .ensures)
+    refuses 7 (deliver-unread (c .before .before .before .before .before .before .before .before .before .before .before .before .before .before .before .before .before .before .before .before .before .before .before .before .before .args .a) (c .before .before .before .before .before .before .before .before .before .before .before .before .before .before .before .before .before .before .before .before .before .before .before .before .before .args .c) (c .before .before .before .before .before .before .before .before .before .before .before .before .before .before .before .before .before .before .before .before .before .before .before .before .before .args .x) (c .before .before .before .before .before .before .before .before .before .before .before .before .before .before .before .before .before .before .before .before .before .before .before .before .before .args .b .now) (c .before .before .before .before .before .before .before .before .before .before .before .before .before .before .before .before .index .result) (c .before .before .before .before .before .before .before .before .before .before .before .before .before .before .before .before .index .ensures .0) f s k up some (c .before .enum-told .given .0 .0) (sym (ap (λ (t : List ℕ). front (c .before .before .before .before .before .before .before .before .before .before .before .before .before .before .before .before .index .result) t) (c .before .before .before .before .first-at .ensures)) ∙ sym (c .before .before .before .parse-prefix .ensures) ∙ ap found (c .before .enum-told .given .1))) (c .refused6 .ensures)
 
 same-length-7 : tie.Need-same-length-7
 same-length-7 c = search needs
@@ -194,7 +194,7 @@ returns-7 c = let f : fits (c .before .before .before .before .before .before .b
     let some : ltb 0 (countOf (channel (c .before .before .before .before .before .before .before .before .before .before .before .before .before .before .before .before .before .before .before .before .before .before .before .before .before .before .before .before .before .args .b .now) (c .before .before .before .before .before .before .before .before .before .before .before .before .before .before .before .before .before .before .before .before .before .before .before .before .before .before .before .before .before .args .a) (c .before .before .before .before .before .before .before .before .before .before .before .before .before .before .before .before .before .before .before .before .before .before .before .before .before .before .before .before .before .args .c))) ≡ true =
     ap (λ (w : ℕ). ltb 0 w) (sym (c .before .before .before .before .before .before .before .before .before .before .before .waiting-at .ensures .0)) ∙ lt-ltb 0 (c .before .before .before .before .before .before .before .before .before .before .before .waiting-at .result) (some-waits (c .before .before .before .before .before .before .before .before .before .before .before .waiting-at .result) (c .before .before .before .before .before .before .before .before .before .before .if5 .left)) in
     let e : front (c .before .before .before .before .before .before .before .before .before .before .before .before .before .before .before .before .before .before .before .before .index .result) (first (channel (c .before .before .before .before .before .before .before .before .before .before .before .before .before .before .before .before .before .before .before .before .before .before .before .before .before .before .before .before .before .args .b .now) (c .before .before .before .before .before .before .before .before .before .before .before .before .before .before .before .before .before .before .before .before .before .before .before .before .before .before .before .before .before .args .a) (c .before .before .before .before .before .before .before .before .before .before .before .before .before .before .before .before .before .before .before .before .before .before .before .before .before .before .before .before .before .args .c))) ≡ result (c .before .before .before .before .before .m .given .0 .0, c .before .before .before .before .before .m .given .0 .1 .0) =
-    sym (ap (λ (t : List ℕ). front (c .before .before .before .before .before .before .before .before .before .before .before .before .before .before .before .before .before .before .before .before .index .result) t) (c .before .before .before .before .before .before .before .before .first-at .ensures)) ∙ sym (c .before .before .before .before .before .before .before .read-prefix .ensures) ∙ ap found (c .before .before .before .before .before .m .given .1) in
+    sym (ap (λ (t : List ℕ). front (c .before .before .before .before .before .before .before .before .before .before .before .before .before .before .before .before .before .before .before .before .index .result) t) (c .before .before .before .before .before .before .before .before .first-at .ensures)) ∙ sym (c .before .before .before .before .before .before .before .parse-prefix .ensures) ∙ ap found (c .before .before .before .before .before .m .given .1) in
     becomes (c .before .before .hand-over .result) (c .before .before .hand-over .last .0) (deliver-hands (c .before .before .before .before .before .before .before .before .before .before .before .before .before .before .before .before .before .before .before .before .before .before .before .before .before .before .before .before .before .args .a) (c .before .before .before .before .before .before .before .before .before .before .before .before .before .before .before .before .before .before .before .before .before .before .before .before .before .before .before .before .before .args .c) (c .before .before .before .before .before .before .before .before .before .before .before .before .before .before .before .before .before .before .before .before .before .before .before .before .before .before .before .before .before .args .x) (c .before .before .before .before .before .before .before .before .before .before .before .before .before .before .before .before .before .before .before .before .before .before .before .before .before .before .before .before .before .args .b .now) (c .before .before .before .before .before .before .before .before .before .before .before .before .before .before .before .before .before .before .before .before .index .result) (c .before .before .before .before .before .before .before .before .before .before .before .before .before .before .before .before .before .before .before .before .index .ensures .0) f s k up some (c .before .before .before .before .before .m .given .0 .0) (c .before .before .before .before .before .m .given .0 .1 .0) e) (c .before .before .hand-over .ensures)
 
 pub deliver-spec : {M : Type 1} → statement M
@@ -226,7 +226,7 @@ deliver-spec =
     same-length-5
     returns-5
     first-at-requires
-    read-prefix-requires
+    parse-prefix-requires
     enum-told
     refused-requires-6
     enum-known-m

@@ -32,14 +32,14 @@ is-stale-message-requires c κs =
     let a = c .before .before .args in
     let p = c .before .before .pre in
     let small : a .c .n ≤ 16 = parts _ (p .0) .n-high in
-    (p .1, omega (arith, p .2, small), read-writer (a .c .n) (a .b .now) (a .m) small (p .3))
+    (p .1, omega (arith, p .2, small), read-writer (a .c .n) (a .v .now) (a .m) (p .3) small)
 
 returns : tie.Need-returns
 returns c =
     let c5 = c .before .before .before .before .before in
     let a = c5 .args in
     let stale = sym (c .before .before .is-stale-message .ensures) ∙ c .before .if1 .taken in
-    let e = taken-9 (a .c) (a .s) (a .b .now) (a .out .now) (a .m) stale in
+    let e = taken-9 (a .c) (a .s) (a .v .now) (a .out .now) (a .m) stale in
     subst (tells (c .refused-reply .result) _) (sym e) (c .refused-reply .ensures _)
 
 view-beside-requires : tie.Need-view-beside-requires
@@ -50,7 +50,7 @@ message-step-requires c κs =
     let c6 = c .before .before .before .before .before .before in
     let a = c6 .args in
     let p = c6 .pre in
-    (p .0, p .1, p .2, rw (c .before .view-beside .ensures) (read-lawful (a .c .n) (a .b .now) (a .m) (p .3)))
+    (p .0, p .1, p .2, rw (c .before .view-beside .ensures) (read-lawful (a .c .n) (a .v .now) (a .m) (p .3)))
 
 let-out-requires : tie.Need-let-out-requires
 let-out-requires c κs =
@@ -61,7 +61,7 @@ let-out-requires c κs =
     let view = c .before .before .before .view-beside in
     let step = c .before .message-step in
     message-fit (faults .result) (a .c) (a .s) (a .m) (view .result) (step .result) _ (step .ensures) (faults .ensures)
-    (p .0) (rw (view .ensures) (read-lawful (a .c .n) (a .b .now) (a .m) (p .3))) (long c8) (p .1) (p .2) (p .4)
+    (p .0) (rw (view .ensures) (read-lawful (a .c .n) (a .v .now) (a .m) (p .3))) (long c8) (p .1) (p .2) (p .4)
 
 returns-2 : tie.Need-returns-2
 returns-2 c =
@@ -70,7 +70,7 @@ returns-2 c =
     let a = c11 .args in
     let view = c5 .before .view-beside in
     let new = sym (c5 .before .before .before .is-stale-message .ensures) ∙ c5 .before .before .if1 .left in
-    let e = taken-goes (a .c) (a .s) (a .b .now) (a .out .now) (a .m) new in
+    let e = taken-goes (a .c) (a .s) (a .v .now) (a .out .now) (a .m) new in
     let s = c .before .before .before .before .message-step .ensures
     ∙ ap (λ (f : ℕ). messageStep f (a .c) (a .s) (a .m) (view .result)) (c5 .most-faults .ensures)
     ∙ ap (λ (v : View). messageStep (faults (a .c .n)) (a .c) (a .s) (a .m) v) (view .ensures) in

@@ -1,23 +1,19 @@
 -- `endpoint::view_beside` meets its contract. Assumes nothing.
 use borrow.Author.Needs.{needs}
-use mathlib.Core.Path.{ap, _∙_}
-use mathlib.Core.List.{List}
-use Prim.Native.Nat.{ℕ}
+use mathlib.Core.Path.{sym, ap, _∙_}
 use native.Mathlib.Omega.{arith}
-use lib.ListN.{length}
-use Rattle.octets.specs.Answer.{result}
-use Rattle.view.specs.View.{viewOf}
+use Rattle.wire.specs.Layout.{allowed}
 use Rattle.wire.specs.declared.Message.{Message}
-use Rattle.endpoint.proofs.Rim.{good-length}
+use Rattle.wire.proofs.Numbers.{view-length}
 use Rattle.endpoint.proofs.view_beside.Statement.{statement}
 use Rattle.endpoint.proofs.view_beside.Tie as tie
 
 read-view-requires : tie.Need-read-view-requires
 read-view-requires c κs =
-    let a = c .before .before .before .before .args in
-    let p = c .before .before .before .before .pre in
-    let e = ap (λ (x : List ℕ). length x) (c .view-part .ensures)
-    ∙ good-length (a .n) (a .b .now) _ (p .1 ∙ ap (λ (x : Message). result x) (c .before .enum-told7 .given .1)) in
+    let a = c .before .before .before .args in
+    let p = c .before .before .before .pre in
+    let e = view-length (a .n) _ (a .v .now)
+    (ap (λ (x : Message). allowed (a .n) x (a .v .now)) (sym (c .enum-told7 .given .1)) ∙ p .1) in
     (p .0, omega (arith, e))
 
 returns : tie.Need-returns
@@ -39,15 +35,12 @@ returns-6 : tie.Need-returns-6
 returns-6 c = rw (c .before .enum-told6 .given .1) (c .absent6 .ensures)
 
 returns-7 : tie.Need-returns-7
-returns-7 c =
-    let c5 = c .before .before .before .before .before in
-    rw (c .before .before .enum-told7 .given .1)
-    (c .read-view .ensures ∙ ap (viewOf (c5 .args .n)) (c .before .view-part .ensures))
+returns-7 c = rw (c .before .enum-told7 .given .1) (c .read-view .ensures)
 
 pub view-beside-spec : {M : Type 1} → statement M
 view-beside-spec =
     tie.close
     (tie.spec (λ c. search needs) (λ c κs. search needs) (λ c. search needs) (λ c κs. search needs) (λ c. search needs)
     (λ c κs. search needs) (λ c. search needs) (λ c κs. search needs) (λ c. search needs) (λ c κs. search needs)
-    (λ c. search needs) (λ c κs. search needs) (λ c. search needs) (λ c κs. search needs) read-view-requires returns
+    (λ c. search needs) (λ c κs. search needs) (λ c. search needs) read-view-requires returns
     returns-2 returns-3 returns-4 returns-5 returns-6 returns-7)

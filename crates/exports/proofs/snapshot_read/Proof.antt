@@ -8,12 +8,12 @@ use Rattle.exports.proofs.snapshot_read.Tie as tie
 returns : tie.Need-returns
 returns c =
     let d = c .before .before in
-    rw (sym (d .before .before .read .ensures) ∙ ap parsed (d .m .given .1)) (refl, c .message-numbers .ensures)
+    rw (sym (d .before .before .parse .ensures) ∙ ap parsed (d .m .given .1)) (refl, c .message-numbers .ensures)
 
 returns-2 : tie.Need-returns-2
 returns-2 c =
     let d = c .before in
-    rw (sym (d .before .before .read .ensures) ∙ ap parsed (d .k .given .1)) (refl, refl)
+    rw (sym (d .before .before .parse .ensures) ∙ ap parsed (d .k .given .1)) (refl, refl)
 
 pub snapshot-read-spec : {M : Type 1} → statement M
 snapshot-read-spec =
