@@ -3,6 +3,7 @@
 
 mod cluster;
 mod dice;
+mod feed;
 mod habits;
 mod message;
 mod node;
@@ -19,15 +20,16 @@ mod tests;
 
 use session::Played;
 use std::env;
-use std::io::{self, BufWriter, Write};
-use std::process::ExitCode;
+use std::io::{self, BufWriter, Read, Write};
+use std::process::{Command, ExitCode};
 
 const USAGE: &str = "usage:
   oracle run                      < session   plays a session and prints its answers
   oracle check                    < session   plays a session and tries demand 3 on it
   oracle stats                    < session   counts what happens in a session
   oracle picture                  < session   prints a picture of a session, as SVG
-  oracle random SEED EVENTS [N]               prints a random session";
+  oracle random SEED EVENTS [N]               prints a random session
+  oracle feed SIZE.. -- PROGRAM   < session   runs a program whose reads get pieces of these sizes, in turn";
 
 fn main() -> ExitCode {
     let arguments: Vec<String> = env::args().skip(1).collect();
@@ -39,6 +41,7 @@ fn main() -> ExitCode {
         ["picture"] => picture(),
         ["random", seed, events] => random_session(seed, events, None),
         ["random", seed, events, n] => random_session(seed, events, Some(n)),
+        ["feed", ref sizes @ .., "--", program] => feed_program(sizes, program),
         _ => Err(io::Error::new(io::ErrorKind::InvalidInput, USAGE)),
     };
     match result {
@@ -103,4 +106,19 @@ fn random_session(seed: &str, events: &str, n: Option<&str>) -> io::Result<()> {
         return Err(io::Error::new(io::ErrorKind::InvalidInput, "N is 1 to 5"));
     }
     io::stdout().lock().write_all(&random::session(seed, events, n))
+}
+
+fn feed_program(sizes: &[&str], program: &str) -> io::Result<()> {
+    let bad = || io::Error::new(io::ErrorKind::InvalidInput, USAGE);
+    let sizes: Vec<usize> = sizes.iter().map(|size| size.parse()).collect::<Result<_, _>>().map_err(|_| bad())?;
+    if sizes.is_empty() || sizes.contains(&0) {
+        return Err(bad());
+    }
+    let mut text = vec![];
+    io::stdin().lock().read_to_end(&mut text)?;
+    let output = feed::feed(&text, &sizes, &mut Command::new(program))?;
+    match output.status.success() {
+        true => Ok(()),
+        false => Err(io::Error::other(format!("{program}: {}", output.status))),
+    }
 }

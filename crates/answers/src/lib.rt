@@ -38,12 +38,12 @@ fn put_number(out: &mut [u8], at: usize, x: u64) -> usize
     at + (20 - from)
 }
 
-fn put_start(out: &mut [u8], event: u64, word: &[u8], x: u64) -> usize
-    requires { ⌜ (length (now word) ≤ 7) × (47 ≤ length (now out)) ⌝ }
-    ensures { λ r. ⌜ (now (out .exit) ≡ put (now (out .entry)) 0 (start event (now (word .entry)) x))
-        × (r ≡ length (start event (now (word .entry)) x)) × (r ≤ 47) ⌝ }
+fn put_start(out: &mut [u8], at: usize, event: u64, word: &[u8], x: u64) -> usize
+    requires { ⌜ (length (now word) ≤ 7) × (at + 47 ≤ length (now out)) ⌝ }
+    ensures { λ r. ⌜ (now (out .exit) ≡ put (now (out .entry)) at (start event (now (word .entry)) x))
+        × (r ≡ at + length (start event (now (word .entry)) x)) × (r ≤ at + 47) ⌝ }
 {
-    let k = put_number(out, 0, event);
+    let k = put_number(out, at, event);
     put_bytes(out, k, word);
     put_number(out, k + word.len(), x)
 }
@@ -90,29 +90,30 @@ fn put_feed(out: &mut [u8], at: usize) -> usize
     at + 1
 }
 
-fn put_short(out: &mut [u8], event: u64, word: &[u8], x: u64) -> usize
-    requires { ⌜ (length (now word) ≤ 7) × (48 ≤ length (now out)) ⌝ }
-    ensures { λ r. ⌜ (now (out .exit) ≡ put (now (out .entry)) 0 (start event (now (word .entry)) x ++ feed))
-        × (r ≡ length (start event (now (word .entry)) x ++ feed)) ⌝ }
+fn put_short(out: &mut [u8], at: usize, event: u64, word: &[u8], x: u64) -> usize
+    requires { ⌜ (length (now word) ≤ 7) × (at + 48 ≤ length (now out)) ⌝ }
+    ensures { λ r. ⌜ (now (out .exit) ≡ put (now (out .entry)) at (start event (now (word .entry)) x ++ feed))
+        × (r ≡ at + length (start event (now (word .entry)) x ++ feed)) ⌝ }
 {
-    let k = put_start(out, event, word, x);
+    let k = put_start(out, at, event, word, x);
     put_feed(out, k)
 }
 
-// Writes the line of an event at the front of a buffer, and answers its length; the other bytes stay.
-pub fn put_line(out: &mut [u8; ROOM], event: u64, reply: Reply, n: usize, v: View) -> usize
-    ensures { λ r. ⌜ (now (out .exit) ≡ put (now (out .entry)) 0 (line event reply n v))
-        × (r ≡ length (line event reply n v)) ⌝ }
+// Writes the line of an event; the other bytes stay.
+pub fn put_line(out: &mut [u8], at: usize, event: u64, reply: Reply, n: usize, v: View) -> usize
+    requires { ⌜ at + 320 ≤ length (now out) ⌝ }
+    ensures { λ r. ⌜ (now (out .exit) ≡ put (now (out .entry)) at (line event reply n v))
+        × (r ≡ at + length (line event reply n v)) ⌝ }
 {
     match reply {
-        Reply::Done(c) => put_short(out, event, b" done ", c as u64),
+        Reply::Done(c) => put_short(out, at, event, b" done ", c as u64),
         Reply::Scan(c) => {
-            let k = put_start(out, event, b" scan ", c as u64);
+            let k = put_start(out, at, event, b" scan ", c as u64);
             let e = put_entries(out, k, least(n, NODES), v);
             put_feed(out, e)
         }
-        Reply::Spent(c) => put_short(out, event, b" spent ", c as u64),
-        Reply::No(k) => put_short(out, event, b" no ", k as u64),
-        Reply::Nothing => 0,
+        Reply::Spent(c) => put_short(out, at, event, b" spent ", c as u64),
+        Reply::No(k) => put_short(out, at, event, b" no ", k as u64),
+        Reply::Nothing => at,
     }
 }

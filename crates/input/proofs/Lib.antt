@@ -1,3 +1,2 @@
-pub mod Feeding
 pub mod Kept
 pub mod Pieces

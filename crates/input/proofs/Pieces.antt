@@ -1,21 +1,13 @@
--- Pieces of any sizes give the lines of the whole input: what was handled, with what is kept, is the input so far.
-use Prim.Native.Nat.{ℕ, suc, _+_}
-use mathlib.Core.Path.{_≡_, refl, sym, ap, subst, _∙_}
+-- The lines of an input and the rest are the input, and what they are of two pieces, and of one byte more.
+use Prim.Native.Nat.{ℕ}
+use mathlib.Core.Path.{_≡_, refl, sym, ap, _∙_}
 use mathlib.Core.Bool.{Bool, true, false}
 use mathlib.Core.List.{List, [], _∷_, _++_, append-nil, append-assoc}
-use native.Mathlib.Numerals.{add-one}
-use native.Mathlib.Omega.{arith}
-use lib.ListN.{length, take}
 use lib.Seq.{append-snoc}
 use lib.Dec.{eqb}
 use borrow.Author.Tests.{eqb-true}
 use Rattle.octets.specs.Test.{pick}
-use Rattle.octets.proofs.Test.{true-false}
 use Rattle.input.specs.Input.{feed, linesFrom, restFrom, linesOf, restOf, joined}
-use Rattle.input.specs.Carry.{carryOf, push, past, fed}
-use Rattle.input.specs.declared.Carry.{Carry}
-use Rattle.input.specs.declared.Fed.{Fed}
-use Rattle.input.proofs.Kept.{push-carry}
 
 -- ---- the lines and the rest are the input
 
@@ -70,58 +62,22 @@ rest-append l (x ∷ s) t = cases (eqb x feed) (rest-append [] s t) (rest-append
     cases true p q = p
     cases false p q = q
 
--- ---- what taking a piece does: after the line so far l, the bytes used of s hold at most one line feed, their last
+-- ---- of one byte more, after the input t
 
-pub record Taken (l s : List ℕ) (f : Fed) : Type 0 where
-  pub line : List ℕ
-  pub carried : f .carry ≡ carryOf line
-  pub lines : linesFrom l (take (f .used) s) ≡ pick (f .ended) (line ∷ []) []
-  pub rest : restFrom l (take (f .used) s) ≡ pick (f .ended) [] line
-  pub all : f .ended ≡ false → f .used ≡ length s
+pub lines-line : (t : List ℕ) → linesOf (t ++ (feed ∷ [])) ≡ linesOf t ++ (restOf t ∷ [])
+unfolding linesFrom
+lines-line t = lines-append [] t (feed ∷ [])
 
--- a byte that is no line feed comes first
-taken-more : (l : List ℕ) (x : ℕ) (s : List ℕ) (f : Fed) → eqb x feed ≡ false → Taken (l ++ (x ∷ [])) s f
-    → Taken l (x ∷ s) (past 1 f)
-unfolding linesFrom restFrom
-taken-more l x s f e h =
-    let u : 1 + f .used ≡ suc (f .used) = omega arith in
-    record {
-      line = h .line;
-      carried = h .carried;
-      lines = ap (λ (j : ℕ). linesFrom l (take j (x ∷ s))) u ∙ rw e (h .lines);
-      rest = ap (λ (j : ℕ). restFrom l (take j (x ∷ s))) u ∙ rw e (h .rest);
-      all = λ q. omega (arith, h .all q);
-    }
+pub rest-line : (t : List ℕ) → restOf (t ++ (feed ∷ [])) ≡ []
+unfolding restFrom
+rest-line t = rest-append [] t (feed ∷ [])
 
-taken-feed : (l : List ℕ) (x : ℕ) (s : List ℕ) → eqb x feed ≡ true
-    → Taken l (x ∷ s) (record { carry = carryOf l; used = 1; ended = true })
-unfolding linesFrom restFrom
-taken-feed l x s e =
-    record { line = l; carried = refl; lines = rw e; rest = rw e; all = λ q. true-false true refl q }
+module _ (t : List ℕ) (x : ℕ) (other : eqb x feed ≡ false) where
+  pub lines-byte : linesOf (t ++ (x ∷ [])) ≡ linesOf t
+  unfolding linesFrom
+  lines-byte =
+      lines-append [] t (x ∷ []) ∙ ap (λ (b : Bool). linesOf t ++ pick b (restOf t ∷ []) []) other ∙ append-nil (linesOf t)
 
-pub taken : (l s : List ℕ) → Taken l s (fed (carryOf l) s)
-unfolding fed linesFrom restFrom
-taken l [] = record { line = l; carried = refl; lines = refl; rest = refl; all = λ e. refl }
-taken l (x ∷ s) = cases (eqb x feed) refl (taken (l ++ (x ∷ [])) s)
-  where
-    here : Bool → Fed
-    here b = pick b (record { carry = carryOf l; used = 1; ended = true }) (past 1 (fed (push (carryOf l) x) s))
-
-    cases : (b : Bool) → eqb x feed ≡ b → Taken (l ++ (x ∷ [])) s (fed (carryOf (l ++ (x ∷ []))) s)
-        → Taken l (x ∷ s) (here b)
-    cases true e h = taken-feed l x s e
-    cases false e h =
-        subst (λ (c : Carry). Taken l (x ∷ s) (past 1 (fed c s))) (sym (push-carry l x))
-        (taken-more l x s (fed (carryOf (l ++ (x ∷ []))) s) e h)
-
--- after the input t, with what is kept of it: the input is then t with the bytes used
-pub taken-lines : (t s : List ℕ) (h : Taken (restOf t) s (fed (carryOf (restOf t)) s))
-    → linesOf (t ++ take (fed (carryOf (restOf t)) s .used) s)
-    ≡ linesOf t ++ pick (fed (carryOf (restOf t)) s .ended) (h .line ∷ []) []
-taken-lines t s h =
-    lines-append [] t (take (fed (carryOf (restOf t)) s .used) s)
-    ∙ ap (λ (r : List (List ℕ)). linesOf t ++ r) (h .lines)
-
-pub taken-rest : (t s : List ℕ) (h : Taken (restOf t) s (fed (carryOf (restOf t)) s))
-    → restOf (t ++ take (fed (carryOf (restOf t)) s .used) s) ≡ pick (fed (carryOf (restOf t)) s .ended) [] (h .line)
-taken-rest t s h = rest-append [] t (take (fed (carryOf (restOf t)) s .used) s) ∙ h .rest
+  pub rest-byte : restOf (t ++ (x ∷ [])) ≡ restOf t ++ (x ∷ [])
+  unfolding restFrom
+  rest-byte = rest-append [] t (x ∷ []) ∙ ap (λ (b : Bool). pick b [] (restOf t ++ (x ∷ []))) other

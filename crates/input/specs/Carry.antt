@@ -1,17 +1,14 @@
 -- What is kept of a line while it is read: its first forty bytes, and its length, where 41 stands for every greater one.
 -- No legal line is longer, so that no more is needed to read it.
 use Prim.Native.Nat.{ℕ, suc, _+_, _-_}
-use mathlib.Core.Bool.{true, false}
-use mathlib.Core.List.{List, [], _∷_, _++_}
+use mathlib.Core.List.{List, _++_}
 use lib.ListN.{length, take, set, replicate}
-use lib.Dec.{leb, ltb, eqb}
+use lib.Dec.{leb, ltb}
 use Rattle.octets.specs.Test.{pick}
 use Rattle.lines.specs.Grammar.{eventOf, nodesOf}
 use Rattle.lines.specs.declared.Line.{Line}
 use Rattle.lines.specs.declared.Line.the-variants.{Bad}
-use Rattle.input.specs.Input.{feed}
 use Rattle.input.specs.declared.Carry.{Carry}
-use Rattle.input.specs.declared.Fed.{Fed}
 
 abbrev pub most : ℕ
 most = 40
@@ -34,15 +31,6 @@ pushed m c x =
 
 unfoldable pub push : Carry → ℕ → Carry
 push c x = pushed most c x
-
--- The bytes of a piece up to its first line feed are added: what is then kept, how many bytes of the piece were used,
--- the line feed among them, and whether the line ended.
-abbrev pub past : ℕ → Fed → Fed
-past i f = record { carry = f .carry; used = i + f .used; ended = f .ended }
-
-unfoldable pub fed : Carry → List ℕ → Fed
-fed c [] = record { carry = c; used = 0; ended = false }
-fed c (x ∷ s) = pick (eqb x feed) (record { carry = c; used = 1; ended = true }) (past 1 (fed (push c x) s))
 
 -- what is kept as an event, and as the first line
 unfoldable pub eventIn : Carry → Line

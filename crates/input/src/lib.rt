@@ -1,7 +1,7 @@
 // Input of any length as lines, in constant memory: what is kept of the line that is being read.
 ghost use mathlib.Core.Path.{_≡_};
 ghost use Rattle.input.specs.Carry.{eventIn, nodesIn};
-ghost use Rattle.input.specs.Carry.{push as Carry·push, carryOf, fed};
+ghost use Rattle.input.specs.Carry.{push as Carry·push, carryOf};
 ghost use mathlib.Core.List.{[]};
 use lines::Line;
 
@@ -9,13 +9,6 @@ use lines::Line;
 pub struct Carry {
     pub bytes: [u8; 40],
     pub size: usize,
-}
-
-// What is kept after a piece of input, how many of its bytes were used, and whether the line ended with them.
-pub struct Fed {
-    pub carry: Carry,
-    pub used: usize,
-    pub ended: bool,
 }
 
 // What is kept where no byte of a line has been read.
@@ -28,7 +21,8 @@ pub fn none() -> Carry
     }
 }
 
-fn push(c: Carry, x: u8) -> Carry
+// One byte more of the line.
+pub fn push(c: Carry, x: u8) -> Carry
     ensures { λ r. ⌜ r ≡ Carry·push c x ⌝ }
 {
     let size = c.size;
@@ -44,31 +38,6 @@ fn push(c: Carry, x: u8) -> Carry
     Carry {
         bytes: bytes,
         size: 41,
-    }
-}
-
-// Adds the bytes of a piece, up to its first line feed, to the line that is being read.
-pub fn take(c: Carry, piece: &[u8]) -> Fed
-    ensures { λ r. ⌜ r ≡ fed c (now (piece .entry)) ⌝ }
-{
-    let mut next = c;
-    let mut i = 0;
-    while i < piece.len() {
-        let x = piece[i];
-        if x == 10 {
-            return Fed {
-                carry: next,
-                used: i + 1,
-                ended: true,
-            };
-        }
-        next = push(next, x);
-        i += 1;
-    }
-    Fed {
-        carry: next,
-        used: i,
-        ended: false,
     }
 }
 

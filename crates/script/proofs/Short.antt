@@ -1,4 +1,4 @@
--- What a turn and the end print fits in the buffer.
+-- What a byte and the end print fits in a line's room, and what a piece prints in the room of its bytes.
 use Prim.Native.Nat.{ℕ, _≤_}
 use mathlib.Core.Bool.{Bool, true, false}
 use mathlib.Core.List.{List, []}
@@ -7,13 +7,17 @@ use lib.ListN.{length}
 use lib.Dec.{eqb}
 use Rattle.octets.specs.Test.{pick}
 use Rattle.view.specs.View.{noView}
+use Rattle.node.specs.Told.{shown}
+use Rattle.layout.specs.Layout.{stated}
 use Rattle.cluster.specs.Event.{fresh}
+use Rattle.cluster.specs.Outcome.{toldOf}
 use Rattle.answers.specs.declared.Reply.the-variants.{No}
 use Rattle.answers.proofs.Short.{line-short}
-use Rattle.input.specs.Carry.{fed, eventIn, nodesIn}
+use Rattle.input.specs.Input.{feed}
+use Rattle.input.specs.Carry.{eventIn, nodesIn}
 use Rattle.input.specs.declared.Carry.{Carry}
 use Rattle.script.specs.Act.{ran, handler, replyOf, printed}
-use Rattle.script.specs.Progress.{Told, cluster, onCluster, badLine, opened, told, ended, kept, turned, endedAt, finished}
+use Rattle.script.specs.Progress.{Told, cluster, onCluster, badLine, opened, told, ended, kept, stepped, endedAt, finished}
 use Rattle.script.specs.declared.Stage.{Stage}
 use Rattle.script.specs.declared.Stage.the-variants.{First, Events, Over}
 use Rattle.script.specs.declared.Progress.{Progress}
@@ -35,17 +39,17 @@ told-short : (s : Stage) (c : Carry) (m : List ℕ) → length (told s c m .text
 unfolding told printed
 told-short First c m = opened-short (nodesIn c) m
 told-short (Events n e) c m =
-    let r = ran (eventIn c) (cluster n m) in
-    line-short e (replyOf (handler (eventIn c)) (r .answer)) n (r .view)
+    let b : List ℕ = cluster n m in
+    let r = toldOf (ran (eventIn c) b) in
+    line-short e (replyOf (handler (eventIn c)) r) (stated b) (shown r)
 told-short Over c m = omega arith
 
-pub turn-short : (p : Progress) (s m : List ℕ) → length (turned p s m .text) ≤ 320
-unfolding turned
-turn-short p s m = cases (fed (p .carry) s .ended)
+pub step-short : (p : Progress) (x : ℕ) (m : List ℕ) → length (stepped p x m .text) ≤ 320
+unfolding stepped
+step-short p x m = cases (eqb x feed)
   where
-    cases : (b : Bool)
-        → length (pick b (ended (p .stage) (fed (p .carry) s) m) (kept (p .stage) (fed (p .carry) s) m) .text) ≤ 320
-    cases true = told-short (p .stage) (fed (p .carry) s .carry) m
+    cases : (b : Bool) → length (pick b (ended p m) (kept p x m) .text) ≤ 320
+    cases true = told-short (p .stage) (p .carry) m
     cases false = omega arith
 
 end-short : (s : Stage) (k : ℕ) → length (endedAt s k) ≤ 320

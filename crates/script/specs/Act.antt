@@ -2,13 +2,13 @@
 -- refused with 1.
 use Prim.Native.Nat.{ℕ}
 use mathlib.Core.List.{List}
-use Rattle.octets.specs.Answer.{Answer, result, refused}
 use Rattle.record.specs.declared.Operation.the-variants.{Update as UpdateOf, Scan as ScanOf}
-use Rattle.node.specs.declared.Ending.{Ending}
-use Rattle.node.specs.declared.Ending.the-variants.{None, Done, Scan as Scanned, Spent}
+use Rattle.node.specs.Told.{Told, refusal, nothing, done, scan, spent, shown}
+use Rattle.layout.specs.Layout.{stated}
 use Rattle.cluster.specs.declared.Extent.{Extent}
 use Rattle.cluster.specs.declared.Extent.the-variants.{Whole, Cut}
 use Rattle.cluster.specs.Event.{Result, refuse, begin, deliver}
+use Rattle.cluster.specs.Outcome.{toldOf}
 use Rattle.halting.specs.Stop.{stop}
 use Rattle.lines.specs.declared.Extent.{Extent as Written}
 use Rattle.lines.specs.declared.Extent.the-variants.{Whole as WrittenWhole, Cut as WrittenCut}
@@ -38,14 +38,14 @@ handler (Deliver a c x) = c
 handler (Stop c) = c
 handler Bad = 0
 
--- what is said of it: the ending at that node, or the refusal
-abbrev pub replyOf : ℕ → Answer Ending → Reply
-replyOf c (refused k) = No k
-replyOf c (result None) = Nothing
-replyOf c (result (Done r)) = SayDone c
-replyOf c (result (Scanned r)) = SayScan c
-replyOf c (result Spent) = SaySpent c
+-- what is said of it, by what it tells in document 01's terms: the ending at that node, or the refusal
+abbrev pub replyOf : ℕ → Told → Reply
+replyOf c (refusal k) = No k
+replyOf c nothing = Nothing
+replyOf c done = SayDone c
+replyOf c (scan v) = SayScan c
+replyOf c (spent k) = SaySpent c
 
--- the bytes printed for event e, in a cluster of n nodes
-unfoldable pub printed : (e n : ℕ) → Line → List ℕ → List ℕ
-printed e n l b = line e (replyOf (handler l) (ran l b .answer)) n (ran l b .view)
+-- the bytes printed for event e: a scan's view with an entry for each node that the cluster's bytes state
+unfoldable pub printed : (e : ℕ) → Line → List ℕ → List ℕ
+printed e l b = line e (replyOf (handler l) (toldOf (ran l b))) (stated b) (shown (toldOf (ran l b)))

@@ -1,8 +1,8 @@
 -- A session while its text is read: what is kept of it, and what the end of a line does. The cluster is at the front of
 -- lent memory that has room for the largest.
-use Prim.Native.Nat.{ℕ, _+_, _^_, _-_, min}
+use Prim.Native.Nat.{ℕ, _+_, _*_, _^_, _-_, min}
 use mathlib.Core.Bool.{Bool, true, false}
-use mathlib.Core.List.{List, []}
+use mathlib.Core.List.{List, [], _∷_, _++_}
 use lib.Dec.{eqb, ltb}
 use Rattle.octets.specs.Test.{pick}
 use Rattle.octets.specs.Bytes.{part}
@@ -11,9 +11,9 @@ use Rattle.block.specs.Block.{change}
 use Rattle.layout.specs.Layout.{clusterSize, size}
 use Rattle.cluster.specs.Event.{fresh}
 use Rattle.lines.specs.declared.Line.{Line}
-use Rattle.input.specs.Carry.{carryOf, fed, eventIn, nodesIn}
+use Rattle.input.specs.Input.{feed}
+use Rattle.input.specs.Carry.{carryOf, push, eventIn, nodesIn}
 use Rattle.input.specs.declared.Carry.{Carry}
-use Rattle.input.specs.declared.Fed.{Fed}
 use Rattle.answers.specs.Answer.{line}
 use Rattle.answers.specs.declared.Reply.the-variants.{No}
 use Rattle.script.specs.Act.{ran, printed}
@@ -61,7 +61,7 @@ acted n e l m =
     record {
       stage = Events n (next e);
       memory = onCluster n (λ b. ran l b .bytes) m;
-      text = printed e n l (cluster n m);
+      text = printed e l (cluster n m);
     }
 
 unfoldable pub told : Stage → Carry → List ℕ → Told
@@ -69,28 +69,41 @@ told First c m = opened (nodesIn c) m
 told (Events n e) c m = acted n e (eventIn c) m
 told Over c m = record { stage = Over; memory = m; text = [] }
 
--- What a piece of the text does, up to its first line feed, and how many of its bytes are used.
+-- What bytes of the text do: what is kept of the session then, its memory, and what is printed.
 pub record Turned : Type 0 where
   pub progress : Progress
-  pub used : ℕ
   pub memory : List ℕ
   pub text : List ℕ
 
-abbrev pub ended : Stage → Fed → List ℕ → Turned
-ended s f m =
+-- one byte: a line feed ends the line, and every other byte is the line's next
+abbrev pub ended : Progress → List ℕ → Turned
+ended p m =
     record {
-      progress = record { carry = carryOf []; stage = told s (f .carry) m .stage };
-      used = f .used;
-      memory = told s (f .carry) m .memory;
-      text = told s (f .carry) m .text;
+      progress = record { carry = carryOf []; stage = told (p .stage) (p .carry) m .stage };
+      memory = told (p .stage) (p .carry) m .memory;
+      text = told (p .stage) (p .carry) m .text;
     }
 
-abbrev pub kept : Stage → Fed → List ℕ → Turned
-kept s f m =
-    record { progress = record { carry = f .carry; stage = s }; used = f .used; memory = m; text = [] }
+abbrev pub kept : Progress → ℕ → List ℕ → Turned
+kept p x m = record { progress = record { carry = push (p .carry) x; stage = p .stage }; memory = m; text = [] }
+
+unfoldable pub stepped : Progress → ℕ → List ℕ → Turned
+stepped p x m = pick (eqb x feed) (ended p m) (kept p x m)
+
+-- a piece, byte after byte
+abbrev pub behind : List ℕ → Turned → Turned
+behind o r = record { progress = r .progress; memory = r .memory; text = o ++ r .text }
 
 unfoldable pub turned : Progress → List ℕ → List ℕ → Turned
-turned p s m = pick (fed (p .carry) s .ended) (ended (p .stage) (fed (p .carry) s) m) (kept (p .stage) (fed (p .carry) s) m)
+turned p [] m = record { progress = p; memory = m; text = [] }
+turned p (x ∷ s) m = behind (stepped p x m .text) (turned (stepped p x m .progress) s (stepped p x m .memory))
+
+-- The most bytes of a piece, and the room for what is printed for it: each byte ends at most one line.
+abbrev pub pieceSize : ℕ
+pieceSize = 1024
+
+abbrev pub textSize : ℕ
+textSize = pieceSize * 320
 
 -- Before the first byte; whether it is over; and what is printed at the end of the text, where a first line that never
 -- came and a last line without its line feed are bad.

@@ -43,9 +43,9 @@ leftBy b [] = b
 leftBy b (l ∷ ls) = leftBy (ran l b .bytes) ls
 
 -- what they print, the first of them as event e
-unfoldable pub printedBy : (e n : ℕ) → List ℕ → List Line → List ℕ
-printedBy e n b [] = []
-printedBy e n b (l ∷ ls) = printed e n l b ++ printedBy (next e) n (ran l b .bytes) ls
+unfoldable pub printedBy : (e : ℕ) → List ℕ → List Line → List ℕ
+printedBy e b [] = []
+printedBy e b (l ∷ ls) = printed e l b ++ printedBy (next e) (ran l b .bytes) ls
 
 -- a fresh cluster of n nodes
 abbrev pub freshOf : ℕ → List ℕ
@@ -55,4 +55,4 @@ abbrev pub clusterAfter : List ℕ → List ℕ
 clusterAfter t = leftBy (freshOf (nodesIn t)) (eventsIn t)
 
 unfoldable pub output : List ℕ → List ℕ
-output t = pick (eqb (nodesIn t) 0) (badLine 0) (printedBy 1 (nodesIn t) (freshOf (nodesIn t)) (eventsIn t))
+output t = pick (eqb (nodesIn t) 0) (badLine 0) (printedBy 1 (freshOf (nodesIn t)) (eventsIn t))

@@ -10,21 +10,31 @@ use lines::Line;
 use node::Ending;
 use octets::least;
 use record::Operation;
+use region::channel::index;
+use view::View;
 ghost use mathlib.Core.Path.{_≡_};
-ghost use Prim.Native.Nat.{_≤_};
-ghost use lib.ListN.{length};
+ghost use Prim.Native.Nat.{_+_, _≤_};
+ghost use lib.ListN.{length, take};
 ghost use Rattle.octets.specs.Answer.{result};
 ghost use Rattle.octets.specs.Bytes.{put};
+ghost use Rattle.node.specs.Told.{told as tellsOf};
+ghost use Rattle.layout.specs.Layout.{stated};
 ghost use Rattle.cluster.specs.Event.{fresh};
-ghost use Rattle.cluster.specs.Outcome.{said, tells};
+ghost use Rattle.cluster.specs.Outcome.{tells, toldBy};
 ghost use Rattle.script.specs.Act.{extentOf, ran, replyOf, printed};
 ghost use Rattle.script.specs.Act.{handler as handlerOf};
-ghost use Rattle.script.specs.Progress.{memorySize, lent, cluster, onCluster, badLine};
-ghost use Rattle.script.specs.Progress.{opened, told, turned, begun, finished, isOver};
+ghost use Rattle.script.specs.Progress.{memorySize, pieceSize, textSize, lent, cluster, onCluster, badLine};
+ghost use Rattle.script.specs.Progress.{opened, told, stepped, turned, begun, finished, isOver};
 ghost use Rattle.script.specs.Progress.{next as nextOf};
 
 // The memory of a session: the bytes of a cluster of five nodes.
 pub const MEMORY: usize = 366726;
+
+// The most bytes of a piece of the text, and the room for what is printed for it: PIECE * ROOM, since each byte ends at
+// most one line.
+pub const PIECE: usize = 1024;
+
+pub const TEXT: usize = 327680;
 
 // Where a session is: before its first line; among its events, with the number of nodes and of the next event; or over,
 // after a bad first line.
@@ -40,17 +50,16 @@ pub struct Progress {
     pub stage: Stage,
 }
 
-// What a line that ended did: where the session is then, and how many bytes are printed.
+// What a line that ended did: where the session is then, and the place after what is printed.
 struct Passed {
     stage: Stage,
-    length: usize,
+    end: usize,
 }
 
-// What a piece of the text did: how many of its bytes were used, and how many bytes are printed.
+// What bytes of the text did: what is kept then, and the place after what is printed.
 pub struct Turn {
     pub progress: Progress,
-    pub used: usize,
-    pub length: usize,
+    pub end: usize,
 }
 
 fn extent_of(x: lines::Extent) -> cluster::Extent
@@ -96,7 +105,7 @@ fn handler(l: Line) -> usize
 
 // What is said of it, where c is that node.
 fn ending_at(c: usize, e: Ending) -> Reply
-    ensures { λ r. ⌜ r ≡ replyOf c (result e) ⌝ }
+    ensures { λ r. ⌜ ((v : View) → r ≡ replyOf c (tellsOf (result e) v)) ⌝ }
 {
     match e {
         Ending::None => Reply::Nothing,
@@ -106,24 +115,43 @@ fn ending_at(c: usize, e: Ending) -> Reply
     }
 }
 
-fn reply_at(c: usize, o: Outcome) -> Reply
-    ensures { λ r. ⌜ r ≡ replyOf c (said o) ⌝ }
+fn reply_at(c: usize, a: Answer) -> Reply
+    ensures { λ r. ⌜ r ≡ replyOf c (toldBy a) ⌝ }
 {
-    match o {
+    let outcome = a.outcome;
+    match outcome {
         Outcome::Refused(k) => Reply::No(k as usize),
         Outcome::Accepted(e) => ending_at(c, e),
     }
 }
 
-// Runs a line as event e in a cluster of n nodes, writes what is printed at the front of `out`, and answers its length.
-pub fn run(b: &mut [u8], e: u64, n: usize, l: Line, out: &mut [u8; ROOM]) -> usize
-    ensures { λ r. ⌜ (now (b .exit) ≡ ran l (now (b .entry)) .bytes)
-        × (now (out .exit) ≡ put (now (out .entry)) 0 (printed e n l (now (b .entry))))
-        × (r ≡ length (printed e n l (now (b .entry)))) ⌝ }
+// The number of nodes that a cluster's bytes state.
+fn nodes_in(b: &[u8]) -> usize
+    ensures { λ r. ⌜ r ≡ stated (now (b .entry)) ⌝ }
 {
+    if b.len() == 0 { 0 } else { index(b[0]) }
+}
+
+// Runs a line as event e, writes what is printed at a place, and answers the place after it.
+fn run_at(b: &mut [u8], e: u64, l: Line, out: &mut [u8], at: usize) -> usize
+    requires { ⌜ at + 320 ≤ length (now out) ⌝ }
+    ensures { λ r. ⌜ (now (b .exit) ≡ ran l (now (b .entry)) .bytes)
+        × (now (out .exit) ≡ put (now (out .entry)) at (printed e l (now (b .entry))))
+        × (r ≡ at + length (printed e l (now (b .entry)))) ⌝ }
+{
+    let n = nodes_in(b);
     let a = act(b, l);
-    let outcome = a.outcome;
-    put_line(out, e, reply_at(handler(l), outcome), n, a.view)
+    put_line(out, at, e, reply_at(handler(l), a), n, a.view)
+}
+
+// Runs a line as event e, writes what is printed at the front of `out`, and answers its length. A line that is refused
+// with k leaves every byte of the cluster as it was, and `out` gets the line `e no k`.
+pub fn run(b: &mut [u8], e: u64, l: Line, out: &mut [u8; ROOM]) -> usize
+    ensures { λ r. ⌜ (now (b .exit) ≡ ran l (now (b .entry)) .bytes)
+        × (now (out .exit) ≡ put (now (out .entry)) 0 (printed e l (now (b .entry))))
+        × (r ≡ length (printed e l (now (b .entry)))) ⌝ }
+{
+    run_at(b, e, l, out, 0)
 }
 
 // The number after an event's: the greatest number has none.
@@ -140,15 +168,15 @@ fn lent_for(n: usize) -> usize
     least(layout::size(n), MEMORY)
 }
 
-// Runs a line on the cluster in the memory.
-fn run_in(m: &mut [u8], e: u64, n: usize, l: Line, out: &mut [u8; ROOM]) -> usize
-    requires { ⌜ length (now m) ≡ memorySize ⌝ }
+// Runs a line on the cluster of n nodes in the memory.
+fn run_in(m: &mut [u8], e: u64, n: usize, l: Line, out: &mut [u8], at: usize) -> usize
+    requires { ⌜ (length (now m) ≡ memorySize) × (at + 320 ≤ length (now out)) ⌝ }
     ensures { λ r. ⌜ (now (m .exit) ≡ onCluster n (λ b. ran l b .bytes) (now (m .entry)))
-        × (now (out .exit) ≡ put (now (out .entry)) 0 (printed e n l (cluster n (now (m .entry)))))
-        × (r ≡ length (printed e n l (cluster n (now (m .entry))))) ⌝ }
+        × (now (out .exit) ≡ put (now (out .entry)) at (printed e l (cluster n (now (m .entry)))))
+        × (r ≡ at + length (printed e l (cluster n (now (m .entry))))) ⌝ }
 {
     let end = lent_for(n);
-    run(&mut m[0..end], e, n, l, out)
+    run_at(&mut m[0..end], e, l, out, at)
 }
 
 // Makes a fresh cluster of n nodes in the memory.
@@ -161,43 +189,44 @@ fn fresh_in(m: &mut [u8], n: usize)
 }
 
 // A bad line.
-fn put_bad(out: &mut [u8; ROOM], e: u64) -> usize
-    ensures { λ r. ⌜ (now (out .exit) ≡ put (now (out .entry)) 0 (badLine e)) × (r ≡ length (badLine e)) ⌝ }
+fn put_bad(out: &mut [u8], at: usize, e: u64) -> usize
+    requires { ⌜ at + 320 ≤ length (now out) ⌝ }
+    ensures { λ r. ⌜ (now (out .exit) ≡ put (now (out .entry)) at (badLine e)) × (r ≡ at + length (badLine e)) ⌝ }
 {
-    put_line(out, e, Reply::No(1), 0, view::absent())
+    put_line(out, at, e, Reply::No(1), 0, view::absent())
 }
 
 // The first line, which says n, or 0 where it is bad.
-fn first_line(m: &mut [u8], n: usize, out: &mut [u8; ROOM]) -> Passed
-    requires { ⌜ length (now m) ≡ memorySize ⌝ }
+fn first_line(m: &mut [u8], n: usize, out: &mut [u8], at: usize) -> Passed
+    requires { ⌜ (length (now m) ≡ memorySize) × (at + 320 ≤ length (now out)) ⌝ }
     ensures { λ r. ⌜ (r .stage ≡ opened n (now (m .entry)) .stage) × (now (m .exit) ≡ opened n (now (m .entry)) .memory)
-        × (now (out .exit) ≡ put (now (out .entry)) 0 (opened n (now (m .entry)) .text))
-        × (r .length ≡ length (opened n (now (m .entry)) .text)) ⌝ }
+        × (now (out .exit) ≡ put (now (out .entry)) at (opened n (now (m .entry)) .text))
+        × (r .end ≡ at + length (opened n (now (m .entry)) .text)) ⌝ }
 {
     if n == 0 {
         return Passed {
             stage: Stage::Over,
-            length: put_bad(out, 0),
+            end: put_bad(out, at, 0),
         };
     }
     fresh_in(m, n);
     Passed {
         stage: Stage::Events { nodes: n, event: 1 },
-        length: 0,
+        end: at,
     }
 }
 
 // A line that has ended.
-fn pass(m: &mut [u8], s: Stage, c: Carry, out: &mut [u8; ROOM]) -> Passed
-    requires { ⌜ length (now m) ≡ memorySize ⌝ }
+fn pass(m: &mut [u8], s: Stage, c: Carry, out: &mut [u8], at: usize) -> Passed
+    requires { ⌜ (length (now m) ≡ memorySize) × (at + 320 ≤ length (now out)) ⌝ }
     ensures { λ r. ⌜ (r .stage ≡ told s c (now (m .entry)) .stage) × (now (m .exit) ≡ told s c (now (m .entry)) .memory)
-        × (now (out .exit) ≡ put (now (out .entry)) 0 (told s c (now (m .entry)) .text))
-        × (r .length ≡ length (told s c (now (m .entry)) .text)) ⌝ }
+        × (now (out .exit) ≡ put (now (out .entry)) at (told s c (now (m .entry)) .text))
+        × (r .end ≡ at + length (told s c (now (m .entry)) .text)) ⌝ }
 {
     match s {
-        Stage::First => first_line(m, input::nodes(c), out),
+        Stage::First => first_line(m, input::nodes(c), out, at),
         Stage::Events { nodes, event } => Passed {
-            length: run_in(m, event, nodes, input::event(c), out),
+            end: run_in(m, event, nodes, input::event(c), out, at),
             stage: Stage::Events {
                 nodes: nodes,
                 event: next(event),
@@ -205,8 +234,37 @@ fn pass(m: &mut [u8], s: Stage, c: Carry, out: &mut [u8; ROOM]) -> Passed
         },
         Stage::Over => Passed {
             stage: Stage::Over,
-            length: 0,
+            end: at,
         },
+    }
+}
+
+// One byte of the text.
+fn step(m: &mut [u8; MEMORY], p: Progress, x: u8, out: &mut [u8; TEXT], at: usize) -> Turn
+    requires { ⌜ at + 320 ≤ textSize ⌝ }
+    ensures { λ r. ⌜ (r .progress ≡ stepped p x (now (m .entry)) .progress)
+        × (now (m .exit) ≡ stepped p x (now (m .entry)) .memory)
+        × (now (out .exit) ≡ put (now (out .entry)) at (stepped p x (now (m .entry)) .text))
+        × (r .end ≡ at + length (stepped p x (now (m .entry)) .text)) ⌝ }
+{
+    let stage = p.stage;
+    if x == 10 {
+        let t = pass(m, stage, p.carry, out, at);
+        let then = t.stage;
+        return Turn {
+            progress: Progress {
+                carry: input::none(),
+                stage: then,
+            },
+            end: t.end,
+        };
+    }
+    Turn {
+        progress: Progress {
+            carry: input::push(p.carry, x),
+            stage: stage,
+        },
+        end: at,
     }
 }
 
@@ -232,52 +290,69 @@ pub fn is_over(p: Progress) -> bool
     }
 }
 
-// Reads a piece of the text up to its first line feed; a line that ends is run, and what is printed is written at the
-// front of `out`.
-pub fn advance(m: &mut [u8; MEMORY], p: Progress, piece: &[u8], out: &mut [u8; ROOM]) -> Turn
-    ensures { λ r. ⌜ (r .progress ≡ turned p (now (piece .entry)) (now (m .entry)) .progress)
-        × (r .used ≡ turned p (now (piece .entry)) (now (m .entry)) .used)
-        × (now (m .exit) ≡ turned p (now (piece .entry)) (now (m .entry)) .memory)
-        × (now (out .exit) ≡ put (now (out .entry)) 0 (turned p (now (piece .entry)) (now (m .entry)) .text))
-        × (r .length ≡ length (turned p (now (piece .entry)) (now (m .entry)) .text)) ⌝ }
+// Reads a piece of the text, the first `count` bytes of `piece` or all of them.
+fn read_bytes(
+    m: &mut [u8; MEMORY],
+    p: Progress,
+    piece: &[u8],
+    count: usize,
+    out: &mut [u8; TEXT],
+) -> Turn
+    requires { ⌜ length (now piece) ≤ pieceSize ⌝ }
+    ensures { λ r. ⌜ (r .progress ≡ turned p (take count (now (piece .entry))) (now (m .entry)) .progress)
+        × (now (m .exit) ≡ turned p (take count (now (piece .entry))) (now (m .entry)) .memory)
+        × (now (out .exit) ≡ put (now (out .entry)) 0 (turned p (take count (now (piece .entry))) (now (m .entry)) .text))
+        × (r .end ≡ length (turned p (take count (now (piece .entry))) (now (m .entry)) .text))
+        × (r .end ≤ textSize) ⌝ }
 {
-    let f = input::take(p.carry, piece);
-    let stage = p.stage;
-    if !f.ended {
-        let carry = f.carry;
-        return Turn {
-            progress: Progress {
-                carry: carry,
-                stage: stage,
-            },
-            used: f.used,
-            length: 0,
-        };
+    let most = least(count, piece.len());
+    let mut now = p;
+    let mut at = 0;
+    let mut i = 0;
+    while i < most {
+        let t = step(m, now, piece[i], out, at);
+        let next = t.progress;
+        now = next;
+        at = t.end;
+        i += 1;
     }
-    let t = pass(m, stage, f.carry, out);
-    let then = t.stage;
     Turn {
-        progress: Progress {
-            carry: input::none(),
-            stage: then,
-        },
-        used: f.used,
-        length: t.length,
+        progress: now,
+        end: at,
     }
 }
 
+// The same of a piece of any size that there is room for: every line that ends in it is run, all that is printed for it
+// is written at the front of `out`, and the other bytes stay.
+pub fn read(
+    m: &mut [u8; MEMORY],
+    p: Progress,
+    piece: &[u8; PIECE],
+    count: usize,
+    out: &mut [u8; TEXT],
+) -> Turn
+    ensures { λ r. ⌜ (r .progress ≡ turned p (take count (now (piece .entry))) (now (m .entry)) .progress)
+        × (now (m .exit) ≡ turned p (take count (now (piece .entry))) (now (m .entry)) .memory)
+        × (now (out .exit) ≡ put (now (out .entry)) 0 (turned p (take count (now (piece .entry))) (now (m .entry)) .text))
+        × (r .end ≡ length (turned p (take count (now (piece .entry))) (now (m .entry)) .text))
+        × (r .end ≤ textSize) ⌝ }
+{
+    read_bytes(m, p, piece, count, out)
+}
+
 // The end of the text: what is printed for a first line that never came, and for a last line without its line feed.
-pub fn finish(p: Progress, out: &mut [u8; ROOM]) -> usize
-    ensures { λ r. ⌜ (now (out .exit) ≡ put (now (out .entry)) 0 (finished p)) × (r ≡ length (finished p)) ⌝ }
+pub fn finish(p: Progress, out: &mut [u8; TEXT]) -> usize
+    ensures { λ r. ⌜ (now (out .exit) ≡ put (now (out .entry)) 0 (finished p)) × (r ≡ length (finished p))
+        × (r ≤ textSize) ⌝ }
 {
     let stage = p.stage;
     match stage {
-        Stage::First => put_bad(out, 0),
+        Stage::First => put_bad(out, 0, 0),
         Stage::Events { event, .. } => {
             if p.carry.size == 0 {
                 0
             } else {
-                put_bad(out, event)
+                put_bad(out, 0, event)
             }
         }
         Stage::Over => 0,

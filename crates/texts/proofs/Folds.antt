@@ -1,15 +1,18 @@
 -- The lines of a session one after the other: what one more does, and that the cluster after them is that after the
 -- events that they are.
 use Prim.Native.Nat.{ℕ, _≤_}
-use mathlib.Core.Path.{_≡_, refl, sym, ap, _∙_}
-use mathlib.Core.List.{List, [], _∷_, _++_, append-nil, append-assoc}
+use mathlib.Core.Path.{_≡_, refl, sym, ap, subst, _∙_}
+use mathlib.Core.List.{List, [], _∷_, _++_, map, append-nil, append-assoc}
 use native.Mathlib.Omega.{arith}
 use lib.ListN.{length, replicate, length-replicate}
-use Rattle.layout.specs.Layout.{clusterSize}
+use Rattle.table.specs.Quorum.{faults}
+use Rattle.layout.specs.Layout.{clusterSize, stated}
 use Rattle.cluster.specs.Event.{Result, fresh, freshBytes}
 use Rattle.lines.specs.declared.Line.{Line}
 use Rattle.lines.specs.declared.Line.the-variants.{Update, Scan, Deliver, Stop, Bad}
-use Rattle.mirror.specs.Run.{after}
+use Rattle.eqaso.specs.Cluster as K
+use Rattle.mirror.specs.Mirrors.{Mirrors}
+use Rattle.mirror.specs.Run.{after, meaning}
 use Rattle.mirror.proofs.Run.{fresh-taken, run-mirrors}
 use Rattle.script.specs.Act.{ran, printed}
 use Rattle.script.specs.Progress.{next}
@@ -31,14 +34,14 @@ unfolding leftBy
 left-more b [] l = refl
 left-more b (k ∷ ls) l = left-more (ran k b .bytes) ls l
 
-pub printed-more : (e n : ℕ) (b : List ℕ) (ls : List Line) (l : Line)
-    → printedBy e n b (ls ++ (l ∷ [])) ≡ printedBy e n b ls ++ printed (counted e ls) n l (leftBy b ls)
+pub printed-more : (e : ℕ) (b : List ℕ) (ls : List Line) (l : Line)
+    → printedBy e b (ls ++ (l ∷ [])) ≡ printedBy e b ls ++ printed (counted e ls) l (leftBy b ls)
 unfolding printedBy leftBy counted
-printed-more e n b [] l = append-nil (printed e n l b)
-printed-more e n b (k ∷ ls) l =
-    ap (λ (r : List ℕ). printed e n k b ++ r) (printed-more (next e) n (ran k b .bytes) ls l)
-    ∙ sym (append-assoc (printed e n k b) (printedBy (next e) n (ran k b .bytes) ls)
-    (printed (counted (next e) ls) n l (leftBy (ran k b .bytes) ls)))
+printed-more e b [] l = append-nil (printed e l b)
+printed-more e b (k ∷ ls) l =
+    ap (λ (r : List ℕ). printed e k b ++ r) (printed-more (next e) (ran k b .bytes) ls l)
+    ∙ sym (append-assoc (printed e k b) (printedBy (next e) (ran k b .bytes) ls)
+    (printed (counted (next e) ls) l (leftBy (ran k b .bytes) ls)))
 
 -- a bad line changes nothing
 pub left-events : (b : List ℕ) (ls : List Line) → leftBy b ls ≡ after b (eventsOf ls)
@@ -58,10 +61,20 @@ module _ (n : ℕ) (low : 1 ≤ n) (high : n ≤ 5) where
   fresh-is b long =
       ap (λ (r : Result). r .bytes) (fresh-taken n low small b long) ∙ ap (λ (k : ℕ). freshBytes n k) long
 
-  -- the bytes of a cluster stay as many
-  pub left-long : (ls : List Line) → length (leftBy (freshOf n) ls) ≡ clusterSize n
-  left-long ls =
+  -- the bytes after some lines mirror a cluster of the algorithm
+  left-mirrors : (ls : List Line)
+      → Mirrors n (leftBy (freshOf n) ls) (K.after n (faults n) K.start (map meaning (eventsOf ls)))
+  left-mirrors ls =
       let b : List ℕ = replicate (clusterSize n) 0 in
       let long : length b ≡ clusterSize n = length-replicate (clusterSize n) 0 in
-      ap length (left-events (freshOf n) ls ∙ ap (λ (c : List ℕ). after c (eventsOf ls)) (sym (fresh-is b long)))
-      ∙ run-mirrors n low small b long (eventsOf ls) .shows .long
+      let same : after (fresh n b .bytes) (eventsOf ls) ≡ leftBy (freshOf n) ls =
+      ap (λ (c : List ℕ). after c (eventsOf ls)) (fresh-is b long) ∙ sym (left-events (freshOf n) ls) in
+      subst (λ (c : List ℕ). Mirrors n c (K.after n (faults n) K.start (map meaning (eventsOf ls)))) same
+      (run-mirrors n low small b long (eventsOf ls))
+
+  -- so they stay as many, and state n
+  pub left-long : (ls : List Line) → length (leftBy (freshOf n) ls) ≡ clusterSize n
+  left-long ls = left-mirrors ls .shows .long
+
+  pub left-states : (ls : List Line) → stated (leftBy (freshOf n) ls) ≡ n
+  left-states ls = left-mirrors ls .shows .states

@@ -29,17 +29,17 @@ use Rattle.script.specs.Text.{output}
 use Rattle.script.specs.Reading.{Reading}
 use Rattle.texts.specs.Lines.{Lines}
 use Rattle.texts.specs.Session.{Faithful, Sessions, eventsFrom, traceIn}
-use Rattle.texts.proofs.Folds.{left-more, printed-more, left-events, fresh-is}
+use Rattle.texts.proofs.Folds.{left-more, printed-more, left-events, fresh-is, left-states}
 use Rattle.texts.proofs.Stands.{Among, Stands, first, over, among, nodes-most}
 use Rattle.texts.proofs.Printed.{lines-print}
-use Rattle.texts.proofs.Pieces.{holds, read-all}
+use Rattle.texts.proofs.Pieces.{holds}
 
 -- ---- from the lines that have ended, and the rest
 
 abbrev outputOf : List (List ℕ) → List ℕ → List ℕ
 outputOf ls r =
     pick (eqb (nodesFirst ls) 0) (badLine 0)
-    (printedBy 1 (nodesFirst ls) (freshOf (nodesFirst ls)) (eventsAfter ls ++ unended r))
+    (printedBy 1 (freshOf (nodesFirst ls)) (eventsAfter ls ++ unended r))
 
 -- a line that has begun has a length
 begun-size : (x : ℕ) (r : List ℕ) → carryOf (x ∷ r) .size ≡ 0 → ⊥
@@ -52,13 +52,13 @@ begun-size x r = cases (leb (length (x ∷ r)) 40)
 
 -- what the end prints among the events
 ends : {n e : ℕ} {ls : List Line} {m o : List ℕ} → Among n e ls m o → (r : List ℕ)
-    → o ++ pick (eqb (carryOf r .size) 0) [] (badLine e) ≡ printedBy 1 n (freshOf n) (ls ++ unended r)
+    → o ++ pick (eqb (carryOf r .size) 0) [] (badLine e) ≡ printedBy 1 (freshOf n) (ls ++ unended r)
 unfolding carryOf printed line
 ends {n} {e} {ls} {m} {o} a [] =
-    append-nil o ∙ a .shown ∙ ap (λ (k : List Line). printedBy 1 n (freshOf n) k) (sym (append-nil ls))
+    append-nil o ∙ a .shown ∙ ap (λ (k : List Line). printedBy 1 (freshOf n) k) (sym (append-nil ls))
 ends {n} {e} {ls} {m} {o} a (x ∷ r) =
     ap (λ (b : Bool). o ++ pick b [] (badLine e)) (ne-eqb (carryOf (x ∷ r) .size) 0 (begun-size x r))
-    ∙ rw (a .shown, a .number) (sym (printed-more 1 n (freshOf n) ls Bad))
+    ∙ rw (a .shown, a .number) (sym (printed-more 1 (freshOf n) ls Bad))
 
 -- a bad line more leaves the cluster as it is
 left-unended : (b : List ℕ) (ls : List Line) (r : List ℕ) → leftBy b (ls ++ unended r) ≡ leftBy b ls
@@ -122,12 +122,11 @@ module _ (t : List ℕ) (q : nodesIn t ≡ 0 → ⊥) where
 
   printed-all : Lines n 1 (eventsIn t) (traceIn t) (output t)
   unfolding output
-  printed-all = rw (ne-eqb n 0 q) (lines-print n 1 (freshOf n) (eventsIn t))
+  printed-all = rw (ne-eqb n 0 q) (lines-print n 1 (freshOf n) (eventsIn t) (left-states n low high))
 
 pub sessions : Sessions
 sessions = record {
   pieces = faithful;
-  whole = read-all;
   fold = λ t. left-events (freshOf (nodesIn t)) (eventsIn t);
   shows = λ t q. printed-all t q;
   order = λ t q. ordered t q .0;

@@ -45,7 +45,7 @@ pub record Among (n e : ℕ) (ls : List Line) (m o : List ℕ) : Type 0 where
   pub high : n ≤ 5
   pub number : e ≡ counted 1 ls
   pub bytes : cluster n m ≡ leftBy (freshOf n) ls
-  pub shown : o ≡ printedBy 1 n (freshOf n) ls
+  pub shown : o ≡ printedBy 1 (freshOf n) ls
 
 pub data Stands (m o : List ℕ) : List (List ℕ) → Stage → Type 0 where
   first : o ≡ [] → Stands m o [] First
@@ -106,7 +106,7 @@ module _ (m o : List ℕ) (long : length m ≡ memorySize) where
           high = a .high;
           number = ap next (a .number) ∙ sym (counted-more 1 ls l);
           bytes = cluster-on n m long f same ∙ step;
-          shown = rw (a .shown, a .number, a .bytes) (sym (printed-more 1 n (freshOf n) ls l));
+          shown = rw (a .shown, a .number, a .bytes) (sym (printed-more 1 (freshOf n) ls l));
         },
       )
 

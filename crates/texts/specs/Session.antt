@@ -10,7 +10,7 @@ use Rattle.mirror.specs.Run.{Event, after, traceFrom}
 use Rattle.script.specs.Progress.{cluster, finished, isOver}
 use Rattle.script.specs.declared.Progress.{Progress}
 use Rattle.script.specs.Text.{nodesIn, eventsIn, freshOf, clusterAfter, output}
-use Rattle.script.specs.Reading.{Reading, Reads}
+use Rattle.script.specs.Reading.{Reading}
 use Rattle.texts.specs.Lines.{eventsOf, Lines}
 
 -- The text t has been read, m is the memory, and o has been printed.
@@ -22,12 +22,6 @@ pub record Faithful (t : List ℕ) (p : Progress) (m o : List ℕ) : Type 0 wher
   -- The cluster is that after the text's events.
   pub leaves : (nodesIn t ≡ 0 → ⊥) → cluster (nodesIn t) m ≡ clusterAfter t
 
--- The text t can be read, with some progress and memory after it.
-pub record Readable (t : List ℕ) : Type 0 where
-  pub progress : Progress
-  pub memory : List ℕ
-  pub reads : Reads t progress memory
-
 -- The events of a text, and what is seen of their run from a fresh cluster of n nodes.
 abbrev pub eventsFrom : List ℕ → List Event
 eventsFrom t = eventsOf (eventsIn t)
@@ -36,10 +30,8 @@ abbrev pub traceIn : List ℕ → Trace
 traceIn t = traceFrom (nodesIn t) (freshOf (nodesIn t)) (eventsFrom t)
 
 pub record Sessions : Type 0 where
-  -- Whatever the pieces,
+  -- Whatever the pieces.
   pub pieces : {t m o : List ℕ} {p : Progress} → Reading t p m o → Faithful t p m o
-  -- and every piece is read to its end.
-  pub whole : {t m o : List ℕ} {p : Progress} → Reading t p m o → (s : List ℕ) → Readable (t ++ s)
   -- The cluster after a text is that after its events, from a fresh one.
   pub fold : (t : List ℕ) → clusterAfter t ≡ after (freshOf (nodesIn t)) (eventsFrom t)
   -- What is printed for a text are the endings and refusals of that run, and refusal 1 for each bad line.

@@ -17,8 +17,8 @@ returns c =
     let k = c .before .before .before .before .before .before .put-start .result in
     let p = c .before .before .before .before .before .before .put-start .ensures in
     let q = c .before .before .put-feed .ensures in
-    let l : 0 + length s ≡ k = omega (arith, p .1) in
-    (put-then o 0 s feed k (omega arith) l (p .0) (q .0), q .1 ∙ simp length-append (omega (arith, p .1)))
+    let l : a .at + length s ≡ k = omega (arith, p .1) in
+    (put-then o (a .at) s feed k (omega arith) l (p .0) (q .0), q .1 ∙ simp length-append (omega (arith, p .1)))
 
 pub put-short-spec : {M : Type 1} → statement M
 put-short-spec = tie.close (tie.spec (λ c κs. search needs) (λ c κs. search needs) (λ c. search needs) returns)

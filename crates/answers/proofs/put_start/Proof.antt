@@ -21,11 +21,11 @@ returns c =
     let k = c .before .before .before .before .before .before .before .before .before .before .put-number .result in
     let p = c .before .before .before .before .before .before .before .before .before .before .put-number .ensures in
     let q = c .before .before .put-number2 .ensures in
-    let l : 0 + length (d ++ w) ≡ k + length w = simp length-append (omega (arith, p .1)) in
-    let n : length (d ++ w ++ decimal (a .x)) ≡ k + length w + length (decimal (a .x)) = simp length-append (omega
+    let l : a .at + length (d ++ w) ≡ k + length w = simp length-append (omega (arith, p .1)) in
+    let n : a .at + length (d ++ w ++ decimal (a .x)) ≡ k + length w + length (decimal (a .x)) = simp length-append (omega
     (arith, p .1)) in (
-      put-then o 0 (d ++ w) (decimal (a .x)) (k + length w) (omega arith) l
-          (put-then o 0 d w k (omega arith) (sym (p .1)) (p .0)
+      put-then o (a .at) (d ++ w) (decimal (a .x)) (k + length w) (omega arith) l
+          (put-then o (a .at) d w k (omega arith) (sym (p .1)) (p .0)
           (c .before .before .before .before .before .before .put-bytes .ensures)) (q .0),
       q .1 ∙ sym n,
       omega (

@@ -9,8 +9,11 @@ absent-requires c κs = search needs
 put-line-requires : tie.Need-put-line-requires
 put-line-requires c κs = search needs
 
+same-length : tie.Need-same-length
+same-length c = search needs
+
 returns : tie.Need-returns
-returns c = rw (sym (c .before .absent .ensures)) (c .put-line .ensures)
+returns c = rw (sym (c .before .before .before .absent .ensures)) (c .before .before .put-line .ensures)
 
 pub put-bad-spec : {M : Type 1} → statement M
-put-bad-spec = tie.close (tie.spec absent-requires put-line-requires returns)
+put-bad-spec = tie.close (tie.spec absent-requires put-line-requires same-length returns)
