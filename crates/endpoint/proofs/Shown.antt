@@ -9,7 +9,7 @@ use Rattle.view.specs.Size.{nodes}
 use Rattle.view.specs.View.{AbsentPast}
 use Rattle.view.specs.declared.View.{View}
 use Rattle.view.proofs.First.{none-absent}
-use Rattle.wire.specs.Codec.{decode}
+use Rattle.wire.specs.Codec.{decode, viewPart}
 use Rattle.wire.specs.declared.Message.{Message}
 use Rattle.table.specs.Quorum.{faults}
 use Rattle.record.specs.Usable.{usable, isOpen, full}
@@ -52,14 +52,14 @@ begin-absent c o out h =
     let-out (c .n) h (beginStep (faults (c .n)) c o) out (step.begin-absent (faults (c .n)) c o h)))) (λ e. none))
 
 -- what is read is handled, or refused
-handled : (c : Node) (h : c .n ≤ nodes) (s : ℕ) (b out : List ℕ) (m : Answer Message)
-    → Shows (c .n) h (taken c s b out m)
+handled : (c : Node) (h : c .n ≤ nodes) (s : ℕ) (v out : List ℕ) (m : Answer Message)
+    → Shows (c .n) h (taken c s v out m)
 unfolding taken
-handled c h s b out (refused k) = none-absent (c .n) h
-handled c h s b out (result m) =
+handled c h s v out (refused k) = none-absent (c .n) h
+handled c h s v out (result m) =
     on-pick (Shows (c .n) h) (staleMessage c s m) _ _ (λ e. none-absent (c .n) h) (λ e.
-    let-out (c .n) h (messageStep (faults (c .n)) c s m (beside (c .n) b m)) out
-    (step.message-absent (faults (c .n)) c s m (beside (c .n) b m) h))
+    let-out (c .n) h (messageStep (faults (c .n)) c s m (beside (c .n) v m)) out
+    (step.message-absent (faults (c .n)) c s m (beside (c .n) v m) h))
 
 pub message-absent : claim.MessageAbsent
 unfolding message
@@ -68,4 +68,4 @@ message-absent c s b out h =
     on-pick (Shows (c .n) h) (ltb (length out) 512) _ _ (λ e. none) (λ e.
     on-pick (Shows (c .n) h) (usable c) _ _ (λ e.
     on-pick (Shows (c .n) h) (both (leb 1 s) (leb s (c .n))) _ _
-    (λ e. handled c h s b out (decode (c .n) b)) (λ e. none)) (λ e. none))
+    (λ e. handled c h s (viewPart (c .n) b) out (decode (c .n) b)) (λ e. none)) (λ e. none))

@@ -6,7 +6,7 @@ use mathlib.Core.List.{List, [], List·Memᴰ·head, Memᴰ·append-right}
 use Rattle.theory.specs.Log.{_∈_}
 use Rattle.theory.proofs.Log.{⊑-trans, ⊑-cons, mem-up, place, each-at}
 use Rattle.eqaso.specs.Message.{Value, View, value, good}
-use Rattle.eqaso.specs.Cluster.{Event, always, start, after}
+use Rattle.eqaso.specs.Cluster.{Event, unlimited, start, after}
 use Rattle.eqaso.specs.Trace.{trace, letOutTo}
 use Rattle.eqaso.specs.Bounded.{RunBounded, RunExpected, OwnHeld, OpensHigh, LetOut, InitialSegment}
 use Rattle.eqaso.specs.Bounded.{RunClosed, RunRising}
@@ -38,7 +38,7 @@ pub claim3 : Claim3
 claim3 n f size (half, largest) = demand3 n f sixteen half
 
 pub on-links : OnLinks
-on-links n f half = demand3 n f always half
+on-links n f half = demand3 n f unlimited half
 
 -- Claims about single steps.
 pub spent-only : (n f : ℕ) → SpentLast n f

@@ -11,7 +11,7 @@ use Rattle.theory.specs.Log.{_∈_}
 use Rattle.eqaso.specs.Message.{absent, View, Message, good}
 use Rattle.eqaso.specs.Algorithm.{limit, Operation, update, scan, Wait, idle, reading, writing, comparing}
 use Rattle.eqaso.specs.Algorithm.{borrowing, Node, none, done, shown, spent, react, messageStep, beginStep}
-use Rattle.eqaso.specs.Cluster.{atMost, always}
+use Rattle.eqaso.specs.Cluster.{atMost, unlimited}
 use Rattle.eqaso.specs.Trace.{Trace, updating, begun, Fate, unfinished, ended, fate, tagAt, viewOf, entryAt}
 use Rattle.eqaso.specs.Trace.{letOutTo}
 use Rattle.eqaso.specs.Trace.{fateAt, upToEnd, ownTags}
@@ -31,7 +31,7 @@ Claim3 = (n f : ℕ) → OneTo 16 n → Faults n f → Demand3 n f sixteen
 
 -- Demand 3 on links without a limit, where no channel is ever full.
 abbrev pub OnLinks : Type 0
-OnLinks = (n f : ℕ) → f + f < n → Demand3 n f always
+OnLinks = (n f : ℕ) → f + f < n → Demand3 n f unlimited
 
 -- Document 01's words for the tag s of the update of node c that began at index t: it is among its own tags let out from
 -- its begin to its ending, and above all of them let out before.

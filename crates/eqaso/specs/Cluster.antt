@@ -125,8 +125,8 @@ commit c x s l channel σ = record {
 abbrev pub atMost : ℕ → ℕ → Bool
 atMost most k = decide (decLe k most)
 
-abbrev pub always : ℕ → Bool
-always k = true
+abbrev pub unlimited : ℕ → Bool
+unlimited k = true
 
 -- Each channel from c to 1 to n has room for what it holds.
 unfoldable pub roomy : (room : ℕ → Bool) → ℕ → ℕ → (ℕ → ℕ → List Message) → Bool

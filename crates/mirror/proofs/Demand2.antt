@@ -1,27 +1,42 @@
 -- Demand 2 of the code holds.
-use Prim.Native.Nat.{ℕ}
+use Prim.Native.Nat.{ℕ, _≤_}
+use native.Mathlib.Omega.{arith}
 use mathlib.Core.Path.{_≡_, sym, ap, _∙_, subst}
 use mathlib.Core.Bool.{true, false}
 use mathlib.Core.List.{List, [], map}
 use lib.ListN.{length}
+use Rattle.view.specs.View.{AbsentPast}
+use Rattle.view.proofs.First.{none-absent}
 use Rattle.table.specs.Quorum.{faults}
-use Rattle.layout.specs.Layout.{clusterSize, stopped}
+use Rattle.layout.specs.Layout.{clusterSize, stated, stopped}
+use Rattle.cluster.specs.Event as E
+use Rattle.cluster.proofs.Shown.{begin-absent, deliver-absent}
+use Rattle.halting.proofs.Told.{stop-absent}
 use Rattle.eqaso.specs.Cluster as K
 use Rattle.eqaso.specs.Order.{OneTo}
 use Rattle.eqaso.specs.Trace as T
 use Rattle.eqaso.proofs.Linked.{linked, waits-is}
 use Rattle.mirror.specs.Mirrors.{channelRoom}
 use Rattle.mirror.specs.Encodes.{EachEncodes}
-use Rattle.mirror.specs.Run.{Event, meaning, traceOf}
+use Rattle.mirror.specs.Run.{Event, begin, deliver, stop, event, meaning, traceOf}
 use Rattle.mirror.specs.Demand2.{bytesAfter, slots, Demand2}
 use Rattle.mirror.proofs.Encoded.{none-encoded}
 use Rattle.mirror.proofs.Run.{fresh-taken, run-mirrors, run-trace, run-refusals, run-encoded}
+
+-- An event on bytes that state n shows nothing past n, whatever their records hold there.
+event-absent : (n : ℕ) → n ≤ 16 → (e : Event) (b : List ℕ) → stated b ≡ n → AbsentPast n (event e b .view)
+event-absent n small (begin c o x) b is = subst (λ m. AbsentPast m (E.begin c o x b .view)) is
+    (begin-absent c o x b (omega (arith, is, small)))
+event-absent n small (deliver a c x) b is = subst (λ m. AbsentPast m (E.deliver a c x b .view)) is
+    (deliver-absent a c x b (omega (arith, is, small)))
+event-absent n small (stop c) b is = subst (AbsentPast n) (sym (stop-absent c b)) (none-absent n small)
 
 pub demand2 : (n : ℕ) → OneTo 16 n → (b : List ℕ) → length b ≡ clusterSize n → Demand2 n b
 demand2 n (low, small) b long = record {
   taken = ap (λ r. r .answer) (fresh-taken n low small b long);
   same = run-trace n low small b long;
   refusals = run-refusals n low small b long;
+  absent-past = λ es e. event-absent n small e (bytesAfter n b es) (run-mirrors n low small b long es .shows .states);
   holds = held;
   empty = none-left;
   remembers = λ es c p. run-mirrors n low small b long es .shows .says c p .node;

@@ -6,13 +6,15 @@ use native.Mathlib.Omega.{arith}
 use mathlib.Core.Path.{_≡_, refl, sym, ap, _∙_, subst}
 use mathlib.Core.Bool.{true, false, decide, false≢true}
 use mathlib.Core.List.{List, [], _∷_, map}
-use lib.ListN.{length, getD, set, length-set}
+use lib.ListN.{length, getD, set, replicate, length-set}
 use lib.Seq.{getD-set-same}
 use lib.Dec.{ltb}
 use Rattle.theory.specs.Count.{count}
 use Rattle.theory.specs.Update.{upd, upd2}
 use Rattle.octets.specs.Answer.{refused}
 use Rattle.octets.specs.Test.{pick}
+use Rattle.view.specs.Report.{noReport}
+use Rattle.view.specs.declared.View.{View}
 use Rattle.table.specs.Quorum.{faults}
 use Rattle.record.specs.Record.{blank}
 use Rattle.record.specs.declared.Operation.the-variants.{Scan}
@@ -24,7 +26,7 @@ use Rattle.block.specs.Block.{blockSize, hasStopped, recordIn, channelIn, onCha
 use Rattle.block.proofs.Changes.{channel-length, channel-flag, channel-same, keep-length, keep-record}
 use Rattle.layout.specs.Layout.{clusterSize, block, node, onBlock}
 use Rattle.layout.proofs.Blocks.{block-same}
-use Rattle.cluster.specs.Event.{refuse}
+use Rattle.cluster.specs.Event.{Result, refuse}
 use Rattle.cluster.specs.declared.Extent.the-variants.{Whole}
 use Rattle.eqaso.specs.Message as M
 use Rattle.eqaso.specs.Algorithm.{limit, table, moveOn}
@@ -56,6 +58,21 @@ damaged h = record { opened = h .opened; bytes = h .bytes; next = λ es e. refus
 
 pub refusals-out : (h : House) → ¬ Demand2Of 1 (damaged h)
 refusals-out h d = false≢true (d .refusals [] (stop 1))
+
+-- Every event of a cluster of one node gives out a report of a node 2; no trace shows it.
+abbrev beyond : View
+beyond = record { tags = 0 ∷ 1 ∷ replicate 14 0; reports = replicate 16 noReport }
+
+abbrev shownPast : Result → Result
+shownPast r = record { bytes = r .bytes; answer = r .answer; view = beyond; sent = r .sent }
+
+abbrev boasting : House → House
+boasting h = record { opened = h .opened; bytes = h .bytes; next = λ es e. shownPast (h .next es e); seen = h .seen }
+
+pub absent-past-out : (h : House) → ¬ Demand2Of 1 (boasting h)
+absent-past-out h d =
+    let wrong : _≡_ {A = ℕ} 1 0 = d .absent-past [] (stop 1) .no-tag 1 (omega arith) in
+    omega (arith, wrong)
 
 -- A trace tells every refusal as 3, which may come up; what waits does not depend on a refusal's number.
 abbrev toldAs3 : K.Answer → K.Answer

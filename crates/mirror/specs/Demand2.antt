@@ -6,6 +6,7 @@ use mathlib.Core.Path.{_≡_}
 use mathlib.Core.Bool.{true, false}
 use mathlib.Core.List.{List, [], map}
 use Rattle.octets.specs.Answer.{Answer, result}
+use Rattle.view.specs.View.{AbsentPast}
 use Rattle.table.specs.Quorum.{faults}
 use Rattle.node.specs.declared.Ending.{Ending}
 use Rattle.node.specs.declared.Ending.the-variants.{None}
@@ -50,6 +51,8 @@ pub record Demand2Of (n : ℕ) (h : House) : Type 0 where
   pub same : (es : List Event) → h .seen es ≡ trace n (faults n) channelRoom (map meaning es)
   -- Refusals 1, 2, 7, 9 and 12 do not come up.
   pub refusals : (es : List Event) (e : Event) → ComesUp (h .next es e .answer)
+  -- A view that is given out has nothing past n.
+  pub absent-past : (es : List Event) (e : Event) → AbsentPast n (h .next es e .view)
   -- What a channel to a standing node holds is, in order, the encoding of what was let out to it and not yet handed
   -- over.
   pub holds : (es : List Event) (a c : ℕ) → OneTo n a → OneTo n c → stopped (h .bytes es) c ≡ false

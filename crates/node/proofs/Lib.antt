@@ -3,7 +3,6 @@ pub mod Exclusive
 pub mod Handled
 pub mod Lawful
 pub mod Numbers
-pub mod Points
 pub mod Safe
 pub mod Same
 pub mod Session

@@ -11,7 +11,7 @@ use Rattle.cluster.specs.Event.{Result, fresh, freshBytes}
 use Rattle.lines.specs.declared.Line.{Line}
 use Rattle.lines.specs.declared.Line.the-variants.{Update, Scan, Deliver, Stop, Bad}
 use Rattle.eqaso.specs.Cluster as K
-use Rattle.mirror.specs.Mirrors.{Mirrors}
+use Rattle.mirror.specs.Mirrors.{channelRoom, Mirrors}
 use Rattle.mirror.specs.Run.{after, meaning}
 use Rattle.mirror.proofs.Run.{fresh-taken, run-mirrors}
 use Rattle.script.specs.Act.{ran, printed}
@@ -63,13 +63,13 @@ module _ (n : ℕ) (low : 1 ≤ n) (high : n ≤ 5) where
 
   -- the bytes after some lines mirror a cluster of the algorithm
   left-mirrors : (ls : List Line)
-      → Mirrors n (leftBy (freshOf n) ls) (K.after n (faults n) K.start (map meaning (eventsOf ls)))
+      → Mirrors n (leftBy (freshOf n) ls) (K.after n (faults n) channelRoom K.start (map meaning (eventsOf ls)))
   left-mirrors ls =
       let b : List ℕ = replicate (clusterSize n) 0 in
       let long : length b ≡ clusterSize n = length-replicate (clusterSize n) 0 in
       let same : after (fresh n b .bytes) (eventsOf ls) ≡ leftBy (freshOf n) ls =
       ap (λ (c : List ℕ). after c (eventsOf ls)) (fresh-is b long) ∙ sym (left-events (freshOf n) ls) in
-      subst (λ (c : List ℕ). Mirrors n c (K.after n (faults n) K.start (map meaning (eventsOf ls)))) same
+      subst (λ (c : List ℕ). Mirrors n c (K.after n (faults n) channelRoom K.start (map meaning (eventsOf ls)))) same
       (run-mirrors n low small b long (eventsOf ls))
 
   -- so they stay as many, and state n
