@@ -37,6 +37,7 @@ demand2 n (low, small) b long = record {
   same = run-trace n low small b long;
   refusals = run-refusals n low small b long;
   absent-past = λ es e. event-absent n small e (bytesAfter n b es) (run-mirrors n low small b long es .shows .states);
+  stops = λ es c p. flag es c p ∙ sym (gone es c);
   holds = held;
   empty = none-left;
   remembers = λ es c p. run-mirrors n low small b long es .shows .says c p .node;
@@ -48,16 +49,21 @@ demand2 n (low, small) b long = record {
     flag : (es : List Event) (c : ℕ) → OneTo n c → stopped (bytesAfter n b es) c ≡ end es .stopped c
     flag es c p = run-mirrors n low small b long es .shows .says c p .stop
 
-    held : (es : List Event) (a c : ℕ) → OneTo n a → OneTo n c → stopped (bytesAfter n b es) c ≡ false
+    -- The trace tells the same.
+    gone : (es : List Event) (c : ℕ) → T.stopped (traceOf n b es) c ≡ end es .stopped c
+    gone es c = ap (λ tr. T.stopped tr c) (run-trace n low small b long es)
+        ∙ linked n (faults n) channelRoom (map meaning es) .same-stopped c
+
+    held : (es : List Event) (a c : ℕ) → OneTo n a → OneTo n c → T.stopped (traceOf n b es) c ≡ false
         → EachEncodes n c (slots (bytesAfter n b es) a c) (T.waits (traceOf n b es) a c)
     held es a c o p up = subst (EachEncodes n c (slots (bytesAfter n b es) a c))
-        (sym (waits-is (linked n (faults n) channelRoom (map meaning es)) a c (sym (flag es c p) ∙ up))
+        (sym (waits-is (linked n (faults n) channelRoom (map meaning es)) a c (sym (gone es c) ∙ up))
         ∙ ap (λ tr. T.waits tr a c) (sym (run-trace n low small b long es)))
         (run-encoded n low small b long es a c o p)
 
-    none-left : (es : List Event) (a c : ℕ) → OneTo n a → OneTo n c → stopped (bytesAfter n b es) c ≡ true
+    none-left : (es : List Event) (a c : ℕ) → OneTo n a → OneTo n c → T.stopped (traceOf n b es) c ≡ true
         → slots (bytesAfter n b es) a c ≡ []
     none-left es a c o p down = none-encoded n c (slots (bytesAfter n b es) a c)
         (subst (EachEncodes n c (slots (bytesAfter n b es) a c))
-        (run-mirrors n low small b long es .gone a c (sym (flag es c p) ∙ down))
+        (run-mirrors n low small b long es .gone a c (sym (gone es c) ∙ down))
         (run-encoded n low small b long es a c o p))

@@ -19,6 +19,7 @@ pub mod Run
 pub mod Demand2
 pub mod RuledSlots
 pub mod RuledOut
+pub mod RuledBytes
 pub mod Ceases
 pub mod Demand3
 pub mod Tags

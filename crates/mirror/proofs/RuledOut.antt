@@ -1,49 +1,25 @@
--- For each clause of demand 2 a house that it rules out. It is the house of the code but for one thing that is seen of
--- it, so that the clauses about other things allow it.
-use Prim.Native.Nat.{ℕ, _≤_}
+-- For each clause of demand 2 on what is answered and told, a house that it rules out. It is the house of the code but for
+-- one thing that is seen of it, so that the clauses about other things allow it.
+use Prim.Native.Nat.{ℕ}
 use native.Mathlib.Decide.{ℕ-discrete, decLe, decLt}
 use native.Mathlib.Omega.{arith}
 use mathlib.Core.Path.{_≡_, refl, sym, ap, _∙_, subst}
-use mathlib.Core.Bool.{true, false, decide, false≢true}
+use mathlib.Core.Bool.{decide, false≢true}
 use mathlib.Core.List.{List, [], _∷_, map}
-use lib.ListN.{length, getD, set, replicate, length-set}
-use lib.Seq.{getD-set-same}
-use lib.Dec.{ltb}
-use Rattle.theory.specs.Count.{count}
-use Rattle.theory.specs.Update.{upd, upd2}
+use lib.ListN.{length, replicate}
 use Rattle.octets.specs.Answer.{refused}
-use Rattle.octets.specs.Test.{pick}
 use Rattle.view.specs.Report.{noReport}
 use Rattle.view.specs.declared.View.{View}
-use Rattle.table.specs.Quorum.{faults}
-use Rattle.record.specs.Record.{blank}
-use Rattle.record.specs.declared.Operation.the-variants.{Scan}
-use Rattle.region.specs.Channel.{channelSize, clear, waiting}
-use Rattle.region.specs.Record.{recordOf}
-use Rattle.region.proofs.Back.{record-back}
-use Rattle.region.proofs.Waiting.{waiting-clear, length-clear, length-waiting}
-use Rattle.block.specs.Block.{blockSize, hasStopped, recordIn, channelIn, onChannel, keep}
-use Rattle.block.proofs.Changes.{channel-length, channel-flag, channel-same, keep-length, keep-record}
-use Rattle.layout.specs.Layout.{clusterSize, block, node, onBlock}
-use Rattle.layout.proofs.Blocks.{block-same}
+use Rattle.layout.specs.Layout.{clusterSize}
 use Rattle.cluster.specs.Event.{Result, refuse}
 use Rattle.cluster.specs.declared.Extent.the-variants.{Whole}
-use Rattle.eqaso.specs.Message as M
-use Rattle.eqaso.specs.Algorithm.{limit, table, moveOn}
 use Rattle.eqaso.specs.Cluster as K
-use Rattle.eqaso.specs.Order.{OneTo}
-use Rattle.eqaso.specs.Trace.{Seen, traceFrom, trace, at, letOutTo, handedOver, waits}
-use Rattle.refine.proofs.Turned.{follows-fresh}
+use Rattle.eqaso.specs.Trace.{Seen, traceFrom, trace, at}
 use Rattle.mirror.specs.Mirrors.{channelRoom}
-use Rattle.mirror.specs.Encodes.{EachEncodes}
-use Rattle.mirror.specs.Run.{Event, begin, deliver, stop, meaning, traceOf}
-use Rattle.mirror.specs.Demand2.{bytesAfter, House, houseOf, Demand2Of}
+use Rattle.mirror.specs.Run.{deliver, stop}
+use Rattle.mirror.specs.Demand2.{House, houseOf, Demand2Of}
 use Rattle.mirror.proofs.Delivers.{IsResult}
-use Rattle.mirror.proofs.Halted.{channel-size}
-use Rattle.mirror.proofs.Run.{run-mirrors, run-trace}
-use Rattle.mirror.proofs.Says.{sized-node}
-
--- ---- what is answered
+use Rattle.mirror.proofs.Run.{run-trace}
 
 -- Fresh refuses, and then all goes on as if it had not.
 abbrev closed : House → House
@@ -101,141 +77,3 @@ same-out b long d =
     let told = ap (map mumbled) (sym real) ∙ d .same es ∙ nothing-waits in
     let wrong : _≡_ {A = ℕ} 3 8 = ap (λ tr. number (at tr 0 .answer)) told in
     omega (arith, wrong)
-
--- ---- what is seen of the bytes
-
--- The house with other bytes shown. Its events act on its own.
-abbrev showing : (List ℕ → List ℕ) → House → House
-showing f h = record { opened = h .opened; bytes = λ es. f (h .bytes es); next = h .next; seen = h .seen }
-
--- The block of a node after some events, and the same changed.
-module _ (n : ℕ) (low : 1 ≤ n) (small : n ≤ 16) (b : List ℕ) (long : length b ≡ clusterSize n) (es : List Event) (c : ℕ)
-    (is-node : OneTo n c) where
-  block-size : length (block (bytesAfter n b es) c) ≡ blockSize
-  block-size = run-mirrors n low small b long es .shows .says c is-node .size
-
-  block-stop : hasStopped (block (bytesAfter n b es) c)
-      ≡ K.after n (faults n) channelRoom K.start (map meaning es) .stopped c
-  block-stop = run-mirrors n low small b long es .shows .says c is-node .stop
-
-  changed : (f : List ℕ → List ℕ) → length (f (block (bytesAfter n b es) c)) ≡ blockSize
-      → block (onBlock c f (bytesAfter n b es)) c ≡ f (block (bytesAfter n b es) c)
-  changed f size = block-same (bytesAfter n b es) c (is-node .0)
-      (omega (arith, run-mirrors n low small b long es .shows .long)) f size
-
--- One node begins a scan: it stands, has used one request number, and its read waits.
-abbrev scanning : List Event
-scanning = begin 1 Scan Whole ∷ []
-
-read-waits : waits (trace 1 0 channelRoom (map meaning scanning)) 1 1 ≡ M.read 1 ∷ []
-unfolding traceFrom K.event K.roomy K.sentTo K.entries moveOn table limit upd upd2 count ℕ-discrete decLe decLt decide letOutTo handedOver
-read-waits = refl
-
-stands : K.after 1 0 channelRoom K.start (map meaning scanning) .stopped 1 ≡ false
-unfolding K.after K.event K.roomy K.sentTo K.entries moveOn table limit upd upd2 count ℕ-discrete decLe decLt decide
-stands = refl
-
-asked : K.after 1 0 channelRoom K.start (map meaning scanning) .nodes 1 .request ≡ 1
-unfolding K.after K.event K.roomy K.sentTo K.entries moveOn table limit upd upd2 count ℕ-discrete decLe decLt decide
-asked = refl
-
-module _ (b : List ℕ) (long : length b ≡ clusterSize 1) where
-  one : OneTo 1 1
-  one = (omega arith, omega arith)
-
-  abbrev k : List ℕ
-  k = block (bytesAfter 1 b scanning) 1
-
-  size : length k ≡ blockSize
-  size = block-size 1 (omega arith) (omega arith) b long scanning 1 one
-
-  there : (f : List ℕ → List ℕ) → length (f k) ≡ blockSize → block (onBlock 1 f (bytesAfter 1 b scanning)) 1 ≡ f k
-  there = changed 1 (omega arith) (omega arith) b long scanning 1 one
-
-  -- What waits for the node is lost. Its record and its stop byte are as they were.
-  abbrev lost : List ℕ → List ℕ
-  lost = onChannel 1 clear
-
-  pub holds-out : ¬ Demand2Of 1 (showing (onBlock 1 lost) (houseOf 1 b))
-  holds-out d = subst (EachEncodes 1 1 [])
-      (ap (λ tr. waits tr 1 1) (run-trace 1 (omega arith) (omega arith) b long scanning) ∙ read-waits)
-      (subst (λ l. EachEncodes 1 1 l (waits (traceOf 1 b scanning) 1 1)) none (d .holds scanning 1 1 one one up))
-    where
-      keeps : (t : List ℕ) → length t ≡ channelSize → length (clear t) ≡ channelSize
-      keeps t e = length-clear t ∙ e
-
-      is : block (onBlock 1 lost (bytesAfter 1 b scanning)) 1 ≡ lost k
-      is = there lost (channel-length k size clear keeps 1 (omega arith) (omega arith))
-
-      up : hasStopped (block (onBlock 1 lost (bytesAfter 1 b scanning)) 1) ≡ false
-      up = ap hasStopped is ∙ ap (ltb 0) (channel-flag k size clear keeps 1 (omega arith) (omega arith))
-          ∙ block-stop 1 (omega arith) (omega arith) b long scanning 1 one ∙ stands
-
-      none : waiting (λ s. s) (channelIn (block (onBlock 1 lost (bytesAfter 1 b scanning)) 1) 1) ≡ []
-      none = ap (λ t. waiting (λ s. s) (channelIn t 1)) is
-          ∙ ap (waiting (λ s. s)) (channel-same k size clear keeps 1 (omega arith) (omega arith))
-          ∙ waiting-clear (λ s. s) (channelIn k 1) (omega (arith, channel-size k size 1 (omega arith) (omega arith)))
-
-  -- The record is always the fresh one. The stop byte and the channels are as they were.
-  pub remembers-out : ¬ Demand2Of 1 (showing (onBlock 1 (keep (blank 1 1))) (houseOf 1 b))
-  remembers-out d =
-      let wrong : _≡_ {A = ℕ} 0 1 = ap (λ c. c .request) (sym is) ∙ d .remembers scanning 1 one .request ∙ asked in
-      omega (arith, wrong)
-    where
-      heard : length (blank 1 1 .heard) ≡ 256
-      heard = follows-fresh 1 1 .heard-size
-
-      is : node (onBlock 1 (keep (blank 1 1)) (bytesAfter 1 b scanning)) 1 ≡ blank 1 1
-      is = ap (λ t. recordOf (recordIn t)) (there (keep (blank 1 1)) (keep-length k size (blank 1 1) heard))
-          ∙ ap recordOf (keep-record k size (blank 1 1) heard)
-          ∙ record-back (blank 1 1) (sized-node (follows-fresh 1 1))
-
--- Something is left in the channel from node 1 to node 2 of three where node 2 has stopped.
-abbrev counted : List ℕ → List ℕ
-counted t = set t 0 1
-
-abbrev left : List ℕ → List ℕ
-left k = pick (hasStopped k) (onChannel 1 counted k) k
-
-two-stops : K.after 3 1 channelRoom K.start (K.stop 2 ∷ []) .stopped 2 ≡ true
-unfolding K.after K.event upd count ℕ-discrete decLe decLt decide
-two-stops = refl
-
-module _ (b : List ℕ) (long : length b ≡ clusterSize 3) where
-  abbrev es : List Event
-  es = stop 2 ∷ []
-
-  two : OneTo 3 2
-  two = (omega arith, omega arith)
-
-  abbrev k2 : List ℕ
-  k2 = block (bytesAfter 3 b es) 2
-
-  pub empty-out : ¬ Demand2Of 3 (showing (onBlock 2 left) (houseOf 3 b))
-  empty-out d =
-      let none = d .empty es 1 2 (omega arith, omega arith) two
-      (ap hasStopped is ∙ ap (ltb 0) (channel-flag k2 size2 counted keeps 1 (omega arith) (omega arith)) ∙ down) in
-      let wrong : _≡_ {A = ℕ} 0 1 = ap length (sym none)
-      ∙ length-waiting (λ s. s) (channelIn (block (onBlock 2 left (bytesAfter 3 b es)) 2) 1) ∙ some in
-      omega (arith, wrong)
-    where
-      size2 : length k2 ≡ blockSize
-      size2 = block-size 3 (omega arith) (omega arith) b long es 2 two
-
-      keeps : (t : List ℕ) → length t ≡ channelSize → length (counted t) ≡ channelSize
-      keeps t e = length-set t 0 1 ∙ e
-
-      down : hasStopped k2 ≡ true
-      down = block-stop 3 (omega arith) (omega arith) b long es 2 two ∙ two-stops
-
-      stopped : left k2 ≡ onChannel 1 counted k2
-      stopped = ap (λ s. pick s (onChannel 1 counted k2) k2) down
-
-      is : block (onBlock 2 left (bytesAfter 3 b es)) 2 ≡ onChannel 1 counted k2
-      is = changed 3 (omega arith) (omega arith) b long es 2 two left
-          (ap length stopped ∙ channel-length k2 size2 counted keeps 1 (omega arith) (omega arith)) ∙ stopped
-
-      some : getD (channelIn (block (onBlock 2 left (bytesAfter 3 b es)) 2) 1) 0 0 ≡ 1
-      some = ap (λ t. getD (channelIn t 1) 0 0) is
-          ∙ ap (λ t. getD t 0 0) (channel-same k2 size2 counted keeps 1 (omega arith) (omega arith))
-          ∙ getD-set-same (channelIn k2 1) 0 1 0 (omega (arith, channel-size k2 size2 1 (omega arith) (omega arith)))

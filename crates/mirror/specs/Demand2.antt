@@ -15,6 +15,7 @@ use Rattle.layout.specs.Layout.{channel, stopped, node}
 use Rattle.cluster.specs.Event.{Result, fresh}
 use Rattle.eqaso.specs.Cluster as K
 use Rattle.eqaso.specs.Order.{OneTo}
+use Rattle.eqaso.specs.Trace as T
 use Rattle.eqaso.specs.Trace.{Trace, trace, waits}
 use Rattle.refine.specs.Follows.{Follows}
 use Rattle.mirror.specs.Mirrors.{channelRoom}
@@ -53,12 +54,14 @@ pub record Demand2Of (n : ℕ) (h : House) : Type 0 where
   pub refusals : (es : List Event) (e : Event) → ComesUp (h .next es e .answer)
   -- A view that is given out has nothing past n.
   pub absent-past : (es : List Event) (e : Event) → AbsentPast n (h .next es e .view)
+  -- The bytes say of each node whether it has stopped, as the trace does.
+  pub stops : (es : List Event) (c : ℕ) → OneTo n c → stopped (h .bytes es) c ≡ T.stopped (h .seen es) c
   -- What a channel to a standing node holds is, in order, the encoding of what was let out to it and not yet handed
   -- over.
-  pub holds : (es : List Event) (a c : ℕ) → OneTo n a → OneTo n c → stopped (h .bytes es) c ≡ false
+  pub holds : (es : List Event) (a c : ℕ) → OneTo n a → OneTo n c → T.stopped (h .seen es) c ≡ false
       → EachEncodes n c (slots (h .bytes es) a c) (waits (h .seen es) a c)
   -- A channel to a stopped node holds nothing.
-  pub empty : (es : List Event) (a c : ℕ) → OneTo n a → OneTo n c → stopped (h .bytes es) c ≡ true
+  pub empty : (es : List Event) (a c : ℕ) → OneTo n a → OneTo n c → T.stopped (h .seen es) c ≡ true
       → slots (h .bytes es) a c ≡ []
   -- The record of each node, stopped ones included, remembers of the sets of the algorithm what document 01 has it
   -- remember: of each writer the last report, the newest up to maxtag and, while a round is open, the newest up to its
