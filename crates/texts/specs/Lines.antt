@@ -49,3 +49,7 @@ pub data Lines : (e : ℕ) → List Line → Trace → List ℕ → Type 0 where
   event : {e : ℕ} {l : Line} {ls : List Line} {x : Seen} {tr : Trace} {u o : List ℕ} (y : Event)
       → eventsOf (l ∷ []) ≡ y ∷ [] → x .event ≡ meaning y → Shows e (handler l) (x .answer) u
       → Lines (next e) ls tr o → Lines e (l ∷ ls) (x ∷ tr) (u ++ o)
+
+-- Lines and what is seen of their events tell what is printed.
+abbrev pub Determined : Type 0
+Determined = (e : ℕ) (ls : List Line) (tr : Trace) (o u : List ℕ) → Lines e ls tr o → Lines e ls tr u → o ≡ u
