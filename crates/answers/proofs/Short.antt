@@ -7,9 +7,8 @@ use native.Mathlib.Omega.{arith}
 use lib.ListN.{length, length-append}
 use lib.Dec.{eqb}
 use Rattle.octets.specs.Test.{pick}
+use Rattle.octets.specs.Bytes.{be}
 use Rattle.octets.specs.Loop.{join}
-use Rattle.view.specs.Report.{reportBytes}
-use Rattle.view.specs.declared.Report.{Report}
 use Rattle.view.specs.declared.View.{View}
 use Rattle.digits.specs.Decimal.{decimal}
 use Rattle.digits.specs.Hex.{hexText}
@@ -23,13 +22,13 @@ start-short : (e : ℕ) (w : List ℕ) (c : ℕ) → length w ≤ 7 → length (
 unfolding start
 start-short e w c h = simp length-append (omega (arith, length-decimal e, length-decimal c))
 
-entry-short : (tag : ℕ) (p : Report) → length (entry tag p) ≤ 17
+entry-short : (tag x : ℕ) → length (entry tag x) ≤ 17
 unfolding entry
-entry-short tag p = cases (eqb tag 0)
+entry-short tag x = cases (eqb tag 0)
   where
-    cases : (b : Bool) → length (32 ∷ pick b (45 ∷ []) (hexText 8 (reportBytes p))) ≤ 17
+    cases : (b : Bool) → length (32 ∷ pick b (45 ∷ []) (hexText 8 (be 8 x))) ≤ 17
     cases true = omega arith
-    cases false = omega (arith, length-text 8 (reportBytes p))
+    cases false = omega (arith, length-text 8 (be 8 x))
 
 join-short : (k m : ℕ) (f : ℕ → List ℕ) → ((i : ℕ) → length (f i) ≤ m) → length (join k f) ≤ m * k
 unfolding join

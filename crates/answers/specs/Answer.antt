@@ -5,10 +5,10 @@ use mathlib.Core.List.{List, [], _∷_, _++_}
 use lib.ListN.{getD}
 use lib.Dec.{eqb}
 use Rattle.octets.specs.Test.{pick}
+use Rattle.octets.specs.Bytes.{be}
 use Rattle.octets.specs.Loop.{join}
-use Rattle.view.specs.Report.{noReport, reportBytes}
+use Rattle.view.specs.Report.{noReport, reportNumber}
 use Rattle.view.specs.Size.{nodes}
-use Rattle.view.specs.declared.Report.{Report}
 use Rattle.view.specs.declared.View.{View}
 use Rattle.digits.specs.Decimal.{decimal}
 use Rattle.digits.specs.Hex.{hexText}
@@ -32,12 +32,12 @@ noIs = 32 ∷ 110 ∷ 111 ∷ 32 ∷ []
 unfoldable pub start : ℕ → List ℕ → ℕ → List ℕ
 start e w c = decimal e ++ w ++ decimal c
 
--- a report, or `-` where there is none, after a space
-unfoldable pub entry : ℕ → Report → List ℕ
-entry tag p = 32 ∷ pick (eqb tag 0) (45 ∷ []) (hexText 8 (reportBytes p))
+-- after a space the sixteen digits of a report's number, or `-` beside tag 0: no report
+unfoldable pub entry : (tag report : ℕ) → List ℕ
+entry tag x = 32 ∷ pick (eqb tag 0) (45 ∷ []) (hexText 8 (be 8 x))
 
 abbrev pub entryAt : View → ℕ → List ℕ
-entryAt v i = entry (getD (v .tags) i 0) (getD (v .reports) i noReport)
+entryAt v i = entry (getD (v .tags) i 0) (reportNumber (getD (v .reports) i noReport))
 
 unfoldable pub entries : ℕ → View → List ℕ
 entries n v = join (min n nodes) (entryAt v)

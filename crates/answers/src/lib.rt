@@ -5,6 +5,7 @@ ghost use Prim.Native.Nat.{_+_, _*_, _≤_};
 ghost use lib.ListN.{length};
 ghost use Rattle.octets.specs.Bytes.{put};
 ghost use Rattle.octets.specs.Loop.{join};
+ghost use Rattle.view.specs.Report.{reportNumber};
 ghost use Rattle.digits.specs.Decimal.{decimal};
 ghost use Rattle.answers.specs.Answer.{start, entry, entryAt, entries, feed, line};
 use octets::least;
@@ -50,8 +51,8 @@ fn put_start(out: &mut [u8], at: usize, event: u64, word: &[u8], x: u64) -> usiz
 
 fn put_entry(out: &mut [u8], at: usize, tag: u64, p: Report) -> usize
     requires { ⌜ at + 17 ≤ length (now out) ⌝ }
-    ensures { λ r. ⌜ (now (out .exit) ≡ put (now (out .entry)) at (entry tag p))
-        × (r ≡ at + length (entry tag p)) × (r ≤ at + 17) ⌝ }
+    ensures { λ r. ⌜ (now (out .exit) ≡ put (now (out .entry)) at (entry tag (reportNumber p)))
+        × (r ≡ at + length (entry tag (reportNumber p))) × (r ≤ at + 17) ⌝ }
 {
     if tag == 0 {
         let none = [32u8, 45];

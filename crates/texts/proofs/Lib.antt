@@ -3,4 +3,5 @@ pub mod Folds
 pub mod Stands
 pub mod Pieces
 pub mod Printed
+pub mod Determined
 pub mod Sessions

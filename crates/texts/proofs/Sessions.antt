@@ -120,9 +120,10 @@ module _ (t : List ℕ) (q : nodesIn t ≡ 0 → ⊥) where
       subst (λ (c : List ℕ). SingleOrder n (traceFrom n c (eventsFrom t)) × Quiet n (traceFrom n c (eventsFrom t)))
       (fresh-is n low high b long) (demand3 n (low, omega (arith, high)) b long (eventsFrom t))
 
-  printed-all : Lines n 1 (eventsIn t) (traceIn t) (output t)
+  printed-all : Lines 1 (eventsIn t) (traceIn t) (output t)
   unfolding output
-  printed-all = rw (ne-eqb n 0 q) (lines-print n 1 (freshOf n) (eventsIn t) (left-states n low high))
+  printed-all =
+      rw (ne-eqb n 0 q) (lines-print n (omega (arith, high)) 1 (freshOf n) (eventsIn t) (left-states n low high))
 
 pub sessions : Sessions
 sessions = record {

@@ -3,16 +3,14 @@
 use Prim.Native.Nat.{ℕ}
 use mathlib.Core.Path.{_≡_}
 use mathlib.Core.List.{List, [], _∷_, _++_}
-use Rattle.view.specs.declared.View.{View}
 use Rattle.record.specs.declared.Operation.the-variants.{Update as UpdateOf, Scan as ScanOf}
 use Rattle.lines.specs.declared.Line.{Line}
 use Rattle.lines.specs.declared.Line.the-variants.{Update, Scan, Deliver, Stop, Bad}
-use Rattle.answers.specs.Answer.{doneIs, scanIs, spentIs, noIs, start, entries, feed}
+use Rattle.answers.specs.Answer.{doneIs, scanIs, spentIs, noIs, start, entry, feed}
 use Rattle.eqaso.specs.Message as M
 use Rattle.eqaso.specs.Algorithm as A
 use Rattle.eqaso.specs.Cluster as K
 use Rattle.eqaso.specs.Trace.{Seen, Trace}
-use Rattle.refine.specs.Meaning.{viewOf}
 use Rattle.mirror.specs.Run.{Event, begin, deliver, stop, meaning}
 use Rattle.script.specs.Act.{extentOf, handler}
 use Rattle.script.specs.Progress.{next, badLine}
@@ -26,21 +24,32 @@ eventsOf (Deliver a c x ∷ ls) = deliver a c (extentOf x) ∷ eventsOf ls
 eventsOf (Stop c ∷ ls) = stop c ∷ eventsOf ls
 eventsOf (Bad ∷ ls) = eventsOf ls
 
--- An ending at node c prints event, `done` or `scan` or `spent`, c, and for a scan each report of its view or `-`; a
--- refusal prints event, `no`, number.
-pub data Shows (e n c : ℕ) : K.Answer → List ℕ → Type 0 where
-  silence : Shows e n c (K.accepted A.none) []
-  done : (r : A.Rule) (w : M.View) → Shows e n c (K.accepted (A.done r w)) (start e doneIs c ++ feed)
-  scan : (r : A.Rule) (v : View)
-      → Shows e n c (K.accepted (A.shown r (viewOf n v))) (start e scanIs c ++ entries n v ++ feed)
-  spent : Shows e n c (K.accepted A.spent) (start e spentIs c ++ feed)
-  refusal : (k : ℕ) → Shows e n c (K.refused k) (start e noIs k ++ feed)
+-- What is printed of a view: of each node the sixteen digits of its report's number, or `-` beside tag 0.
+abbrev pub printedOf : M.Entry → List ℕ
+printedOf x = entry (x .tag) (x .report)
+
+abbrev pub reports : M.View → List ℕ
+reports [] = []
+reports (x ∷ w) = printedOf x ++ reports w
+
+-- An ending at node c prints event, `done` or `scan` or `spent`, c, and for a scan the reports of its view; a refusal
+-- prints event, `no`, number.
+pub data Shows (e c : ℕ) : K.Answer → List ℕ → Type 0 where
+  silence : Shows e c (K.accepted A.none) []
+  done : (r : A.Rule) (w : M.View) → Shows e c (K.accepted (A.done r w)) (start e doneIs c ++ feed)
+  scan : (r : A.Rule) (w : M.View) → Shows e c (K.accepted (A.shown r w)) (start e scanIs c ++ reports w ++ feed)
+  spent : Shows e c (K.accepted A.spent) (start e spentIs c ++ feed)
+  refusal : (k : ℕ) → Shows e c (K.refused k) (start e noIs k ++ feed)
 
 -- Lines, the first of them event e; what is seen of those that are events; and what is printed.
-pub data Lines (n : ℕ) : (e : ℕ) → List Line → Trace → List ℕ → Type 0 where
-  none : {e : ℕ} → Lines n e [] [] []
-  bad : {e : ℕ} {ls : List Line} {tr : Trace} {o : List ℕ} → Lines n (next e) ls tr o
-      → Lines n e (Bad ∷ ls) tr (badLine e ++ o)
+pub data Lines : (e : ℕ) → List Line → Trace → List ℕ → Type 0 where
+  none : {e : ℕ} → Lines e [] [] []
+  bad : {e : ℕ} {ls : List Line} {tr : Trace} {o : List ℕ} → Lines (next e) ls tr o
+      → Lines e (Bad ∷ ls) tr (badLine e ++ o)
   event : {e : ℕ} {l : Line} {ls : List Line} {x : Seen} {tr : Trace} {u o : List ℕ} (y : Event)
-      → eventsOf (l ∷ []) ≡ y ∷ [] → x .event ≡ meaning y → Shows e n (handler l) (x .answer) u
-      → Lines n (next e) ls tr o → Lines n e (l ∷ ls) (x ∷ tr) (u ++ o)
+      → eventsOf (l ∷ []) ≡ y ∷ [] → x .event ≡ meaning y → Shows e (handler l) (x .answer) u
+      → Lines (next e) ls tr o → Lines e (l ∷ ls) (x ∷ tr) (u ++ o)
+
+-- Lines and what is seen of their events tell what is printed.
+abbrev pub Determined : Type 0
+Determined = (e : ℕ) (ls : List Line) (tr : Trace) (o u : List ℕ) → Lines e ls tr o → Lines e ls tr u → o ≡ u

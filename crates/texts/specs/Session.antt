@@ -35,7 +35,7 @@ pub record Sessions : Type 0 where
   -- The cluster after a text is that after its events, from a fresh one.
   pub fold : (t : List ℕ) → clusterAfter t ≡ after (freshOf (nodesIn t)) (eventsFrom t)
   -- What is printed for a text are the endings and refusals of that run, and refusal 1 for each bad line.
-  pub shows : (t : List ℕ) → (nodesIn t ≡ 0 → ⊥) → Lines (nodesIn t) 1 (eventsIn t) (traceIn t) (output t)
+  pub shows : (t : List ℕ) → (nodesIn t ≡ 0 → ⊥) → Lines 1 (eventsIn t) (traceIn t) (output t)
   -- Of its operations there is one single order, and where no message waits for a standing node, no operation is open.
   pub order : (t : List ℕ) → (nodesIn t ≡ 0 → ⊥) → SingleOrder (nodesIn t) (traceIn t)
   pub quiet : (t : List ℕ) → (nodesIn t ≡ 0 → ⊥) → Quiet (nodesIn t) (traceIn t)

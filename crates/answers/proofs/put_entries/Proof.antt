@@ -9,14 +9,14 @@ use Rattle.octets.specs.Bytes.{put}
 use Rattle.octets.specs.Loop.{join}
 use Rattle.octets.proofs.Put.{put-nil, put-then}
 use Rattle.octets.proofs.Table.{join-none, join-more}
-use Rattle.view.specs.Report.{noReport}
+use Rattle.view.specs.Report.{noReport, reportNumber}
 use Rattle.view.specs.declared.Report.{Report}
 use Rattle.answers.specs.Answer.{entry, entryAt}
 use Rattle.answers.proofs.put_entries.Statement.{statement}
 use Rattle.answers.proofs.put_entries.Tie as tie
 
 abbrev rule : List ℕ → List Report → ℕ → List ℕ
-rule tags reports i = entry (getD tags i 0) (getD reports i noReport)
+rule tags reports i = entry (getD tags i 0) (reportNumber (getD reports i noReport))
 
 abbrev Inv-loop : tie.InvT-loop
 Inv-loop out₀ at n tags reports k₀ i₀ out k i = (i ≤ n) × (out ≡ put out₀ at (join i (rule tags reports))) ×

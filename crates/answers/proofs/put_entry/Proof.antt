@@ -1,5 +1,5 @@
 use borrow.Author.Needs.{needs}
-use Prim.Native.Nat.{ℕ, _+_}
+use Prim.Native.Nat.{ℕ, _+_, _^_}
 use mathlib.Core.Path.{_≡_, refl, sym, ap, _∙_}
 use mathlib.Core.Bool.{true, false}
 use mathlib.Core.List.{List, [], _∷_, _++_}
@@ -7,9 +7,10 @@ use native.Mathlib.Omega.{arith}
 use lib.ListN.{length}
 use lib.Dec.{eqb}
 use borrow.Author.Tests.{eq-eqb, ne-eqb}
-use Rattle.octets.specs.Bytes.{put}
+use Rattle.octets.specs.Bytes.{be, put}
 use Rattle.octets.proofs.Put.{put-then}
-use Rattle.view.specs.Report.{reportBytes}
+use Rattle.view.specs.Report.{reportNumber}
+use Rattle.view.proofs.ReportBytes.{number-bytes}
 use Rattle.digits.specs.Hex.{hexText}
 use Rattle.digits.proofs.HexBack.{length-text}
 use Rattle.answers.specs.Answer.{entry}
@@ -31,16 +32,19 @@ returns-2 c =
     let o = a .out .now in
     let e : eqb (a .tag) 0 ≡ false = ne-eqb _ _ (c .before .before .before .before .before .before .before .before
     .before .before .before .before .before .if1 .left) in
-    let h : List ℕ = hexText 8 (reportBytes (a .p)) in
-    let l : a .at + 17 ≡ a .at + length (32 ∷ h) = omega (arith, length-text 8 (reportBytes (a .p))) in
+    let b : List ℕ = be 8 (reportNumber (a .p)) in
+    let same = number-bytes (a .p)
+    (record { extensions = search needs; lines = search needs; waiting = search needs; wakeups = search needs }) in
+    let h : List ℕ = hexText 8 b in
+    let l : a .at + 17 ≡ a .at + length (32 ∷ h) = omega (arith, length-text 8 b) in
     rw e (
       put-then o (a .at) (32 ∷ []) h (a .at + 1) (search needs) refl
           (c .before .before .before .before .before .before .before .before .before .before .put-bytes2 .ensures)
           (c .before .before .put-bytes3 .ensures ∙ ap (λ (s : List ℕ). put
           (c .before .before .before .before .before .before .before .before .before .before .put-bytes2 .last
           .0) (a .at + 1) s) (c .before .before .before .before .before .hex-text .ensures
-          ∙ ap (λ (b : List ℕ). hexText 8 b) (c .before .before .before .before .before .before .before
-          .report-bytes .ensures))),
+          ∙ ap (λ (s : List ℕ). hexText 8 s) (c .before .before .before .before .before .before .before
+          .report-bytes .ensures ∙ sym same))),
       l,
       search needs,
     )
