@@ -4,3 +4,5 @@ pub mod Stands
 pub mod Pieces
 pub mod Printed
 pub mod Sessions
+pub mod RuledOut
+pub mod RuledOutRuns
