@@ -88,7 +88,9 @@ early = record {
 
 pub pieces-out : ¬ SessionsOf early
 unfolding output linesFrom finished begun
-pieces-out s = omega (arith, ap length (s .pieces {p = begun} ([], (reading, refl)) .prints))
+pieces-out s =
+    let r : early .reads [] begun memory (10 ∷ []) = ([], (reading, refl)) in
+    omega (arith, ap length (s .pieces r .prints))
 
 abbrev ending : (Progress → Bool) → (Progress → List ℕ) → Program
 ending f g = record {
@@ -192,7 +194,8 @@ no-trace : {n e c : ℕ} {x : Extent} {ls : List Line} {o : List ℕ} → Lines 
 no-trace l = elim l [ ]
 
 pub trace-out : ¬ SessionsOf (seeing (λ t. []))
-trace-out s = no-trace (subst (λ ls. Lines (nodesIn asks) 1 ls [] (output asks)) (one-asks .1) (s .shows asks some-asks))
+trace-out s = no-trace (subst (λ ls. Lines (nodesIn asks) 1 ls [] (output asks)) (one-asks .1)
+    (s .shows asks some-asks))
 
 -- It prints nothing but a bad first line.
 abbrev mutters : List ℕ → List ℕ

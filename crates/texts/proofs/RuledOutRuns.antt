@@ -1,5 +1,5 @@
--- Programs that the clauses on the order of a session's operations rule out. Of each event the code's answer is seen, so
--- that the lines printed fit, but not its view, or not what it lets out.
+-- Programs that the clauses of specs/Session on a session's operations rule out. What is seen of an event fits what the
+-- code prints, but the view of a done update, or what a begin lets out, is lost.
 use Prim.Native.Nat.{ℕ}
 use native.Mathlib.Decide.{ℕ-discrete, decLe, decLt}
 use native.Mathlib.Omega.{arith}
@@ -30,7 +30,7 @@ use Rattle.script.specs.Text.{nodesIn, freshOf}
 use Rattle.texts.specs.Session.{eventsFrom, traceIn, SessionsOf}
 use Rattle.texts.proofs.RuledOut.{text, asks, some-asks, scanning, traced, seeing}
 
--- The view that a done update came by is lost. It is not printed.
+-- The view that a done update came by is not seen. It is not printed.
 abbrev viewless : K.Answer → K.Answer
 viewless (K.refused k) = K.refused k
 viewless (K.accepted none) = K.accepted none
@@ -72,6 +72,10 @@ kept-back (K.stop c) l = l
 abbrev hushed : Seen → Seen
 hushed o = record { event = o .event; answer = o .answer; sent = kept-back (o .event) (o .sent) }
 
+open-still : Quiet 1 (map hushed (trace 1 0 channelRoom (map R.meaning scanning))) → ⊥
+unfolding traceFrom K.event K.roomy K.sentTo K.entries moveOn table limit upd upd2 count ℕ-discrete decLe decLt decide
+open-still = open-scan-out
+
 pub quiet-out : ¬ SessionsOf (seeing (λ t. map hushed (traceIn t)))
-unfolding linesFrom restFrom nodesOf numberOf allDigits value allTo upTo eventOf word fieldLength placeOf after tailOf traceFrom K.event K.roomy K.sentTo K.entries moveOn table limit upd upd2 count ℕ-discrete decLe decLt decide
-quiet-out s = open-scan-out (subst (λ tr. Quiet 1 (map hushed tr)) (traced scanning) (s .quiet asks some-asks))
+unfolding linesFrom restFrom nodesOf numberOf allDigits value allTo upTo eventOf word fieldLength placeOf after tailOf
+quiet-out s = open-still (subst (λ tr. Quiet 1 (map hushed tr)) (traced scanning) (s .quiet asks some-asks))
