@@ -5,3 +5,5 @@ pub mod Pieces
 pub mod Printed
 pub mod Determined
 pub mod Sessions
+pub mod RuledOut
+pub mod RuledOutRuns

@@ -28,7 +28,7 @@ use Rattle.script.specs.Text.{nodesFirst, nodesIn, eventsAfter, unended, events
 use Rattle.script.specs.Text.{output}
 use Rattle.script.specs.Reading.{Reading}
 use Rattle.texts.specs.Lines.{Lines}
-use Rattle.texts.specs.Session.{Faithful, Sessions, eventsFrom, traceIn}
+use Rattle.texts.specs.Session.{code, Faithful, Sessions, eventsFrom, traceIn}
 use Rattle.texts.proofs.Folds.{left-more, printed-more, left-events, fresh-is, left-states}
 use Rattle.texts.proofs.Stands.{Among, Stands, first, over, among, nodes-most}
 use Rattle.texts.proofs.Printed.{lines-print}
@@ -87,7 +87,7 @@ leaves-of (among {ls = ls} {n = n} z a) q r = rw z (a .bytes ∙ sym (left-unend
 
 -- ---- the claims
 
-faithful : {t m o : List ℕ} {p : Progress} → Reading t p m o → Faithful t p m o
+faithful : {t m o : List ℕ} {p : Progress} → Reading t p m o → Faithful code t p m o
 unfolding finished output
 faithful {t} {m} {o} {p} r =
     let h = holds r in
