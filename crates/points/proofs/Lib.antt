@@ -9,6 +9,7 @@ pub mod LastTag
 pub mod Messages
 pub mod Proved
 pub mod RuledOut
+pub mod RuledOutNodes
 pub mod RuledOutRuns
 pub mod Stops
 pub mod Wrong
