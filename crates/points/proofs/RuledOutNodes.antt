@@ -1,5 +1,5 @@
--- For every clause of the points on the largest tag and stops a wrong call that it rules out: the code's call, but where
--- a test says so.
+-- For every clause of the points on the largest tag and stops a wrong call that it rules out: the code's call, but
+-- where a test says so.
 use Prim.Native.Nat.{ℕ, _-_, max}
 use native.Mathlib.Omega.{arith}
 use mathlib.Core.Path.{_≡_, refl, sym, ap, _∙_}
@@ -188,11 +188,13 @@ stops-again : RuledOut (stops (but (λ c b. stopped b c) halts))
 stops-again P = answers {e = None} (rw (stopped-one .stop) refl) (P .stops .again left 1 stopped-one)
 
 none-stops : RuledOut (stops (but standsOfThree (λ c b. E.refuse 10 b)))
-none-stops P = apart {k = 10} (P .stops .first (space 3) (long-space 3) 1 one .answer) (rw (fresh-states, fresh-stands) refl)
+none-stops P = apart {k = 10} (P .stops .first (space 3) (long-space 3) 1 one .answer)
+    (rw (fresh-states, fresh-stands) refl)
 
 -- a stop that answers as it should, and changes nothing
 stops-nothing : RuledOut (stops (λ c b. record { bytes = b; answer = stop c b .answer; view = noView; sent = [] }))
-stops-nothing P = true-false (stopped three 1) (P .stops .first (space 3) (long-space 3) 1 one .leaves .stop) fresh-stands
+stops-nothing P = true-false (stopped three 1)
+    (P .stops .first (space 3) (long-space 3) 1 one .leaves .stop) fresh-stands
 
 no-cluster : RuledOut (starts (λ n b. pick (eqb n 1) (E.refuse 12 []) (E.fresh n b)))
 no-cluster P =

@@ -98,8 +98,8 @@ pub record LastTag (calls : Calls) : Type 0 where
       → used c m t ≡ limit - 1 → calls .message c s b out ≡ goesOn c p out
   pub scan-goes-on : (c : Node) (m s t : ℕ) (b out : List ℕ) → LastAnswer c Scan m s t b out
       → used c m t ≡ limit → calls .message c s b out ≡ scanGoesOn c out
-  -- There are such nodes and answers: with the largest tag in an answer before, in this one, in the own maxtag, one less,
-  -- and of a scan.
+  -- There are such nodes and answers: with the largest tag in an answer before, in this one, in the own maxtag, one
+  -- less, and of a scan.
   pub a-before : MeetsAt limit 0 0 (Update noReport)
   pub an-answer : MeetsAt 0 0 limit (Update noReport)
   pub an-own : MeetsAt 0 limit 0 (Update noReport)
