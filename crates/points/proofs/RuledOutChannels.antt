@@ -27,17 +27,17 @@ use Rattle.points.proofs.Channels.{own-count, answer-none}
 use Rattle.points.proofs.Proved.{points}
 use Rattle.points.proofs.RuledOut.{RuledOut, apart, answers}
 use Rattle.points.proofs.Wrong.{begins, delivers}
-use Rattle.points.proofs.WrongEvents.{Test, holding, full, ofTwo, and, Event, but, is11, is8, accepted, taken}
-use Rattle.points.proofs.WrongEvents.{reads, writes, single, two, pairs, pair, fifteen, sixteen, too-many, low}
+use Rattle.points.proofs.WrongEvents.{Test, holding, full, ofTwo, and, Event, but, is11, is8, taken, fifteenLeft}
+use Rattle.points.proofs.WrongEvents.{reads, writes, fourteen, pairs, pair, fifteen, sixteen, too-many, low}
 use Rattle.points.proofs.WrongEvents.{stands, begin-none, room, seventeenth, no-room, no-place, place-room}
 use Rattle.points.proofs.WrongEvents.{does, does-both, does-two, answer-of, another}
 
 -- ---- begins: 11 with room; taken without; another number; another count; too many on a channel of another node
 
-begin-refused : RuledOut (begins (λ c o x b. but (holding 1) is11 b (E.begin c o x b)))
+begin-refused : RuledOut (begins (λ c o x b. but (holding 14) is11 b (E.begin c o x b)))
 begin-refused P = apart
-    (P .channels .begin (reads 1) 1 Scan Whole (single .begins) .accepted (room single (omega arith)) .1)
-    (answer-of (does single is11 (E.begin 1 Scan Whole (reads 1))))
+    (P .channels .begin (reads 14) 1 Scan Whole (fourteen .begins) .accepted (room fourteen (omega arith)) .1)
+    (answer-of (does fourteen is11 (E.begin 1 Scan Whole (reads 14))))
 
 begin-only : RuledOut (begins (λ c o x b. but full taken b (E.begin c o x b)))
 begin-only P = no-room
@@ -47,18 +47,18 @@ begin-full : RuledOut (begins (λ c o x b. but full is8 b (E.begin c o x b)))
 begin-full P = another (rw seventeenth refl)
     (P .channels .begin (reads 16) 1 Scan Whole (sixteen .begins) .full no-room)
 
-begin-holds : RuledOut (begins (λ c o x b. but (holding 1) taken b (E.begin c o x b)))
+begin-holds : RuledOut (begins (λ c o x b. but (holding 14) taken b (E.begin c o x b)))
 begin-holds P =
-    let d = does single taken (E.begin 1 Scan Whole (reads 1)) in
+    let d = does fourteen taken (E.begin 1 Scan Whole (reads 14)) in
     omega (
       arith,
-      single .holds,
+      fourteen .holds,
       ap (λ (r : E.Result). countOf (channel (r .bytes) 1 1)) d,
-      P .channels .begin (reads 1) 1 Scan Whole (single .begins) .holds (None, answer-of d) 1 (stands single),
-      points .channels .begin (reads 1) 1 Scan Whole (single .begins) .holds (None, begin-none single (omega arith)) 1
-          (stands single),
-      counts (reads 1) 1 Scan (single .begins) (λ c o up. omega (arith, low single (omega arith) c o up)) 1
-          (single .begins .at) (single .begins .stands),
+      P .channels .begin (reads 14) 1 Scan Whole (fourteen .begins) .holds (None, answer-of d) 1 (stands fourteen),
+      points .channels .begin (reads 14) 1 Scan Whole (fourteen .begins) .holds (None, begin-none fourteen (omega arith)) 1
+          (stands fourteen),
+      counts (reads 14) 1 Scan (fourteen .begins) (λ c o up. omega (arith, low fourteen (omega arith) c o up)) 1
+          (fourteen .begins .at) (fourteen .begins .stands),
     )
 
 -- Bytes of a cluster of two nodes, with seventeen messages from node 2 to node 1 added.
@@ -92,10 +92,10 @@ begin-most P =
 overflow-full : E.deliver 1 1 Whole writes ≡ E.refuse 11 writes
 overflow-full = points .channels .overflow
 
-deliver-refused : RuledOut (delivers (λ a c x b. but (holding 1) is11 b (E.deliver a c x b)))
+deliver-refused : RuledOut (delivers (λ a c x b. but (holding 14) is11 b (E.deliver a c x b)))
 deliver-refused P = apart
-    (P .channels .deliver (reads 1) 1 1 Whole (Read 1) (single .delivers) .accepted (place-room single) .1)
-    (answer-of (does single is11 (E.deliver 1 1 Whole (reads 1))))
+    (P .channels .deliver (reads 14) 1 1 Whole (Read 1) (fourteen .delivers) .accepted (place-room fourteen) .1)
+    (answer-of (does fourteen is11 (E.deliver 1 1 Whole (reads 14))))
 
 deliver-only : RuledOut (delivers (λ a c x b. but full taken b (E.deliver a c x b)))
 deliver-only P = no-place
@@ -106,19 +106,16 @@ deliver-full P = another (rw overflow-full refl)
     (P .channels .deliver writes 1 1 Whole (Write 1 1) (too-many .delivers) .full no-place)
 
 -- The message that is delivered keeps its place, and its answer comes to it.
-abbrev stays : Event
-stays b r = accepted (reads 2)
-
-deliver-holds : RuledOut (delivers (λ a c x b. but (holding 1) stays b (E.deliver a c x b)))
+deliver-holds : RuledOut (delivers (λ a c x b. but (holding 14) fifteenLeft b (E.deliver a c x b)))
 deliver-holds P =
-    let d = does single stays (E.deliver 1 1 Whole (reads 1)) in
+    let d = does fourteen fifteenLeft (E.deliver 1 1 Whole (reads 14)) in
     omega (
       arith,
-      two .holds,
+      fifteen .holds,
       ap (λ (r : E.Result). countOf (channel (r .bytes) 1 1)) d,
-      P .channels .deliver (reads 1) 1 1 Whole (Read 1) (single .delivers) .holds (None, answer-of d) 1 (stands single),
-      own-count (reads 1) 1 1 (single .delivers) (single .begins .idle),
-      single .holds,
+      P .channels .deliver (reads 14) 1 1 Whole (Read 1) (fourteen .delivers) .holds (None, answer-of d) 1 (stands fourteen),
+      own-count (reads 14) 1 1 (fourteen .delivers) (fourteen .begins .idle),
+      fourteen .holds,
     )
 
 deliver-most : RuledOut (delivers (λ a c x b. but ofTwo loads b (E.deliver a c x b)))
@@ -163,9 +160,6 @@ own-place-kept : RuledOut (delivers (λ a c x b. but (holding 16) is11 b (E.deli
 own-place-kept P = apart
     (P .channels .own-place (reads 16) 1 1 (sixteen .delivers) (sixteen .begins .idle) (sixteen .holds) .0)
     (answer-of (does sixteen is11 (E.deliver 1 1 Whole (reads 16))))
-
-abbrev fifteenLeft : Event
-fifteenLeft b r = accepted (reads 15)
 
 abbrev roomy : Test
 roomy b r = not (full b r)

@@ -73,6 +73,10 @@ accepted b = record { bytes = b; answer = result None; view = noView; sent = [] 
 abbrev pub taken : Event
 taken b r = accepted b
 
+-- Whatever was there, fifteen messages are left.
+abbrev pub fifteenLeft : Event
+fifteenLeft b r = accepted (filled 1 15 (Read 1))
+
 -- ---- the clusters
 
 abbrev pub reads : ℕ → List ℕ
@@ -81,11 +85,8 @@ reads k = filled 1 k (Read 1)
 abbrev pub writes : List ℕ
 writes = filled 1 16 (Write 1 1)
 
-pub single : Filled 1 1 (Read 1)
-single = filled-reads 1 (omega arith, omega arith) 0 (omega arith)
-
-pub two : Filled 1 2 (Read 1)
-two = filled-reads 1 (omega arith, omega arith) 1 (omega arith)
+pub fourteen : Filled 1 14 (Read 1)
+fourteen = filled-reads 1 (omega arith, omega arith) 13 (omega arith)
 
 abbrev pub pairs : List ℕ
 pairs = filled 2 1 (Read 1)
