@@ -2,7 +2,7 @@
 use Prim.Native.Nat.{ℕ}
 use native.Mathlib.Omega.{arith}
 use native.Mathlib.Decide.{ℕ-discrete, decLe, decLt}
-use mathlib.Core.Path.{_≡_, refl, ap, ap₂, _∙_, subst}
+use mathlib.Core.Path.{_≡_, refl, sym, ap, ap₂, _∙_, subst}
 use mathlib.Core.Bool.{Bool, true, false, not, decide}
 use mathlib.Core.List.{List, [], _∷_, map}
 use lib.Dec.{eqb}
@@ -17,6 +17,8 @@ use Rattle.record.specs.declared.Operation.the-variants.{Scan}
 use Rattle.node.specs.declared.Ending.{Ending}
 use Rattle.node.specs.declared.Ending.the-variants.{None, Scan as Scanned}
 use Rattle.node.specs.declared.Rule.the-variants.{Direct}
+use Rattle.region.specs.Channel.{countOf}
+use Rattle.layout.specs.Layout.{stated, channel}
 use Rattle.cluster.specs.Event as E
 use Rattle.cluster.specs.Event.{isCut}
 use Rattle.cluster.specs.declared.Extent.{Extent}
@@ -29,10 +31,14 @@ use Rattle.eqaso.specs.Trace as T
 use Rattle.mirror.specs.Mirrors.{channelRoom}
 use Rattle.mirror.specs.Run as R
 use Rattle.mirror.proofs.Demand2.{demand2}
-use Rattle.points.specs.Absences.{Delivery, scanThen, NothingWaits}
-use Rattle.points.specs.Calls.{traceFrom, traceOf}
+use Rattle.mirror.proofs.Says.{says-count}
+use Rattle.points.specs.Absences.{Delivery, scanThen, NothingWaits, ShowsNone}
+use Rattle.points.specs.Calls.{Calls, traceFrom, traceOf}
+use Rattle.points.specs.Points.{PointsOf}
 use Rattle.points.proofs.RuledOut.{RuledOut, space, long-space}
+use Rattle.points.proofs.Stops.{start-mirrors}
 use Rattle.points.proofs.Wrong.{begins, delivers}
+use Rattle.points.proofs.WrongEvents.{Event, but, holding}
 
 -- An event that answers so, and lets nothing out.
 abbrev silent : Answer Ending → View → List ℕ → E.Result
@@ -44,40 +50,61 @@ one = (omega arith, omega arith)
 size : OneTo 16 1
 size = (omega arith, omega arith)
 
--- ---- a begin that is refused, or that shows at once what was not reported
+-- With one node there is one channel.
+of-one : (tr : T.Trace) → T.waits tr 1 1 ≡ [] → NothingWaits 1 tr
+of-one tr e a d (lo, hi) (low, high) up =
+    let p : a ≡ 1 = omega arith in
+    let q : d ≡ 1 = omega arith in
+    ap₂ (λ i j. T.waits tr i j) p q ∙ e
+
+-- ---- a begin that is refused, or that shows at once what was not reported, where nothing waits
+
+abbrev start : List ℕ
+start = E.fresh 1 (space 1) .bytes
+
+fresh-one : both (eqb (stated start) 1) (eqb (countOf (channel start 1 1)) 0) ≡ true
+fresh-one =
+    let S = start-mirrors 1 size (space 1) (long-space 1) .shows in
+    rw (S .states, says-count (size .1) (S .says 1 one) 1 one) refl
+
+-- The code's begin, with another answer and nothing let out.
+abbrev tells : Answer Ending → View → Event
+tells y v b r = silent y v (r .bytes)
 
 module _ (y : Answer Ending) (v : View) where
-  abbrev run : T.Trace
-  run = traceOf (begins (λ c o x b. silent y v b)) 1 (space 1) (scanThen 1 [])
+  abbrev told : Calls
+  told = begins (λ c o x b. but (holding 0) (tells y v) b (E.begin c o x b))
 
-  here : (y : Answer Ending) → T.waits (traceOf (begins (λ c o x b. silent y v b)) 1 (space 1) (scanThen 1 [])) 1 1 ≡ []
-  unfolding traceFrom T.letOutTo T.handedOver K.sentTo ℕ-discrete decide
-  here (result e) = refl
-  here (refused k) = refl
+  abbrev seen : T.Trace
+  seen = R.seen 1 (R.begin 1 Scan Whole) (silent y v []) ∷ []
 
-  nothing-waits : NothingWaits 1 run
-  nothing-waits a d (lo, hi) (low, high) up =
-      let p : a ≡ 1 = omega arith in
-      let q : d ≡ 1 = omega arith in
-      ap₂ (λ i j. T.waits run i j) p q ∙ here y
+  scans : traceOf told 1 (space 1) (scanThen 1 []) ≡ seen
+  unfolding traceFrom
+  scans = rw fresh-one refl
+
+  quiet : (y : Answer Ending) → T.waits (R.seen 1 (R.begin 1 Scan Whole) (silent y v []) ∷ []) 1 1 ≡ []
+  unfolding T.letOutTo T.handedOver K.sentTo ℕ-discrete decide
+  quiet (result e) = refl
+  quiet (refused k) = refl
+
+  shows : PointsOf told → ShowsNone 1 1 seen
+  shows P = subst (ShowsNone 1 1) scans (P .absences .whole 1 1 size one (space 1) (long-space 1) [] tt
+      (subst (NothingWaits 1) (sym scans) (of-one seen (quiet y))))
 
 not-begun : {c : ℕ} → T.nothing ≡ T.scanning c → ⊥
 not-begun e = let z : _≡_ {A = ℕ} 0 1 = cc in omega arith
 
-never-begins : RuledOut (begins (λ c o x b. silent (refused 5) noView b))
-unfolding traceFrom
-never-begins P = not-begun (P .absences .whole 1 1 size one (space 1) (long-space 1) [] tt
-    (nothing-waits (refused 5) noView) .begun)
+never-begins : RuledOut (told (refused 5) noView)
+never-begins P = not-begun (shows (refused 5) noView P .begun)
 
 -- a view with tag 1 of node 1
 shown : View
 shown = record { tags = 1 ∷ []; reports = [] }
 
-shows-some : RuledOut (begins (λ c o x b. silent (result (Scanned (Direct 1))) shown b))
-unfolding shown traceFrom T.firstEnding ℕ-discrete decide A.table
+shows-some : RuledOut (told (result (Scanned (Direct 1))) shown)
+unfolding shown T.firstEnding ℕ-discrete decide A.table
 shows-some P =
-    let e = P .absences .whole 1 1 size one (space 1) (long-space 1) [] tt
-    (nothing-waits (result (Scanned (Direct 1))) shown) .view in
+    let e = shows (result (Scanned (Direct 1))) shown P .view in
     let z : _≡_ {A = ℕ} 1 0 = ap (λ (l : List Entry). getD l 0 absent .tag) e in omega arith
 
 -- ---- a scan that never finishes: the cluster is lost with a delivery that is refused
@@ -103,7 +130,7 @@ first-seen : T.at (T.trace 1 0 channelRoom (map R.meaning (scanThen 1 []))) 0 �
 unfolding T.traceFrom K.event K.roomy K.sentTo K.entries A.moveOn A.kept A.table A.newest A.within A.has A.limit same upd upd2 count ℕ-discrete decLe decLt decide
 first-seen = refl
 
-scan-seen : R.seen 1 (R.begin 1 Scan Whole) (E.begin 1 Scan Whole (E.fresh 1 (space 1) .bytes)) ≡ scanned
+scan-seen : R.seen 1 (R.begin 1 Scan Whole) (E.begin 1 Scan Whole start) ≡ scanned
 unfolding R.traceFrom
 scan-seen = ap (λ tr. T.at tr 0) (demand2 1 size (space 1) (long-space 1) .same (scanThen 1 [])) ∙ first-seen
 
@@ -128,10 +155,7 @@ module _ (f : Extent → Bool) (x : Extent) (h : f x ≡ true) where
   handed = refl
 
   none-waits : NothingWaits 1 lost
-  none-waits a d (lo, hi) (low, high) up =
-      let p : a ≡ 1 = omega arith in
-      let q : d ≡ 1 = omega arith in
-      ap₂ (λ i j. T.waits lost i j) p q ∙ ap (λ tr. T.waits tr 1 1) runs ∙ handed
+  none-waits = of-one lost (ap (λ tr. T.waits tr 1 1) runs ∙ handed)
 
   stands : T.stopped lost 1 ≡ false
   unfolding T.stopped
