@@ -190,9 +190,10 @@ writes-two f d v e h = go (d .wait) refl
     go (Comparing k i r) z = true-false (isOpen (d .wait)) (rw z refl) e
     go (Borrowing k r) z = true-false (isOpen (d .wait)) (rw z refl) e
 
-overflows : deliver 1 1 Whole (filled 1 16 (Write 1 1)) ≡ refuse 11 (filled 1 16 (Write 1 1))
+pub overflows : (n : ℕ) → OneTo 16 n
+    → deliver 1 1 Whole (filled n 16 (Write 1 1)) ≡ refuse 11 (filled n 16 (Write 1 1))
 unfolding addressed goTo
-overflows = deliver-judged b 1 1 Whole (Write 1 1) (F .delivers) .full (λ room. omega (
+overflows n size = deliver-judged b 1 1 Whole (Write 1 1) (F .delivers) .full (λ room. omega (
   arith,
   room 1 (still-stands b 1 1 (F .begins .at) (F .begins .stands)),
   own-left b 1 1 Whole (Write 1 1) (F .delivers),
@@ -201,10 +202,10 @@ overflows = deliver-judged b 1 1 Whole (Write 1 1) (F .delivers) .full (λ room.
 ))
   where
     b : List ℕ
-    b = filled 1 16 (Write 1 1)
+    b = filled n 16 (Write 1 1)
 
-    F : Filled 1 16 (Write 1 1)
-    F = filled-writes 1 (omega arith, omega arith) 15 (omega arith)
+    F : Filled n 16 (Write 1 1)
+    F = filled-writes n size 15 (omega arith)
 
     two : goTo 1 (handled b 1 1 Whole (Write 1 1)) ≡ 2
     two =
@@ -228,7 +229,7 @@ channels-hold = record {
       (accepts b c o M room, counts b c o M room d p up ∙ ap (λ k. k + 1) e);
   seventeenth = λ b c d o M p up e. fills b c o M d p up e;
   own-place = place;
-  overflow = overflows;
+  overflow = overflows 1 (omega arith, omega arith);
   fifteen-reads = filled-reads 1 (omega arith, omega arith) 14 (omega arith);
   sixteen-reads = filled-reads 1 (omega arith, omega arith) 15 (omega arith);
   sixteen-writes = filled-writes 1 (omega arith, omega arith) 15 (omega arith);

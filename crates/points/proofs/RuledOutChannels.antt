@@ -30,7 +30,8 @@ use Rattle.points.proofs.Wrong.{begins, delivers}
 use Rattle.points.proofs.WrongEvents.{Test, holding, full, ofTwo, and, Event, but, is11, is8, taken, fifteenLeft}
 use Rattle.points.proofs.WrongEvents.{reads, writes, fourteen, pairs, pair, fifteen, sixteen, too-many, low}
 use Rattle.points.proofs.WrongEvents.{stands, begin-none, room, seventeenth, no-room, no-place, place-room}
-use Rattle.points.proofs.WrongEvents.{does, does-both, does-two, answer-of, another}
+use Rattle.points.proofs.WrongEvents.{does, does-both, does-two, does-full, answer-of, another}
+use Rattle.points.proofs.WrongEvents.{pairWrites, too-many-pair}
 
 -- ---- begins: 11 with room; taken without; another number; another count; too many on a channel of another node
 
@@ -39,6 +40,7 @@ begin-refused P = apart
     (P .channels .begin (reads 14) 1 Scan Whole (fourteen .begins) .accepted (room fourteen (omega arith)) .1)
     (answer-of (does fourteen is11 (E.begin 1 Scan Whole (reads 14))))
 
+-- Of whole begins the case of the seventeenth says these two as well.
 begin-only : RuledOut (begins (λ c o x b. but full taken b (E.begin c o x b)))
 begin-only P = no-room
     (P .channels .begin (reads 16) 1 Scan Whole (sixteen .begins) .only (None, rw seventeenth refl))
@@ -87,23 +89,20 @@ begin-most P =
     over (E.begin 1 Scan Whole pairs) d (P .channels .begin pairs 1 Scan Whole (pair .begins) .most
     (None, answer-of d ∙ begin-none pair (omega arith)) 2 1 second (pair .begins .at))
 
--- ---- deliveries: the same
-
-overflow-full : E.deliver 1 1 Whole writes ≡ E.refuse 11 writes
-overflow-full = points .channels .overflow
+-- ---- deliveries: the same, without room in a cluster of two nodes, of which no case below speaks
 
 deliver-refused : RuledOut (delivers (λ a c x b. but (holding 14) is11 b (E.deliver a c x b)))
 deliver-refused P = apart
     (P .channels .deliver (reads 14) 1 1 Whole (Read 1) (fourteen .delivers) .accepted (place-room fourteen) .1)
     (answer-of (does fourteen is11 (E.deliver 1 1 Whole (reads 14))))
 
-deliver-only : RuledOut (delivers (λ a c x b. but full taken b (E.deliver a c x b)))
-deliver-only P = no-place
-    (P .channels .deliver writes 1 1 Whole (Write 1 1) (too-many .delivers) .only (None, rw overflow-full refl))
+deliver-only : RuledOut (delivers (λ a c x b. but (and ofTwo full) taken b (E.deliver a c x b)))
+deliver-only P = no-place (P .channels .deliver pairWrites 1 1 Whole (Write 1 1) (too-many-pair .delivers) .only
+    (None, answer-of (does-full taken)))
 
-deliver-full : RuledOut (delivers (λ a c x b. but full is8 b (E.deliver a c x b)))
-deliver-full P = another (rw overflow-full refl)
-    (P .channels .deliver writes 1 1 Whole (Write 1 1) (too-many .delivers) .full no-place)
+deliver-full : RuledOut (delivers (λ a c x b. but (and ofTwo full) is8 b (E.deliver a c x b)))
+deliver-full P = another (answer-of (does-full is8))
+    (P .channels .deliver pairWrites 1 1 Whole (Write 1 1) (too-many-pair .delivers) .full no-place)
 
 -- The message that is delivered keeps its place, and its answer comes to it.
 deliver-holds : RuledOut (delivers (λ a c x b. but (holding 14) fifteenLeft b (E.deliver a c x b)))
@@ -177,5 +176,5 @@ own-place-lost P =
 
 overflow-taken : RuledOut (delivers (λ a c x b. but (and (holding 16) full) taken b (E.deliver a c x b)))
 overflow-taken P = answers
-    (answer-of (does-both too-many full taken (E.deliver 1 1 Whole writes) (rw overflow-full refl)))
+    (answer-of (does-both too-many full taken (E.deliver 1 1 Whole writes) (rw (points .channels .overflow) refl)))
     (P .channels .overflow)

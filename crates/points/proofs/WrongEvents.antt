@@ -21,8 +21,8 @@ use Rattle.cluster.specs.declared.Extent.the-variants.{Whole}
 use Rattle.eqaso.specs.Order.{OneTo}
 use Rattle.points.specs.Channels.{StandsAfter, Room, waits, stillWaits, begun, handled, filled, Filled}
 use Rattle.points.proofs.Begins.{still-stands, accepts}
-use Rattle.points.proofs.Channels.{own-room}
-use Rattle.points.proofs.Filled.{filled-reads}
+use Rattle.points.proofs.Channels.{own-room, overflows}
+use Rattle.points.proofs.Filled.{filled-reads, filled-writes}
 use Rattle.points.proofs.Proved.{points}
 use Rattle.points.proofs.RuledOut.{answers, number}
 
@@ -103,6 +103,16 @@ sixteen = points .channels .sixteen-reads
 pub too-many : Filled 1 16 (Write 1 1)
 too-many = points .channels .sixteen-writes
 
+-- The same with two nodes.
+abbrev pub pairWrites : List ℕ
+pairWrites = filled 2 16 (Write 1 1)
+
+pub too-many-pair : Filled 2 16 (Write 1 1)
+too-many-pair = filled-writes 2 (omega arith, omega arith) 15 (omega arith)
+
+pub overflow-pair : E.deliver 1 1 Whole pairWrites ≡ E.refuse 11 pairWrites
+overflow-pair = overflows 2 (omega arith, omega arith)
+
 -- No more than fifteen wait from node 1 to any.
 pub low : {n k : ℕ} → Filled n k (Read 1) → k ≤ 15 → (c : ℕ) → OneTo (stated (filled n k (Read 1))) c
     → stopped (filled n k (Read 1)) c ≡ false → countOf (channel (filled n k (Read 1)) 1 c) ≤ 15
@@ -127,9 +137,9 @@ seventeenth = points .channels .seventeenth (reads 16) 1 1 Scan (sixteen .begins
 pub no-room : Room (reads 16) 1 Whole (waits (reads 16) 1) (begun (reads 16) 1 Scan Whole) → ⊥
 no-room h = answers (points .channels .begin (reads 16) 1 Scan Whole (sixteen .begins) .accepted h .1) seventeenth
 
-pub no-place : Room writes 1 Whole (stillWaits writes 1 1) (handled writes 1 1 Whole (Write 1 1)) → ⊥
-no-place h = answers (points .channels .deliver writes 1 1 Whole (Write 1 1) (too-many .delivers) .accepted h .1)
-    (points .channels .overflow)
+pub no-place : Room pairWrites 1 Whole (stillWaits pairWrites 1 1) (handled pairWrites 1 1 Whole (Write 1 1)) → ⊥
+no-place h = answers
+    (points .channels .deliver pairWrites 1 1 Whole (Write 1 1) (too-many-pair .delivers) .accepted h .1) overflow-pair
 
 pub place-room : {k : ℕ} (F : Filled 1 k (Read 1))
     → Room (reads k) 1 Whole (stillWaits (reads k) 1 1) (handled (reads k) 1 1 Whole (Read 1))
@@ -152,6 +162,10 @@ does-both F f g r h = rw (holds-it F, h) refl
 
 pub does-two : (g : Event) (r : E.Result) → but ofTwo g pairs r ≡ g pairs r
 does-two g r = rw (pair .states) refl
+
+pub does-full : (g : Event) → but (and ofTwo full) g pairWrites (E.deliver 1 1 Whole pairWrites)
+    ≡ g pairWrites (E.deliver 1 1 Whole pairWrites)
+does-full g = rw (too-many-pair .states, overflow-pair) refl
 
 pub answer-of : {r s : E.Result} → r ≡ s → r .answer ≡ s .answer
 answer-of e = ap (λ (r : E.Result). r .answer) e
