@@ -9,7 +9,7 @@ use lib.Dec.{eqb}
 use borrow.Author.Tests.{eq-eqb}
 use Rattle.octets.specs.Answer.{Answer, result, refused}
 use Rattle.octets.specs.Test.{pick, both}
-use Rattle.octets.proofs.Test.{true-false, not-true-false}
+use Rattle.octets.proofs.Test.{both-true, true-false, not-true-false}
 use Rattle.view.specs.Report.{noReport}
 use Rattle.view.specs.Size.{limit}
 use Rattle.view.specs.View.{noView}
@@ -83,9 +83,9 @@ told-apart p q =
     let e : K.nothing ≡ K.spent 13 = ap (λ (x : Outcome). x .answer) (sym p ∙ q) in
     let z : _≡_ {A = ℕ} 0 1 = cc e in omega arith
 
--- The largest tag does not count: that of an answer before, that of the last answer, the own maxtag.
+-- The largest tag does not count: in an answer before alone, in the last answer, as the own maxtag.
 beforeLost : Test
-beforeLost o m t top = both (isUpdate o) (eqb m limit)
+beforeLost o m t top = both (isUpdate o) (both (eqb m limit) (eqb (max t top) 0))
 
 nowLost : Test
 nowLost o m t top = both (isUpdate o) (eqb t limit)
@@ -97,7 +97,7 @@ not-before : RuledOut (hands (wrongly beforeLost unchanged))
 unfolding beforeLost
 not-before P =
     let L = points .last-tag .a-before in
-    told-apart (does beforeLost unchanged _ _ limit 2 0 _ _ L (eq-eqb limit limit refl))
+    told-apart (does beforeLost unchanged _ _ limit 2 0 _ _ L (both-true (eq-eqb limit limit refl) refl))
     (P .last-tag .spent _ noReport limit 2 0 _ _ L (omega arith))
 
 not-by-answer : RuledOut (hands (wrongly nowLost unchanged))
