@@ -122,15 +122,14 @@ answers-only f d a q v e = go (d .wait) refl
     go (Comparing k i r) h = true-false (isOpen (d .wait)) (rw h refl) e
     go (Borrowing k r) h = true-false (isOpen (d .wait)) (rw h refl) e
 
-module _ (b : List ℕ) (c q : ℕ) (M : MayDeliver b c c Whole (Read q)) (idle : isOpen (node b c .wait) ≡ false)
-    (sixteen : countOf (channel b c c) ≡ 16) where
+module _ (b : List ℕ) (c q : ℕ) (M : MayDeliver b c c Whole (Read q)) (idle : isOpen (node b c .wait) ≡ false) where
   answered : handled b c c Whole (Read q) ≡ entry noView (ReadAnswer q (node b c .maxtag)) c ∷ []
   unfolding entriesOf addressed
   answered = ap (λ (s : Step). entries (stated b) c (s .outbox))
       (answers-only (faults (stated b)) (node b c) c q (beside b c c Whole (Read q) M) idle)
 
-  here : stillWaits b c c c ≡ 15
-  here = own-left b c c Whole (Read q) M ∙ rw (eq-eqb c c refl, sixteen) refl
+  here : stillWaits b c c c ≡ countOf (channel b c c) - 1
+  here = own-left b c c Whole (Read q) M ∙ rw (eq-eqb c c refl) refl
 
   one : goTo c (handled b c c Whole (Read q)) ≡ 1
   unfolding goTo
@@ -140,10 +139,15 @@ module _ (b : List ℕ) (c q : ℕ) (M : MayDeliver b c c Whole (Read q)) (idle 
   unfolding goTo
   none k e = ap (goTo k) answered ∙ rw (ne-eqb c k (λ y. e (sym y))) refl
 
-  own-room : Room b c Whole (stillWaits b c c) (handled b c c Whole (Read q))
+  pub own-room : Room b c Whole (stillWaits b c c) (handled b c c Whole (Read q))
   own-room k S = elim (ℕ-discrete k c) [
     | yes e ↦ subst (λ j. stillWaits b c c j + goTo j (handled b c c Whole (Read q)) ≤ 16) (sym e)
-        (omega (arith, here, one))
+        (omega (
+          arith,
+          here,
+          one,
+          sound-channel b (M .usable) c c (node-is (stated b) c (M .receiver)) (node-is (stated b) c (M .receiver)),
+        ))
     | no e ↦ omega (
       arith,
       other-left b c c Whole (Read q) M k e,
@@ -152,7 +156,7 @@ module _ (b : List ℕ) (c q : ℕ) (M : MayDeliver b c c Whole (Read q)) (idle 
     )
   ]
 
-  answer-none : deliver c c Whole b .answer ≡ result None
+  pub answer-none : deliver c c Whole b .answer ≡ result None
   answer-none = ap (λ (r : Result). r .answer) (commits b (M .fit) (M .usable) true c c (M .sender) (M .receiver)
       (λ e. M .some) Whole (handling b c c Whole (Read q) M) (heard-after b c c Whole (Read q) M) (stillWaits b c c)
       (own-left b c c Whole (Read q) M) (other-left b c c Whole (Read q) M) (deliver c c Whole b)
@@ -160,11 +164,16 @@ module _ (b : List ℕ) (c q : ℕ) (M : MayDeliver b c c Whole (Read q)) (idle 
       ∙ ap (λ (s : Step). result (s .ending))
       (answers-only (faults (stated b)) (node b c) c q (beside b c c Whole (Read q) M) idle)
 
-  place : (deliver c c Whole b .answer ≡ result None) × (countOf (channel (deliver c c Whole b .bytes) c c) ≡ 16)
-  place = (
+  -- As many wait after it as before.
+  pub own-count : stillWaits b c c c + goTo c (handled b c c Whole (Read q)) ≡ countOf (channel b c c)
+  own-count = omega (arith, here, one, M .some)
+
+  place : countOf (channel b c c) ≡ 16
+      → (deliver c c Whole b .answer ≡ result None) × (countOf (channel (deliver c c Whole b .bytes) c c) ≡ 16)
+  place sixteen = (
     answer-none,
     deliver-judged b c c Whole (Read q) M .holds (None, answer-none) c (still-stands b c c (M .receiver) (M .stands))
-        ∙ ap (λ k. k + goTo c (handled b c c Whole (Read q))) here ∙ ap (λ k. 15 + k) one,
+        ∙ own-count ∙ sixteen,
   )
 
 -- A write with a larger tag is echoed and answered by an idle node: two messages for the place of one.
@@ -181,9 +190,10 @@ writes-two f d v e h = go (d .wait) refl
     go (Comparing k i r) z = true-false (isOpen (d .wait)) (rw z refl) e
     go (Borrowing k r) z = true-false (isOpen (d .wait)) (rw z refl) e
 
-overflows : deliver 1 1 Whole (filled 16 (Write 1 1)) ≡ refuse 11 (filled 16 (Write 1 1))
+pub overflows : (n : ℕ) → OneTo 16 n
+    → deliver 1 1 Whole (filled n 16 (Write 1 1)) ≡ refuse 11 (filled n 16 (Write 1 1))
 unfolding addressed goTo
-overflows = deliver-judged b 1 1 Whole (Write 1 1) (F .delivers) .full (λ room. omega (
+overflows n size = deliver-judged b 1 1 Whole (Write 1 1) (F .delivers) .full (λ room. omega (
   arith,
   room 1 (still-stands b 1 1 (F .begins .at) (F .begins .stands)),
   own-left b 1 1 Whole (Write 1 1) (F .delivers),
@@ -192,10 +202,10 @@ overflows = deliver-judged b 1 1 Whole (Write 1 1) (F .delivers) .full (λ room.
 ))
   where
     b : List ℕ
-    b = filled 16 (Write 1 1)
+    b = filled n 16 (Write 1 1)
 
-    F : Filled 16 (Write 1 1)
-    F = filled-writes 15 (omega arith)
+    F : Filled n 16 (Write 1 1)
+    F = filled-writes n size 15 (omega arith)
 
     two : goTo 1 (handled b 1 1 Whole (Write 1 1)) ≡ 2
     two =
@@ -219,8 +229,8 @@ channels-hold = record {
       (accepts b c o M room, counts b c o M room d p up ∙ ap (λ k. k + 1) e);
   seventeenth = λ b c d o M p up e. fills b c o M d p up e;
   own-place = place;
-  overflow = overflows;
-  fifteen-reads = filled-reads 14 (omega arith);
-  sixteen-reads = filled-reads 15 (omega arith);
-  sixteen-writes = filled-writes 15 (omega arith);
+  overflow = overflows 1 (omega arith, omega arith);
+  fifteen-reads = filled-reads 1 (omega arith, omega arith) 14 (omega arith);
+  sixteen-reads = filled-reads 1 (omega arith, omega arith) 15 (omega arith);
+  sixteen-writes = filled-writes 1 (omega arith, omega arith) 15 (omega arith);
 }

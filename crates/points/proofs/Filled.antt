@@ -1,14 +1,19 @@
--- A cluster of one node, on whose channel to itself messages wait: the fresh one, with copies of a message let out.
-use Prim.Native.Nat.{ℕ, zero, suc, _≤_}
+-- A cluster in which messages wait from node 1 to itself: the fresh one, with copies of a message let out.
+use Prim.Native.Nat.{ℕ, zero, suc, _+_, _≤_}
 use native.Mathlib.Omega.{arith}
-use mathlib.Core.Path.{_≡_, refl, sym, ap, ap₂, _∙_, subst}
-use mathlib.Core.Bool.{true, false}
+use native.Mathlib.Decide.{ℕ-discrete}
+use mathlib.Core.Path.{_≡_, refl, sym, ap, _∙_, subst}
+use mathlib.Core.Bool.{Bool, true, false}
 use mathlib.Core.List.{List, [], _∷_, map, List·Memᴰ·head, List·Memᴰ·tail}
+use lib.Dec.{eqb}
 use lib.ListN.{length, replicate, length-replicate}
+use borrow.Author.Tests.{le-leb}
 use Rattle.theory.specs.Log.{_∈_}
 use Rattle.theory.proofs.Count.{count-none}
 use Rattle.octets.specs.Answer.{Answer, result, refused}
-use Rattle.octets.proofs.Test.{true-false}
+use Rattle.octets.specs.Test.{pick}
+use Rattle.octets.proofs.Test.{both-true, true-false}
+use Rattle.view.specs.Size.{isSize}
 use Rattle.view.specs.View.{noView, viewOf, viewBytes}
 use Rattle.view.specs.declared.View.{View}
 use Rattle.wire.specs.Codec.{front, viewAt}
@@ -28,7 +33,7 @@ use Rattle.eqaso.specs.Order.{OneTo}
 use Rattle.refine.specs.Meaning.{messageOf}
 use Rattle.refine.proofs.Steps.{same-idle, not-full}
 use Rattle.mirror.specs.Mirrors.{meantBy, mail, Shows, Mirrors}
-use Rattle.mirror.proofs.Channels.{channel-own, sent-none, sent-here}
+use Rattle.mirror.proofs.Channels.{channel-own, channel-other, sent-none, sent-here, same-goTo}
 use Rattle.mirror.proofs.Checks.{is-fit, is-sound}
 use Rattle.mirror.proofs.Delivers.{IsResult}
 use Rattle.mirror.proofs.Fresh.{fresh-mirrors}
@@ -38,72 +43,86 @@ use Rattle.mirror.proofs.Shows.{Fit}
 use Rattle.points.specs.Channels.{filled, Filled}
 
 -- The message is known by what it means for the algorithm, and is never stale.
-module _ (m : Message) (ok : allowed 1 m (viewBytes 1 noView) ≡ true)
-    (known : (k : Message) (v : View) → messageOf 1 1 v k ≡ messageOf 1 1 noView m → k ≡ m)
+module _ (n : ℕ) (size : OneTo 16 n) (m : Message) (ok : allowed n m (viewBytes n noView) ≡ true)
+    (known : (k : Message) (v : View) → messageOf n 1 v k ≡ messageOf n 1 noView m → k ≡ m)
     (new : (d : Node) → staleMessage d 1 m ≡ false) where
   abbrev e : Entry
   e = entry noView m 1
 
   abbrev meaning : M.Message
-  meaning = messageOf 1 1 noView m
+  meaning = messageOf n 1 noView m
 
-  one : OneTo 1 1
-  one = (omega arith, omega arith)
+  one : OneTo n 1
+  one = (omega arith, size .0)
 
-  goes-all : (k : ℕ) → goTo 1 (replicate k e) ≡ k
+  more : (t : Bool) (j k : ℕ) → j ≤ k → pick t (j + 1) j ≤ suc k
+  more true j k h = omega arith
+  more false j k h = omega arith
+
+  -- To no node goes more than all.
+  goes-most : (d k : ℕ) → goTo d (replicate k e) ≤ k
   unfolding goTo
-  goes-all zero = refl
-  goes-all (suc k) = omega (arith, goes-all k)
+  goes-most d zero = omega arith
+  goes-most d (suc k) = more (eqb 1 d) (goTo d (replicate k e)) k (goes-most d k)
 
-  fits-all : (k : ℕ) (x : Entry) → x ∈ replicate k e → Fit 1 x
+  fits-all : (k : ℕ) (x : Entry) → x ∈ replicate k e → Fit n x
   fits-all zero x i = elim i [ ]
-  fits-all (suc k) x (List·Memᴰ·head h) = subst (Fit 1) (sym h) (record { to = one; layout = ok })
+  fits-all (suc k) x (List·Memᴰ·head h) = subst (Fit n) (sym h) (record { to = one; layout = ok })
   fits-all (suc k) x (List·Memᴰ·tail i) = fits-all k x i
 
-  sent-all : (k : ℕ) → K.sentTo 1 (map (mail 1) (replicate k e)) ≡ replicate k meaning
+  sent-all : (k : ℕ) → K.sentTo 1 (map (mail n) (replicate k e)) ≡ replicate k meaning
   sent-all zero = sent-none 1
-  sent-all (suc k) = sent-here 1 (mail 1 e) (map (mail 1) (replicate k e)) refl ∙ ap (λ l. meaning ∷ l) (sent-all k)
+  sent-all (suc k) = sent-here 1 (mail n e) (map (mail n) (replicate k e)) refl ∙ ap (λ l. meaning ∷ l) (sent-all k)
 
-  small : 1 ≤ 16
-  small = omega arith
+  small : n ≤ 16
+  small = size .1
 
-  start : Mirrors 1 (freshBytes 1 (clusterSize 1)) K.start
+  sized : isSize n ≡ true
+  sized = both-true (le-leb 1 n (size .0)) (le-leb n 16 small)
+
+  start : Mirrors n (freshBytes n (clusterSize n)) K.start
   start =
-      let long : length {A = ℕ} (replicate (clusterSize 1) 0) ≡ clusterSize 1
-      = length-replicate {A = ℕ} (clusterSize 1) 0 in
-      subst (λ j. Mirrors 1 (freshBytes 1 j) K.start) long
-      (fresh-mirrors 1 (one .0) small (replicate (clusterSize 1) 0) long)
+      let long : length {A = ℕ} (replicate (clusterSize n) 0) ≡ clusterSize n
+      = length-replicate {A = ℕ} (clusterSize n) 0 in
+      subst (λ j. Mirrors n (freshBytes n j) K.start) long
+      (fresh-mirrors n (size .0) small (replicate (clusterSize n) 0) long)
 
   module _ (j : ℕ) (few : suc j ≤ capacity) where
     abbrev b : List ℕ
-    b = filled (suc j) m
+    b = filled n (suc j) m
 
     abbrev q : ℕ → ℕ → List M.Message
-    q = K.channels (λ c. false) 1 (map (mail 1) (replicate (suc j) e)) (λ a d. [])
+    q = K.channels (λ c. false) 1 (map (mail n) (replicate (suc j) e)) (λ a d. [])
 
-    shows : Shows 1 b (λ c. A.fresh) (λ c. false) q
-    shows = shows-out small refl 1 one (replicate (suc j) e) (start .shows) (λ a d h. refl) (fits-all (suc j))
-        (λ d (lo, hi) s. let z : d ≡ 1 = omega arith in rw z (omega (arith, goes-all (suc j))))
+    shows : Shows n b (λ c. A.fresh) (λ c. false) q
+    shows = shows-out small sized 1 one (replicate (suc j) e) (start .shows) (λ a d h. refl) (fits-all (suc j))
+        (λ d o s. omega (arith, goes-most d (suc j)))
 
     waiting : q 1 1 ≡ replicate (suc j) meaning
-    waiting = channel-own (λ c. false) 1 (map (mail 1) (replicate (suc j) e)) (λ a d. []) 1 1 refl refl
+    waiting = channel-own (λ c. false) 1 (map (mail n) (replicate (suc j) e)) (λ a d. []) 1 1 refl refl
         ∙ sent-all (suc j)
 
-    mirrors : Mirrors 1 b (record { nodes = λ c. A.fresh; stopped = λ c. false; channel = q })
+    few-wait : (a d : ℕ) → length (q a d) ≤ suc j
+    few-wait a d =
+        let l = map (mail n) (replicate (suc j) e) in
+        elim (ℕ-discrete a 1) [
+          | yes h ↦ rw (
+            channel-own (λ c. false) 1 l (λ a d. []) a d refl h,
+            sym (same-goTo n d (replicate (suc j) e)),
+          ) (goes-most d (suc j))
+          | no h ↦ rw (channel-other (λ c. false) 1 l (λ a d. []) a d refl h) (omega arith)
+        ]
+
+    mirrors : Mirrors n b (record { nodes = λ c. A.fresh; stopped = λ c. false; channel = q })
     mirrors = record {
       shows = shows;
-      room = λ a c (lo, hi) (low, high).
-          let x : a ≡ 1 = omega arith in
-          let y : c ≡ 1 = omega arith in
-          let z : length (q a c) ≡ suc j
-          = ap₂ (λ i k. length (q i k)) x y ∙ ap length waiting ∙ length-replicate (suc j) meaning in
-          omega arith;
+      room = λ a c p o. omega (arith, few-wait a c);
       gone = λ a c h. true-false false h refl;
-      few = omega (arith, count-none 1);
+      few = omega (arith, count-none n);
     }
 
     there : OneTo (stated b) 1
-    there = subst (λ n. OneTo n 1) (sym (shows .states)) one
+    there = subst (λ k. OneTo k 1) (sym (shows .states)) one
 
     holds : countOf (channel b 1 1) ≡ suc j
     holds = says-count small (shows .says 1 one) 1 one ∙ ap length waiting ∙ length-replicate (suc j) meaning
@@ -111,25 +130,25 @@ module _ (m : Message) (ok : allowed 1 m (viewBytes 1 noView) ≡ true)
     abbrev slot : List ℕ
     slot = first (channel b 1 1)
 
-    reads : (k : ℕ) × (front 1 slot ≡ result (m, k))
-    reads = go (front 1 slot) refl (says-first small (shows .says 1 one) 1 one waiting .0)
+    reads : (k : ℕ) × (front n slot ≡ result (m, k))
+    reads = go (front n slot) refl (says-first small (shows .says 1 one) 1 one waiting .0)
       where
         v : View
-        v = viewOf 1 (viewAt 1 slot)
+        v = viewOf n (viewAt n slot)
 
-        go : (r : Answer (Message × ℕ)) → front 1 slot ≡ r → meantBy 1 1 v r ≡ result meaning
-            → (k : ℕ) × (front 1 slot ≡ result (m, k))
+        go : (r : Answer (Message × ℕ)) → front n slot ≡ r → meantBy n 1 v r ≡ result meaning
+            → (k : ℕ) × (front n slot ≡ result (m, k))
         go (refused k) f h = absurd (subst IsResult (sym h) tt)
         go (result p) f h =
-            let same : messageOf 1 1 v (p .0) ≡ meaning = cc h in
+            let same : messageOf n 1 v (p .0) ≡ meaning = cc h in
             (p .1, f ∙ ap (λ z. result (z, p .1)) (known (p .0) v same))
 
-    is-filled : Filled (suc j) m
+    is-filled : Filled n (suc j) m
     unfolding A.limit
     is-filled = record {
       begins = record {
-        fit = is-fit (one .0) small mirrors;
-        usable = is-sound (one .0) small mirrors;
+        fit = is-fit (size .0) small mirrors;
+        usable = is-sound (size .0) small mirrors;
         at = there;
         stands = shows .says 1 one .stop;
         idle = same-idle (shows .says 1 one .node .wait);
@@ -137,44 +156,45 @@ module _ (m : Message) (ok : allowed 1 m (viewBytes 1 noView) ≡ true)
         cut = λ h. true-false false h refl;
       };
       delivers = record {
-        fit = is-fit (one .0) small mirrors;
-        usable = is-sound (one .0) small mirrors;
+        fit = is-fit (size .0) small mirrors;
+        usable = is-sound (size .0) small mirrors;
         sender = there;
         receiver = there;
         stands = shows .says 1 one .stop;
         some = omega (arith, holds);
         size = reads .0;
-        says = subst (λ n. front n slot ≡ result (m, reads .0)) (sym (shows .states)) (reads .1);
+        says = subst (λ k. front k slot ≡ result (m, reads .0)) (sym (shows .states)) (reads .1);
         new = new _;
         cut = λ h. true-false false h refl;
       };
       states = shows .states;
       holds = holds;
+      no-more = λ c o. omega (arith, says-count small (shows .says c o) 1 one, few-wait 1 c);
       maxtag = shows .says 1 one .node .maxtag;
     }
 
-known-read : (k : Message) (v : View) → messageOf 1 1 v k ≡ M.read 1 → k ≡ Read 1
-known-read (Read r) v e = cc
-known-read (ReadAnswer r t) v e = cc
-known-read (Write r t) v e = cc
-known-read (WriteAnswer r t) v e = cc
-known-read (Echo t) v e = cc
-known-read (Value t w p) v e = cc
-known-read (Good t) v e = cc
+known-read : (n : ℕ) (k : Message) (v : View) → messageOf n 1 v k ≡ M.read 1 → k ≡ Read 1
+known-read n (Read r) v e = cc
+known-read n (ReadAnswer r t) v e = cc
+known-read n (Write r t) v e = cc
+known-read n (WriteAnswer r t) v e = cc
+known-read n (Echo t) v e = cc
+known-read n (Value t w p) v e = cc
+known-read n (Good t) v e = cc
 
-known-write : (k : Message) (v : View) → messageOf 1 1 v k ≡ M.write 1 1 → k ≡ Write 1 1
-known-write (Read r) v e = cc
-known-write (ReadAnswer r t) v e = cc
-known-write (Write r t) v e = cc
-known-write (WriteAnswer r t) v e = cc
-known-write (Echo t) v e = cc
-known-write (Value t w p) v e = cc
-known-write (Good t) v e = cc
+known-write : (n : ℕ) (k : Message) (v : View) → messageOf n 1 v k ≡ M.write 1 1 → k ≡ Write 1 1
+known-write n (Read r) v e = cc
+known-write n (ReadAnswer r t) v e = cc
+known-write n (Write r t) v e = cc
+known-write n (WriteAnswer r t) v e = cc
+known-write n (Echo t) v e = cc
+known-write n (Value t w p) v e = cc
+known-write n (Good t) v e = cc
 
-pub filled-reads : (j : ℕ) → suc j ≤ capacity → Filled (suc j) (Read 1)
+pub filled-reads : (n : ℕ) → OneTo 16 n → (j : ℕ) → suc j ≤ capacity → Filled n (suc j) (Read 1)
 unfolding allowed
-filled-reads j h = is-filled (Read 1) refl known-read (λ d. refl) j h
+filled-reads n size j h = is-filled n size (Read 1) refl (known-read n) (λ d. refl) j h
 
-pub filled-writes : (j : ℕ) → suc j ≤ capacity → Filled (suc j) (Write 1 1)
+pub filled-writes : (n : ℕ) → OneTo 16 n → (j : ℕ) → suc j ≤ capacity → Filled n (suc j) (Write 1 1)
 unfolding allowed
-filled-writes j h = is-filled (Write 1 1) refl known-write (λ d. refl) j h
+filled-writes n size j h = is-filled n size (Write 1 1) refl (known-write n) (λ d. refl) j h

@@ -141,15 +141,15 @@ scans c m s t b out L h = steps c Scan m s t b out L ∙ ap (λ (x : Step). N.le
     whole = rw (step-reads c Scan m s t b out L, none-yet c Scan m s t b out L) refl
 
 -- Request numbers are left for an operation that reads with the first.
-few-used : (o : Operation) → stillUses (Reading o (with 0 1) 0) ≤ limit - 1
-few-used (Update p) = omega arith
-few-used Scan = omega arith
+few-used : (o : Operation) (m : ℕ) → stillUses (Reading o (with 0 1) m) ≤ limit - 1
+few-used (Update p) m = omega arith
+few-used Scan m = omega arith
 
-meets : (top t : ℕ) → top ≤ limit → t ≤ limit → (o : Operation) → MeetsAt top t o
+meets : (m top t : ℕ) → m ≤ limit → top ≤ limit → t ≤ limit → (o : Operation) → MeetsAt m top t o
 unfolding allowed heardWithin all count member with only size
-meets top t h k o = record {
+meets m top t low h k o = record {
   room = omega (arith, length-replicate {A = ℕ} 512 0);
-  is-usable = usable-of (reader top o) (record {
+  is-usable = usable-of (reader m top o) (record {
     n-low = omega arith;
     n-high = omega arith;
     own-low = omega arith;
@@ -157,8 +157,8 @@ meets top t h k o = record {
     max-high = h;
     request-high = omega arith;
     kept-high = omega arith;
-    wait-ok = reading-of 3 o (with 0 1) 0 refl (omega arith);
-    enough = few-used o;
+    wait-ok = reading-of 3 o (with 0 1) m refl low;
+    enough = few-used o m;
     heard-ok = refl;
     last-ok = within-absent limit;
     max-ok = within-absent top;
@@ -190,8 +190,9 @@ last-tag-holds = record {
   ));
   one-less = one-more;
   scan-goes-on = scans;
-  an-answer = meets 0 limit (omega arith) (omega arith) (Update noReport);
-  an-own = meets limit 0 (omega arith) (omega arith) (Update noReport);
-  a-less = meets 0 (limit - 1) (omega arith) (omega arith) (Update noReport);
-  a-scan = meets 0 limit (omega arith) (omega arith) Scan;
+  a-before = meets limit 0 0 (omega arith) (omega arith) (omega arith) (Update noReport);
+  an-answer = meets 0 0 limit (omega arith) (omega arith) (omega arith) (Update noReport);
+  an-own = meets 0 limit 0 (omega arith) (omega arith) (omega arith) (Update noReport);
+  a-less = meets 0 0 (limit - 1) (omega arith) (omega arith) (omega arith) (Update noReport);
+  a-scan = meets 0 0 limit (omega arith) (omega arith) (omega arith) Scan;
 }

@@ -9,6 +9,9 @@ pub mod LastTag
 pub mod Messages
 pub mod Proved
 pub mod RuledOut
+pub mod RuledOutChannels
+pub mod RuledOutNodes
 pub mod RuledOutRuns
 pub mod Stops
 pub mod Wrong
+pub mod WrongEvents

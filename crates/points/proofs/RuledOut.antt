@@ -1,6 +1,6 @@
 -- For every clause of the points a wrong call that it rules out: no calls with that one in them have the points. Here
--- for n, f, messages, the largest tag and stops.
-use Prim.Native.Nat.{ℕ, _+_, _-_, _*_, _≤_, min, max}
+-- for n, f and messages.
+use Prim.Native.Nat.{ℕ, _+_, _*_, _≤_, min, max}
 use native.Mathlib.Omega.{arith}
 use mathlib.Core.Path.{_≡_, refl, sym, ap, _∙_}
 use mathlib.Core.List.{List, [], _∷_}
@@ -10,33 +10,27 @@ use Rattle.octets.specs.Answer.{Answer, result, refused}
 use Rattle.octets.specs.Bytes.{part}
 use Rattle.octets.specs.Loop.{allTo, sumTo}
 use Rattle.octets.specs.Test.{pick}
-use Rattle.view.specs.Report.{noReport, reportOf}
-use Rattle.view.specs.Size.{isSize, limit}
-use Rattle.view.specs.View.{noView, viewOk}
+use Rattle.view.specs.Report.{reportOf}
+use Rattle.view.specs.Size.{isSize}
+use Rattle.view.specs.View.{viewOk}
 use Rattle.wire.specs.Codec.{decode, answer}
 use Rattle.wire.specs.Layout.{encode, allowed}
 use Rattle.wire.specs.declared.Message.the-variants.{Read, Good}
 use Rattle.figures.specs.Figures.{totals, figuresOf}
 use Rattle.figures.specs.declared.Totals.{Totals}
 use Rattle.table.specs.Quorum.{faults}
-use Rattle.record.specs.declared.Node.{Node}
 use Rattle.node.specs.Told as K
 use Rattle.node.specs.declared.Ending.{Ending}
-use Rattle.node.specs.declared.Ending.the-variants.{None}
 use Rattle.endpoint.specs.Entry as N
 use Rattle.endpoint.specs.Outcome.{Outcome}
-use Rattle.block.specs.Block.{halt}
-use Rattle.layout.specs.Layout.{clusterSize, stated, onBlock}
+use Rattle.layout.specs.Layout.{clusterSize}
 use Rattle.cluster.specs.Event as E
-use Rattle.halting.specs.Stop.{stop}
 use Rattle.eqaso.specs.Order.{OneTo}
 use Rattle.points.specs.Calls.{Calls, code}
-use Rattle.points.specs.LastTag.{spentBy}
 use Rattle.points.specs.Messages.{zeros, readOne}
 use Rattle.points.specs.Points.{PointsOf}
-use Rattle.points.specs.Stops.{OneStopped}
 use Rattle.points.proofs.Proved.{points}
-use Rattle.points.proofs.Wrong.{reads, writes, sums, fails, makes, hands, starts, stops}
+use Rattle.points.proofs.Wrong.{reads, writes, sums, fails, makes, starts}
 
 abbrev pub RuledOut : Calls → Type 0
 RuledOut calls = PointsOf calls → ⊥
@@ -48,7 +42,7 @@ apart p q = let z : _≡_ {A = ℕ} 0 1 = cc in omega arith
 pub answers : {r : E.Result} {e : Ending} {k : ℕ} {b : List ℕ} → r .answer ≡ result e → r ≡ E.refuse k b → ⊥
 answers p q = apart p (ap (λ (r : E.Result). r .answer) q)
 
-number : {A : Type 0} {j k : ℕ} → _≡_ {A = Answer A} (refused j) (refused k) → j ≡ k
+pub number : {A : Type 0} {j k : ℕ} → _≡_ {A = Answer A} (refused j) (refused k) → j ≡ k
 number e = cc
 
 value : {A : Type 0} {x y : A} → result x ≡ result y → x ≡ y
@@ -62,6 +56,14 @@ not-refused e = let z : _≡_ {A = ℕ} 0 1 = cc in omega arith
 
 fifteen : List ℕ
 fifteen = replicate 15 0
+
+-- Bytes to lend for a cluster of n nodes.
+pub space : ℕ → List ℕ
+space n = replicate (clusterSize n) 0
+
+pub long-space : (n : ℕ) → length (space n) ≡ clusterSize n
+unfolding space
+long-space n = length-replicate {A = ℕ} (clusterSize n) 0
 
 -- ---- n 0 and 17 refused: a call that takes 0 for 1, or 17 for 16, or judges the length of a view alone
 
@@ -174,65 +176,3 @@ any-bytes P = apart refl (P .good-16 .other-bytes (0 ∷ 0 ∷ 0 ∷ 7 ∷ []) r
 
 any-view : RuledOut (writes (λ n m v out. (result (18 + length v), out)))
 any-view P = apart refl (ap (λ (p : Answer ℕ × List ℕ). p .0) (P .good-16 .other-view 0 [] [] (λ h. omega arith)))
-
--- ---- the largest tag: an answer that changes nothing, from all nodes or from those of some maxtag; all are spent
-
-abbrev unchanged : Node → List ℕ → Outcome
-unchanged c out = record { answer = K.nothing; node = c; length = 0; out = out }
-
--- What is told cannot be both.
-told-apart : {x : Outcome} {c d : Node} {j k : ℕ} {o q : List ℕ}
-    → x ≡ record { answer = K.nothing; node = c; length = j; out = o }
-    → x ≡ record { answer = K.spent 13; node = d; length = k; out = q } → ⊥
-told-apart p q =
-    let e : K.nothing ≡ K.spent 13 = ap (λ (x : Outcome). x .answer) (sym p ∙ q) in
-    let z : _≡_ {A = ℕ} 0 1 = cc e in omega arith
-
-never-spent : RuledOut (hands (λ c s b out. unchanged c out))
-never-spent P = told-apart refl
-    (P .last-tag .spent _ noReport 0 2 limit _ _ (points .last-tag .an-answer) (omega arith))
-
-not-by-answer : RuledOut (hands (λ c s b out. pick (eqb (c .maxtag) 0) (unchanged c out) (N.message c s b out)))
-not-by-answer P = told-apart refl (P .last-tag .by-answer _ noReport 0 2 limit _ _ (points .last-tag .an-answer) refl)
-
-not-by-own : RuledOut (hands (λ c s b out. pick (eqb (c .maxtag) 0) (N.message c s b out) (unchanged c out)))
-not-by-own P = told-apart refl (P .last-tag .by-own _ noReport 0 2 0 _ _ (points .last-tag .an-own) refl)
-
-spent-early : RuledOut (hands (λ c s b out. spentBy c out))
-spent-early P = told-apart
-    (P .last-tag .one-less _ noReport 0 2 (limit - 1) _ _ (points .last-tag .a-less) (omega arith)) refl
-
-scan-spent : RuledOut (hands (λ c s b out. spentBy c out))
-scan-spent P = told-apart (P .last-tag .scan-goes-on _ 0 2 limit _ _ (points .last-tag .a-scan) (omega arith)) refl
-
--- ---- stops: all that are named stop, one more of three among them; none does; fresh leaves no cluster
-
-abbrev halts : ℕ → List ℕ → E.Result
-halts c b = record { bytes = onBlock c (halt (stated b)) b; answer = result None; view = noView; sent = [] }
-
-pub space : ℕ → List ℕ
-space n = replicate (clusterSize n) 0
-
-pub long-space : (n : ℕ) → length (space n) ≡ clusterSize n
-unfolding space
-long-space n = length-replicate {A = ℕ} (clusterSize n) 0
-
--- Node 1 of three has stopped.
-stopped-one : OneStopped (stop 1 (E.fresh 3 (space 3) .bytes) .bytes) 1
-stopped-one = points .stops .first (space 3) (long-space 3) 1 (omega arith, omega arith) .leaves
-
-single-stops : RuledOut (stops halts)
-single-stops P = answers refl (P .stops .single _ (points .stops .fresh-single (space 1) (long-space 1)))
-
-one-more-stops : RuledOut (stops halts)
-one-more-stops P = answers refl (P .stops .second _ 1 2 stopped-one (omega arith, omega arith) (λ e. omega arith))
-
-stops-again : RuledOut (stops halts)
-stops-again P = answers refl (P .stops .again _ 1 stopped-one)
-
-none-stops : RuledOut (stops (λ c b. E.refuse 10 b))
-none-stops P = apart (P .stops .first (space 3) (long-space 3) 1 (omega arith, omega arith) .answer) refl
-
-no-cluster : RuledOut (starts (λ n b. E.refuse 12 []))
-no-cluster P =
-    let z : _≡_ {A = ℕ} 0 1 = P .stops .fresh-single (space 1) (long-space 1) .states in omega arith

@@ -43,6 +43,7 @@ abbrev pub five : List Delivery
 five = replicate 5 (record { sender = 1; receiver = 1; extent = Whole })
 
 pub record Absences (calls : Calls) : Type 0 where
+  -- With whole deliveries. It follows from the next clause, since these stop no node.
   pub whole : (n c : ℕ) → OneTo 16 n → OneTo n c → (b : List ℕ) → length b ≡ clusterSize n → (ds : List Delivery)
       → AllWhole ds → NothingWaits n (traceOf calls n b (scanThen c ds))
       → ShowsNone n c (traceOf calls n b (scanThen c ds))

@@ -89,7 +89,7 @@ abbrev pub Accepted : Result → Type 0
 Accepted r = (e : Ending) × (r .answer ≡ result e)
 
 -- Event r of node c on bytes b: accepted just if there is room, else 11 and every byte as before. Then the channels
--- hold what waited and what was let out, and none more than sixteen.
+-- hold what waited and what was let out, and none more than sixteen. `only` follows from `full`.
 pub record Judged (b : List ℕ) (c : ℕ) (x : Extent) (waits : ℕ → ℕ) (l : List Entry) (r : Result) : Type 0 where
   pub accepted : Room b c x waits l → Accepted r
   pub only : Accepted r → Room b c x waits l
@@ -99,23 +99,25 @@ pub record Judged (b : List ℕ) (c : ℕ) (x : Extent) (waits : ℕ → ℕ) (l
 
 -- ---- the cases
 
--- A cluster of one node, on whose channel to itself k messages m wait.
-abbrev pub filled : ℕ → Message → List ℕ
-filled k m = letOut 1 1 (replicate k (entry noView m 1)) (freshBytes 1 (clusterSize 1))
+-- A cluster of n nodes, in which k messages m wait from node 1 to itself.
+abbrev pub filled : (n k : ℕ) → Message → List ℕ
+filled n k m = letOut n 1 (replicate k (entry noView m 1)) (freshBytes n (clusterSize n))
 
-pub record Filled (k : ℕ) (m : Message) : Type 0 where
-  pub begins : MayBegin (filled k m) 1 Whole
-  pub delivers : MayDeliver (filled k m) 1 1 Whole m
-  pub states : stated (filled k m) ≡ 1
-  pub holds : countOf (channel (filled k m) 1 1) ≡ k
-  pub maxtag : node (filled k m) 1 .maxtag ≡ 0
+pub record Filled (n k : ℕ) (m : Message) : Type 0 where
+  pub begins : MayBegin (filled n k m) 1 Whole
+  pub delivers : MayDeliver (filled n k m) 1 1 Whole m
+  pub states : stated (filled n k m) ≡ n
+  pub holds : countOf (channel (filled n k m) 1 1) ≡ k
+  pub no-more : (c : ℕ) → OneTo n c → countOf (channel (filled n k m) 1 c) ≤ k
+  pub maxtag : node (filled n k m) 1 .maxtag ≡ 0
 
 pub record Channels (calls : Calls) : Type 0 where
   pub begin : (b : List ℕ) (c : ℕ) (o : Operation) (x : Extent) → MayBegin b c x
       → Judged b c x (waits b c) (begun b c o x) (calls .begin c o x b)
   pub deliver : (b : List ℕ) (a c : ℕ) (x : Extent) (m : Message) → MayDeliver b a c x m
       → Judged b c x (stillWaits b a c) (handled b a c x m) (calls .deliver a c x b)
-  -- A begin lets one message out to each node: the sixteenth is taken, the seventeenth is not.
+  -- The cases below follow from these two laws, and rule out no call that the laws do not. A begin lets one message out
+  -- to each node: the sixteenth is taken, the seventeenth is not.
   pub sixteenth : (b : List ℕ) (c d : ℕ) (o : Operation) → MayBegin b c Whole → OneTo (stated b) d
       → stopped b d ≡ false → countOf (channel b c d) ≡ 15
       → ((k : ℕ) → OneTo (stated b) k → stopped b k ≡ false → countOf (channel b c k) ≤ 15)
@@ -129,8 +131,8 @@ pub record Channels (calls : Calls) : Type 0 where
       → (calls .deliver c c Whole b .answer ≡ result None)
       × (countOf (channel (calls .deliver c c Whole b .bytes) c c) ≡ 16)
   -- It frees no more: a write with a tag above maxtag is echoed and answered, and of sixteen such none is delivered.
-  pub overflow : calls .deliver 1 1 Whole (filled 16 (Write 1 1)) ≡ refuse 11 (filled 16 (Write 1 1))
+  pub overflow : calls .deliver 1 1 Whole (filled 1 16 (Write 1 1)) ≡ refuse 11 (filled 1 16 (Write 1 1))
   -- There are such clusters.
-  pub fifteen-reads : Filled 15 (Read 1)
-  pub sixteen-reads : Filled 16 (Read 1)
-  pub sixteen-writes : Filled 16 (Write 1 1)
+  pub fifteen-reads : Filled 1 15 (Read 1)
+  pub sixteen-reads : Filled 1 16 (Read 1)
+  pub sixteen-writes : Filled 1 16 (Write 1 1)

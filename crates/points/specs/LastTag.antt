@@ -66,15 +66,15 @@ scanGoesOn c out = record {
   out = put out 0 (encode (Write (c .request + 1) limit) []);
 }
 
--- Node 1 of three, which reads with request number 1 and has counted its own answer with tag 0; node 2's answer with
+-- Node 1 of three, which reads with request number 1 and has counted its own answer with tag m; node 2's answer with
 -- tag t, and a buffer.
-abbrev pub reader : (maxtag : ℕ) → Operation → Node
-reader top o = record {
+abbrev pub reader : (m maxtag : ℕ) → Operation → Node
+reader m top o = record {
   n = 3;
   own = 1;
   maxtag = top;
   request = 1;
-  wait = Reading o (with 0 1) 0;
+  wait = Reading o (with 0 1) m;
   heard = replicate 256 0;
   last = noView;
   atmax = noView;
@@ -83,13 +83,13 @@ reader top o = record {
   keptview = noView;
 }
 
-abbrev pub MeetsAt : (maxtag t : ℕ) → Operation → Type 0
-MeetsAt top t o = LastAnswer (reader top o) o 0 2 t (encode (ReadAnswer 1 t) []) (replicate 512 0)
+abbrev pub MeetsAt : (m maxtag t : ℕ) → Operation → Type 0
+MeetsAt m top t o = LastAnswer (reader m top o) o m 2 t (encode (ReadAnswer 1 t) []) (replicate 512 0)
 
 pub record LastTag (calls : Calls) : Type 0 where
   pub spent : (c : Node) (p : Report) (m s t : ℕ) (b out : List ℕ) → LastAnswer c (Update p) m s t b out
       → used c m t ≡ limit → calls .message c s b out ≡ spentBy c out
-  -- both ways to read the largest tag
+  -- Two of the ways to read the largest tag. They follow from `spent`, and rule out no call that it does not.
   pub by-answer : (c : Node) (p : Report) (m s t : ℕ) (b out : List ℕ) → LastAnswer c (Update p) m s t b out
       → t ≡ limit → calls .message c s b out ≡ spentBy c out
   pub by-own : (c : Node) (p : Report) (m s t : ℕ) (b out : List ℕ) → LastAnswer c (Update p) m s t b out
@@ -98,8 +98,10 @@ pub record LastTag (calls : Calls) : Type 0 where
       → used c m t ≡ limit - 1 → calls .message c s b out ≡ goesOn c p out
   pub scan-goes-on : (c : Node) (m s t : ℕ) (b out : List ℕ) → LastAnswer c Scan m s t b out
       → used c m t ≡ limit → calls .message c s b out ≡ scanGoesOn c out
-  -- There are such nodes and answers: with the largest tag in the answer, in the own maxtag, one less, and of a scan.
-  pub an-answer : MeetsAt 0 limit (Update noReport)
-  pub an-own : MeetsAt limit 0 (Update noReport)
-  pub a-less : MeetsAt 0 (limit - 1) (Update noReport)
-  pub a-scan : MeetsAt 0 limit Scan
+  -- There are such nodes and answers: with the largest tag in an answer before, in this one, in the own maxtag, one
+  -- less, and of a scan.
+  pub a-before : MeetsAt limit 0 0 (Update noReport)
+  pub an-answer : MeetsAt 0 0 limit (Update noReport)
+  pub an-own : MeetsAt 0 limit 0 (Update noReport)
+  pub a-less : MeetsAt 0 0 (limit - 1) (Update noReport)
+  pub a-scan : MeetsAt 0 0 limit Scan
