@@ -143,6 +143,10 @@ halts c b = record { bytes = onBlock c (halt (stated b)) b; answer = result None
 abbrev but : (ℕ → List ℕ → Bool) → (ℕ → List ℕ → E.Result) → ℕ → List ℕ → E.Result
 but f g c b = pick (f c b) (g c b) (stop c b)
 
+instead : (f : ℕ → List ℕ → Bool) (g : ℕ → List ℕ → E.Result) (c : ℕ) (b : List ℕ) → f c b ≡ true
+    → but f g c b .answer ≡ g c b .answer
+instead f g c b h = rw h refl
+
 -- Node c of three stands.
 abbrev standsOfThree : ℕ → List ℕ → Bool
 standsOfThree c b = both (eqb (stated b) 3) (not (stopped b c))
@@ -178,18 +182,24 @@ two-stands = not-true-false (stopped left 2) (λ e.
 single-stops : RuledOut (stops (but (λ c b. eqb (stated b) 1) halts))
 single-stops P =
     let I = points .stops .fresh-single (space 1) (long-space 1) in
-    answers {e = None} (rw (I .states) refl) (P .stops .single _ I)
+    answers (instead (λ c b. eqb (stated b) 1) halts 1 (E.fresh 1 (space 1) .bytes) (rw (I .states) refl))
+    (P .stops .single _ I)
 
 one-more-stops : RuledOut (stops (but standsOfThree halts))
-one-more-stops P = answers {e = None} (rw (stopped-one .three .states, two-stands) refl)
+one-more-stops P = answers
+    (instead standsOfThree halts 2 left (rw (stopped-one .three .states, two-stands) refl))
     (P .stops .second left 1 2 stopped-one two (λ e. omega arith))
 
 stops-again : RuledOut (stops (but (λ c b. stopped b c) halts))
-stops-again P = answers {e = None} (rw (stopped-one .stop) refl) (P .stops .again left 1 stopped-one)
+stops-again P = answers (instead (λ c b. stopped b c) halts 1 left (stopped-one .stop))
+    (P .stops .again left 1 stopped-one)
 
-none-stops : RuledOut (stops (but standsOfThree (λ c b. E.refuse 10 b)))
-none-stops P = apart {k = 10} (P .stops .first (space 3) (long-space 3) 1 one .answer)
-    (rw (fresh-states, fresh-stands) refl)
+abbrev stopsNot : ℕ → List ℕ → E.Result
+stopsNot c b = E.refuse 10 b
+
+none-stops : RuledOut (stops (but standsOfThree stopsNot))
+none-stops P = apart (P .stops .first (space 3) (long-space 3) 1 one .answer)
+    (instead standsOfThree stopsNot 1 three (rw (fresh-states, fresh-stands) refl))
 
 -- a stop that answers as it should, and changes nothing
 stops-nothing : RuledOut (stops (λ c b. record { bytes = b; answer = stop c b .answer; view = noView; sent = [] }))
