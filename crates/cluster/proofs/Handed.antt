@@ -18,11 +18,11 @@ use Rattle.wire.specs.declared.Message.{Message}
 use Rattle.wire.proofs.RoundTrip.{front-only}
 use Rattle.record.specs.Usable.{usable}
 use Rattle.record.specs.declared.Node.{Node}
-use Rattle.node.specs.Allowed.{lawful}
-use Rattle.node.specs.Move.{messageStep}
-use Rattle.node.specs.Stale.{staleMessage}
-use Rattle.node.specs.declared.Step.{Step}
-use Rattle.node.proofs.Allowed.{allowed-lawful}
+use Rattle.step.specs.Allowed.{lawful}
+use Rattle.step.specs.Move.{messageStep}
+use Rattle.step.specs.Stale.{staleMessage}
+use Rattle.step.specs.declared.Step.{Step}
+use Rattle.step.proofs.Allowed.{allowed-lawful}
 use Rattle.region.specs.Channel.{countOf, first}
 use Rattle.region.specs.Record.{recordOf, codesKnown}
 use Rattle.block.specs.Block.{recordIn, recordSound, channelsSound, blockSound, takeOff}

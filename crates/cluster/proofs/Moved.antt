@@ -13,11 +13,11 @@ use Rattle.record.specs.declared.Operation.{Operation}
 use Rattle.record.specs.declared.Operation.the-variants.{Update, Scan}
 use Rattle.record.specs.declared.Wait.{Wait}
 use Rattle.record.specs.declared.Wait.the-variants.{Idle, Reading, Writing, Comparing, Borrowing}
-use Rattle.node.specs.Move.{readPass, writePass, comparePass, borrowPass, reads, writes, compares, moveOn, begun}
-use Rattle.node.specs.Move.{opened, afterRead, afterGood, afterFailed}
-use Rattle.node.specs.declared.Step.{Step}
-use Rattle.node.proofs.Numbers.{on-pick}
-use Rattle.node.proofs.Same.{move-on-keeps}
+use Rattle.step.specs.Move.{readPass, writePass, comparePass, borrowPass, reads, writes, compares, moveOn, begun}
+use Rattle.step.specs.Move.{opened, afterRead, afterGood, afterFailed}
+use Rattle.step.specs.declared.Step.{Step}
+use Rattle.step.proofs.Numbers.{on-pick}
+use Rattle.step.proofs.Same.{move-on-keeps}
 use Rattle.region.specs.Record.{recordOf, recordBytes}
 use Rattle.region.proofs.Back.{Sized, SizedNode, record-back}
 use Rattle.handlers.proofs.Handling.{sized-newest}

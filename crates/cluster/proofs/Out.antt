@@ -14,8 +14,8 @@ use Rattle.table.specs.Loop.{tab}
 use Rattle.table.proofs.Laws.{tab-none, tab-more}
 use Rattle.view.specs.declared.View.{View}
 use Rattle.wire.specs.declared.Message.{Message}
-use Rattle.node.specs.Step.{listed}
-use Rattle.node.specs.declared.Outbox.{Outbox}
+use Rattle.step.specs.Step.{listed}
+use Rattle.step.specs.declared.Outbox.{Outbox}
 use Rattle.block.specs.Block.{receive}
 use Rattle.entries.specs.Entries.{Entry, entry, isAnswer, addressed, entriesOf, entries, slot}
 use Rattle.entries.proofs.Laws.{entries-one, entries-two, entries-three, entries-most, cut-tab, left-both}

@@ -7,9 +7,9 @@ use Rattle.view.specs.declared.View.{View}
 use Rattle.wire.specs.declared.Message.{Message}
 use Rattle.record.specs.Usable.{usable}
 use Rattle.record.proofs.Parts.{parts, usable-of}
-use Rattle.node.specs.Allowed.{lawful}
-use Rattle.node.specs.React.{react}
-use Rattle.node.proofs.Handled.{react-parts}
+use Rattle.step.specs.Allowed.{lawful}
+use Rattle.step.specs.React.{react}
+use Rattle.step.proofs.Handled.{react-parts}
 use Rattle.region.specs.Record.{recordOf}
 use Rattle.handlers.proofs.Handling.{sized-of}
 

@@ -12,9 +12,9 @@ use Rattle.table.specs.Quorum.{faults}
 use Rattle.record.specs.Usable.{isOpen, full}
 use Rattle.record.specs.declared.Node.{Node}
 use Rattle.record.specs.declared.Operation.{Operation}
-use Rattle.node.specs.Move.{begun, beginStep}
-use Rattle.node.specs.declared.Step.{Step}
-use Rattle.node.proofs.Waits.{begin-asks}
+use Rattle.step.specs.Move.{begun, beginStep}
+use Rattle.step.specs.declared.Step.{Step}
+use Rattle.step.proofs.Waits.{begin-asks}
 use Rattle.entries.specs.Entries.{Entry, entries}
 use Rattle.layout.specs.Layout.{clusterSize, node}
 use Rattle.cluster.specs.declared.Extent.{Extent}

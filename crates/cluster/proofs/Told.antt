@@ -12,8 +12,8 @@ use Rattle.view.specs.View.{noView}
 use Rattle.record.specs.Record.{blank}
 use Rattle.record.specs.Usable.{usable}
 use Rattle.record.specs.declared.Operation.{Operation}
-use Rattle.node.specs.Told.{told}
-use Rattle.node.specs.declared.Ending.the-variants.{None}
+use Rattle.step.specs.Told.{told}
+use Rattle.step.specs.declared.Ending.the-variants.{None}
 use Rattle.block.specs.Block.{keep}
 use Rattle.layout.specs.Layout.{clusterSize, stated, stopped, node, onBlock, fits, sound, isNode}
 use Rattle.layout.proofs.Check.{is-size, is-node, fits-length, sound-size, sound-usable}

@@ -18,11 +18,11 @@ use Rattle.table.specs.Quorum.{faults}
 use Rattle.record.specs.Record.{blank}
 use Rattle.record.specs.Usable.{isOpen, full}
 use Rattle.record.specs.declared.Operation.{Operation}
-use Rattle.node.specs.Move.{messageStep, beginStep}
-use Rattle.node.specs.Stale.{staleMessage}
-use Rattle.node.specs.declared.Step.{Step}
-use Rattle.node.specs.declared.Ending.{Ending}
-use Rattle.node.specs.declared.Ending.the-variants.{None}
+use Rattle.step.specs.Move.{messageStep, beginStep}
+use Rattle.step.specs.Stale.{staleMessage}
+use Rattle.step.specs.declared.Step.{Step}
+use Rattle.step.specs.declared.Ending.{Ending}
+use Rattle.step.specs.declared.Ending.the-variants.{None}
 use Rattle.region.specs.Channel.{capacity, countOf, first}
 use Rattle.block.specs.Block.{keep, takeOff, receive, halt}
 use Rattle.entries.specs.Entries.{Entry, entries, goTo, slot}

@@ -4,8 +4,8 @@ use mathlib.Core.List.{List}
 use Rattle.view.specs.View.{viewOf}
 use Rattle.wire.specs.Codec.{viewAt}
 use Rattle.wire.specs.declared.Message.{Message}
-use Rattle.node.specs.React.{react}
-use Rattle.node.specs.declared.Step.{Step}
+use Rattle.step.specs.React.{react}
+use Rattle.step.specs.declared.Step.{Step}
 use Rattle.region.specs.Channel.{first}
 use Rattle.region.specs.Record.{recordOf}
 use Rattle.layout.specs.Layout.{channel}

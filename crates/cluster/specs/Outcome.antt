@@ -4,8 +4,8 @@ use Prim.Native.Nat.{ℕ}
 use mathlib.Core.Path.{_≡_}
 use mathlib.Core.List.{List}
 use Rattle.octets.specs.Answer.{Answer, result, refused}
-use Rattle.node.specs.declared.Ending.{Ending}
-use Rattle.node.specs.Told.{Told, told}
+use Rattle.step.specs.declared.Ending.{Ending}
+use Rattle.step.specs.Told.{Told, told}
 use Rattle.cluster.specs.Event.{Result}
 use Rattle.cluster.specs.declared.Answer.{Answer as Reply}
 use Rattle.cluster.specs.declared.Outcome.{Outcome}

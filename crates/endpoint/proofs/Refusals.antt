@@ -14,8 +14,8 @@ use Rattle.table.specs.Quorum.{faults}
 use Rattle.record.specs.Usable.{usable, isOpen, full}
 use Rattle.record.specs.declared.Node.{Node}
 use Rattle.record.specs.declared.Operation.{Operation}
-use Rattle.node.specs.Move.{messageStep, beginStep}
-use Rattle.node.specs.Stale.{staleMessage}
+use Rattle.step.specs.Move.{messageStep, beginStep}
+use Rattle.step.specs.Stale.{staleMessage}
 use Rattle.endpoint.specs.Entry.{refuse, letOut, begin, beside, taken, message}
 
 module _ (c : Node) (o : Operation) (out : List ℕ) where

@@ -8,10 +8,10 @@ use Rattle.view.specs.declared.View.{View}
 use Rattle.wire.specs.Layout.{allowed}
 use Rattle.wire.specs.declared.Message.{Message}
 use Rattle.wire.specs.declared.Message.the-variants.{Read, ReadAnswer, Write, WriteAnswer, Echo, Value, Good}
-use Rattle.node.specs.Allowed.{lawful}
-use Rattle.node.specs.Claims.{AllLawful}
-use Rattle.node.specs.Stale.{writerWithin}
-use Rattle.node.proofs.Allowed.{lawful-allowed, allowed-lawful, lawful-writer}
+use Rattle.step.specs.Allowed.{lawful}
+use Rattle.step.specs.Claims.{AllLawful}
+use Rattle.step.specs.Stale.{writerWithin}
+use Rattle.step.proofs.Allowed.{lawful-allowed, allowed-lawful, lawful-writer}
 use Rattle.endpoint.specs.Entry.{beside}
 use Rattle.endpoint.specs.Room.{AllAllowed}
 

@@ -10,12 +10,12 @@ use Rattle.record.specs.Usable.{usable, isOpen, full}
 use Rattle.record.specs.declared.Node.{Node}
 use Rattle.record.specs.declared.Operation.{Operation}
 use Rattle.record.proofs.Parts.{parts}
-use Rattle.node.specs.declared.Step.{Step}
-use Rattle.node.specs.Step.{messages}
-use Rattle.node.specs.Allowed.{lawful}
-use Rattle.node.specs.Claims.{Long, AllLawful, sizes}
-use Rattle.node.specs.Move.{messageStep, beginStep}
-use Rattle.node.proofs.Theorems.{message-n, message-lawful, message-fits, begin-n, begin-lawful, begin-fits}
+use Rattle.step.specs.declared.Step.{Step}
+use Rattle.step.specs.Step.{messages}
+use Rattle.step.specs.Allowed.{lawful}
+use Rattle.step.specs.Claims.{Long, AllLawful, sizes}
+use Rattle.step.specs.Move.{messageStep, beginStep}
+use Rattle.step.proofs.Theorems.{message-n, message-lawful, message-fits, begin-n, begin-lawful, begin-fits}
 
 -- f, the largest number with 2f < n, is below n
 pub faults-below : (n : ℕ) → 1 ≤ n → faults n < n

@@ -24,10 +24,10 @@ use Rattle.wire.specs.declared.Written.the-variants.{Length, Refused as NotWrit
 use Rattle.wire.specs.Layout.{encode, allowed}
 use Rattle.wire.specs.declared.Message.{Message}
 use Rattle.wire.proofs.Numbers.{length-encode}
-use Rattle.node.specs.Claims.{AllLawful, sizes}
-use Rattle.node.specs.Step.{listed}
-use Rattle.node.specs.declared.Sent.{Sent}
-use Rattle.node.specs.declared.Sent.the-variants.{Nothing, One, Two}
+use Rattle.step.specs.Claims.{AllLawful, sizes}
+use Rattle.step.specs.Step.{listed}
+use Rattle.step.specs.declared.Sent.{Sent}
+use Rattle.step.specs.declared.Sent.the-variants.{Nothing, One, Two}
 use Rattle.endpoint.specs.Bytes.{run}
 use Rattle.endpoint.specs.Room.{AllAllowed, Room}
 use Rattle.endpoint.proofs.Rim.{all-allowed}

@@ -14,14 +14,14 @@ use Rattle.wire.specs.declared.Message.{Message}
 use Rattle.table.specs.Quorum.{faults}
 use Rattle.record.specs.Usable.{usable, isOpen, full}
 use Rattle.record.specs.declared.Node.{Node}
-use Rattle.node.specs.declared.Ending.{Ending}
-use Rattle.node.specs.declared.Ending.the-variants.{None, Done, Scan, Spent}
-use Rattle.node.specs.declared.Step.{Step}
-use Rattle.node.specs.Move.{messageStep, beginStep}
-use Rattle.node.specs.Stale.{staleMessage}
-use Rattle.node.specs.Told.{told, shown}
-use Rattle.node.proofs.Numbers.{on-pick}
-use Rattle.node.proofs.Theorems as step
+use Rattle.step.specs.declared.Ending.{Ending}
+use Rattle.step.specs.declared.Ending.the-variants.{None, Done, Scan, Spent}
+use Rattle.step.specs.declared.Step.{Step}
+use Rattle.step.specs.Move.{messageStep, beginStep}
+use Rattle.step.specs.Stale.{staleMessage}
+use Rattle.step.specs.Told.{told, shown}
+use Rattle.step.proofs.Numbers.{on-pick}
+use Rattle.step.proofs.Theorems as step
 use Rattle.endpoint.specs.Entry.{letOut, beside, taken, begin, message}
 use Rattle.endpoint.specs.Outcome.{Outcome}
 use Rattle.endpoint.specs.Shown as claim

@@ -2,9 +2,9 @@
 use mathlib.Core.Path.{_≡_, refl, ap, _∙_}
 use Rattle.octets.specs.Answer.{result}
 use Rattle.view.specs.declared.View.{View}
-use Rattle.node.specs.declared.Ending.{Ending}
-use Rattle.node.specs.declared.Ending.the-variants.{None, Done, Scan, Spent}
-use Rattle.node.specs.Told.{told, shown}
+use Rattle.step.specs.declared.Ending.{Ending}
+use Rattle.step.specs.declared.Ending.the-variants.{None, Done, Scan, Spent}
+use Rattle.step.specs.Told.{told, shown}
 use Rattle.endpoint.specs.declared.Said.{Said}
 use Rattle.endpoint.specs.Outcome.{toldBy}
 

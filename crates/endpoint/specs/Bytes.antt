@@ -4,8 +4,8 @@ use Prim.Native.Nat.{ℕ}
 use Rattle.view.specs.View.{viewBytes}
 use Rattle.wire.specs.Layout.{encode}
 use Rattle.wire.specs.declared.Message.{Message}
-use Rattle.node.specs.declared.Outbox.{Outbox}
-use Rattle.node.specs.Step.{messages}
+use Rattle.step.specs.declared.Outbox.{Outbox}
+use Rattle.step.specs.Step.{messages}
 
 -- messages one after the other, v the bytes of the view that a good one carries
 unfoldable pub run : List ℕ → List Message → List ℕ

@@ -20,11 +20,11 @@ use Rattle.record.specs.Record.{blank}
 use Rattle.record.specs.Usable.{usable, isOpen, full}
 use Rattle.record.specs.declared.Node.{Node}
 use Rattle.record.specs.declared.Operation.{Operation}
-use Rattle.node.specs.declared.Ending.the-variants.{None}
-use Rattle.node.specs.declared.Step.{Step}
-use Rattle.node.specs.Move.{messageStep, beginStep}
-use Rattle.node.specs.Stale.{staleMessage}
-use Rattle.node.specs.Told.{told}
+use Rattle.step.specs.declared.Ending.the-variants.{None}
+use Rattle.step.specs.declared.Step.{Step}
+use Rattle.step.specs.Move.{messageStep, beginStep}
+use Rattle.step.specs.Stale.{staleMessage}
+use Rattle.step.specs.Told.{told}
 use Rattle.endpoint.specs.Bytes.{outBytes}
 use Rattle.endpoint.specs.Outcome.{Outcome}
 

@@ -5,7 +5,7 @@ use mathlib.Core.Path.{_≡_}
 use mathlib.Core.List.{List}
 use Rattle.view.specs.declared.View.{View}
 use Rattle.record.specs.declared.Node.{Node}
-use Rattle.node.specs.Told.{Told, refusal, nothing, done, scan, spent, spentNumber, shown}
+use Rattle.step.specs.Told.{Told, refusal, nothing, done, scan, spent, spentNumber, shown}
 use Rattle.endpoint.specs.declared.Said.{Said}
 use Rattle.endpoint.specs.declared.Said.the-variants.{Refused, Going, Finished, Shown, Exhausted}
 use Rattle.endpoint.specs.declared.Reply.{Reply}

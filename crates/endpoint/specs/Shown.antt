@@ -7,7 +7,7 @@ use Rattle.view.specs.Size.{nodes}
 use Rattle.view.specs.View.{AbsentPast}
 use Rattle.record.specs.declared.Node.{Node}
 use Rattle.record.specs.declared.Operation.{Operation}
-use Rattle.node.specs.Told.{shown}
+use Rattle.step.specs.Told.{shown}
 use Rattle.endpoint.specs.Entry.{begin, message}
 
 abbrev pub BeginAbsent : Type 0

@@ -1,6 +1,6 @@
 // Writing what a step sends: each message once, in order, from the buffer's start.
-use node::Outbox;
-use node::Sent;
+use step::Outbox;
+use step::Sent;
 use view::write_view;
 use wire::Message;
 use wire::Written;
@@ -12,8 +12,8 @@ ghost use lib.ListN.{length};
 ghost use Rattle.octets.specs.Bytes.{put};
 ghost use Rattle.view.specs.Size.{isSize};
 ghost use Rattle.wire.specs.Layout.{encode, allowed};
-ghost use Rattle.node.specs.Claims.{AllLawful, sizes};
-ghost use Rattle.node.specs.Step.{listed, messages};
+ghost use Rattle.step.specs.Claims.{AllLawful, sizes};
+ghost use Rattle.step.specs.Step.{listed, messages};
 ghost use Rattle.endpoint.specs.Bytes.{run, outBytes};
 ghost use Rattle.endpoint.specs.Room.{Room};
 

@@ -3,11 +3,6 @@
 mod emit;
 
 use emit::emit_all;
-use node::Ending;
-use node::Step;
-use node::begin_step;
-use node::is_stale_message;
-use node::message_step;
 use octets::and;
 use record::Node;
 use record::Operation;
@@ -15,6 +10,11 @@ use record::blank_node;
 use record::usable::has_open;
 use record::usable::is_full;
 use record::usable::is_usable;
+use step::Ending;
+use step::Step;
+use step_value::begin_step;
+use step_value::is_stale_message;
+use step_value::message_step;
 use table::quorum::most_faults;
 use view::View;
 use view::absent;
@@ -31,9 +31,9 @@ ghost use Rattle.octets.specs.Answer.{result};
 ghost use Rattle.view.specs.declared.View.{View};
 ghost use Rattle.record.specs.Usable.{usable};
 ghost use Rattle.wire.specs.Layout.{allowed};
-ghost use Rattle.node.specs.Claims.{AllLawful, sizes};
-ghost use Rattle.node.specs.Step.{messages};
-ghost use Rattle.node.specs.Told.{told, shown};
+ghost use Rattle.step.specs.Claims.{AllLawful, sizes};
+ghost use Rattle.step.specs.Step.{messages};
+ghost use Rattle.step.specs.Told.{told, shown};
 ghost use Rattle.endpoint.specs.Outcome.{toldBy, tells};
 ghost use Rattle.endpoint.specs.Entry.{refuse, letOut, fresh, begin, beside, taken, message};
 

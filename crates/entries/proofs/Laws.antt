@@ -18,10 +18,10 @@ use Rattle.table.specs.Loop.{tab}
 use Rattle.table.proofs.Laws.{length-tab}
 use Rattle.view.specs.declared.View.{View}
 use Rattle.wire.specs.declared.Message.{Message}
-use Rattle.node.specs.Step.{listed, messages}
-use Rattle.node.specs.declared.Sent.{Sent}
-use Rattle.node.specs.declared.Sent.the-variants.{Nothing, One, Two}
-use Rattle.node.specs.declared.Outbox.{Outbox}
+use Rattle.step.specs.Step.{listed, messages}
+use Rattle.step.specs.declared.Sent.{Sent}
+use Rattle.step.specs.declared.Sent.the-variants.{Nothing, One, Two}
+use Rattle.step.specs.declared.Outbox.{Outbox}
 use Rattle.entries.specs.Entries.{Entry, entry, isAnswer, addressed, entriesOf, entries, goTo}
 
 -- ---- lists of entries

@@ -12,8 +12,8 @@ use Rattle.wire.specs.Layout.{encode}
 use Rattle.wire.specs.Codec.{answer, after}
 use Rattle.wire.specs.declared.Message.{Message}
 use Rattle.wire.specs.declared.Message.the-variants.{Read, ReadAnswer, Write, WriteAnswer, Echo, Value, Good}
-use Rattle.node.specs.Step.{messages}
-use Rattle.node.specs.declared.Outbox.{Outbox}
+use Rattle.step.specs.Step.{messages}
+use Rattle.step.specs.declared.Outbox.{Outbox}
 use Rattle.region.specs.Channel.{slotSize}
 
 -- A message let out to one node, with the view that a good message carries.

@@ -1,14 +1,14 @@
 // What a step lets out: the slot of each message, and how many entries go to a node.
-use node::Outbox;
-use node::Sent;
 use octets::least;
+use step::Outbox;
+use step::Sent;
 use view::View;
 use wire::Message;
 ghost use mathlib.Core.Path.{_≡_};
 ghost use Prim.Native.Nat.{ℕ, _-_, _≤_};
 ghost use lib.ListN.{length, take};
 ghost use Rattle.view.specs.declared.View.{View};
-ghost use Rattle.node.specs.Step.{listed};
+ghost use Rattle.step.specs.Step.{listed};
 ghost use Rattle.view.specs.View.{viewBytes};
 ghost use Rattle.wire.specs.Layout.{encode};
 ghost use Rattle.wire.specs.Codec.{answer, after};

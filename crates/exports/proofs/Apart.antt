@@ -18,14 +18,14 @@ use Rattle.wire.specs.declared.Message.{Message}
 use Rattle.table.specs.Quorum.{faults}
 use Rattle.record.specs.Usable.{isOpen, full}
 use Rattle.record.specs.declared.Operation.{Operation}
-use Rattle.node.specs.declared.Rule.{Rule}
-use Rattle.node.specs.declared.Rule.the-variants.{Direct, Borrowed}
-use Rattle.node.specs.declared.Ending.{Ending}
-use Rattle.node.specs.declared.Ending.the-variants.{None, Done, Scan, Spent}
-use Rattle.node.specs.declared.Step.{Step}
-use Rattle.node.specs.Move.{messageStep, beginStep}
-use Rattle.node.specs.Stale.{staleMessage}
-use Rattle.node.specs.Told.{spentNumber, told}
+use Rattle.step.specs.declared.Rule.{Rule}
+use Rattle.step.specs.declared.Rule.the-variants.{Direct, Borrowed}
+use Rattle.step.specs.declared.Ending.{Ending}
+use Rattle.step.specs.declared.Ending.the-variants.{None, Done, Scan, Spent}
+use Rattle.step.specs.declared.Step.{Step}
+use Rattle.step.specs.Move.{messageStep, beginStep}
+use Rattle.step.specs.Stale.{staleMessage}
+use Rattle.step.specs.Told.{spentNumber, told}
 use Rattle.region.specs.Channel.{countOf, first}
 use Rattle.block.specs.Block.{takeOff}
 use Rattle.entries.specs.Entries.{entries}

@@ -11,8 +11,8 @@ use Rattle.view.specs.Size.{nodes, entrySize}
 use Rattle.view.specs.View.{viewBytes}
 use Rattle.view.proofs.First.{absent-bytes}
 use Rattle.view.proofs.ViewBytes.{length-viewBytes}
-use Rattle.node.specs.declared.Ending.{Ending}
-use Rattle.node.specs.Told.{told}
+use Rattle.step.specs.declared.Ending.{Ending}
+use Rattle.step.specs.Told.{told}
 use Rattle.layout.specs.Layout.{stated}
 use Rattle.cluster.specs.Event.{deliver}
 use Rattle.cluster.proofs.Shown.{deliver-absent}

@@ -8,8 +8,8 @@ use Rattle.octets.specs.Answer.{result, refused}
 use Rattle.octets.specs.Test.{pick}
 use Rattle.view.specs.declared.View.{View}
 use Rattle.record.specs.declared.Operation.{Operation}
-use Rattle.node.specs.declared.Ending.{Ending}
-use Rattle.node.specs.Told.{Told, refusal, nothing, done, scan, spent, spentNumber, told}
+use Rattle.step.specs.declared.Ending.{Ending}
+use Rattle.step.specs.Told.{Told, refusal, nothing, done, scan, spent, spentNumber, told}
 use Rattle.cluster.specs.declared.Extent.{Extent}
 use Rattle.cluster.specs.Event.{Result, fresh, begin, deliver}
 use Rattle.cluster.specs.Outcome.{toldOf}

@@ -15,11 +15,11 @@ use Rattle.wire.specs.Codec.{answer, after}
 use Rattle.wire.specs.declared.Message.{Message}
 use Rattle.wire.specs.declared.Message.the-variants.{Read, ReadAnswer, Write, WriteAnswer, Echo, Value, Good}
 use Rattle.figures.specs.declared.Totals.{Totals}
-use Rattle.node.specs.declared.Rule.{Rule}
-use Rattle.node.specs.declared.Rule.the-variants.{Direct, Borrowed}
-use Rattle.node.specs.declared.Ending.{Ending}
-use Rattle.node.specs.declared.Ending.the-variants.{None, Done, Scan, Spent}
-use Rattle.node.specs.Told.{Told, refusal, nothing, done, scan, spent}
+use Rattle.step.specs.declared.Rule.{Rule}
+use Rattle.step.specs.declared.Rule.the-variants.{Direct, Borrowed}
+use Rattle.step.specs.declared.Ending.{Ending}
+use Rattle.step.specs.declared.Ending.the-variants.{None, Done, Scan, Spent}
+use Rattle.step.specs.Told.{Told, refusal, nothing, done, scan, spent}
 use Rattle.cluster.specs.declared.Extent.{Extent}
 use Rattle.cluster.specs.declared.Extent.the-variants.{Whole, Cut}
 use Rattle.cluster.specs.Event.{Result}

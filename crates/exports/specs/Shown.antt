@@ -6,8 +6,8 @@ use mathlib.Core.List.{List}
 use lib.ListN.{length, drop, replicate}
 use Rattle.octets.specs.Answer.{result}
 use Rattle.view.specs.Size.{nodes, entrySize}
-use Rattle.node.specs.declared.Rule.{Rule}
-use Rattle.node.specs.declared.Ending.the-variants.{Scan}
+use Rattle.step.specs.declared.Rule.{Rule}
+use Rattle.step.specs.declared.Ending.the-variants.{Scan}
 use Rattle.layout.specs.Layout.{stated}
 use Rattle.cluster.specs.declared.Extent.{Extent}
 use Rattle.cluster.specs.Event.{deliver}

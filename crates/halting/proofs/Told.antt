@@ -5,10 +5,10 @@ use mathlib.Core.Bool.{true, false, not}
 use mathlib.Core.List.{List, []}
 use Rattle.octets.specs.Answer.{result}
 use Rattle.view.specs.View.{noView}
-use Rattle.node.specs.declared.Ending.the-variants.{None}
+use Rattle.step.specs.declared.Ending.the-variants.{None}
 use Rattle.block.specs.Block.{halt}
 use Rattle.layout.specs.Layout.{stated, stopped, onBlock, fits, sound, isNode}
-use Rattle.node.proofs.Numbers.{on-pick}
+use Rattle.step.proofs.Numbers.{on-pick}
 use Rattle.cluster.specs.Event.{Result, refuse, mayStop}
 use Rattle.halting.specs.Stop.{stopIn, stop, StopAbsent}
 

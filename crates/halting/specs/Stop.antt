@@ -6,7 +6,7 @@ use mathlib.Core.Bool.{not}
 use mathlib.Core.List.{List, []}
 use Rattle.octets.specs.Answer.{result}
 use Rattle.view.specs.View.{noView}
-use Rattle.node.specs.declared.Ending.the-variants.{None}
+use Rattle.step.specs.declared.Ending.the-variants.{None}
 use Rattle.block.specs.Block.{halt}
 use Rattle.layout.specs.Layout.{stated, stopped, onBlock, isNode}
 use Rattle.cluster.specs.Event.{Result, demand, checked, mayStop}

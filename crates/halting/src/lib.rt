@@ -8,8 +8,8 @@ use layout::is_fit;
 use layout::is_node;
 use layout::is_sound;
 use layout::stopped_at;
-use node::Ending;
 use region::channel::index;
+use step::Ending;
 ghost use Rattle.cluster.specs.Outcome.{tells};
 ghost use Rattle.halting.specs.Stop.{stop as stopEvent};
 

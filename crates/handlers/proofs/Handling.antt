@@ -16,21 +16,20 @@ use Rattle.view.specs.declared.View.{View}
 use Rattle.view.proofs.ViewBytes.{view-absent}
 use Rattle.table.specs.Table.{cell, newest, put as withEntry}
 use Rattle.table.proofs.Laws.{length-tab as length-table}
-use Rattle.table.specs.Quorum.{member, with}
 use Rattle.wire.specs.declared.Message.{Message}
 use Rattle.wire.specs.declared.Message.the-variants.{Read, ReadAnswer, Write, WriteAnswer, Echo, Value, Good}
-use Rattle.record.specs.Record.{waiting}
+use Rattle.record.specs.Record.{setTop, setKept, waiting}
 use Rattle.record.specs.declared.Node.{Node}
 use Rattle.record.specs.declared.Wait.{Wait}
 use Rattle.record.specs.declared.Wait.the-variants.{Idle, Reading, Writing, Comparing, Borrowing}
-use Rattle.node.specs.React.{raised, readAnswered, writeAnswered, roundHolds, isNew, received, keep, react}
-use Rattle.node.specs.Step.{started}
-use Rattle.node.specs.declared.Sent.{Sent}
-use Rattle.node.proofs.Lawful.{react-started}
+use Rattle.step.specs.React.{raised, roundHolds, isNew, received, keep, react}
+use Rattle.step.specs.Step.{started}
+use Rattle.step.specs.declared.Sent.{Sent}
+use Rattle.step.proofs.Lawful.{react-started}
 use Rattle.region.specs.Record.{recordSize, heardPlace, scalar, viewPlace, viewIn, waitIn, waitBytes, recordOf, recordBytes}
 use Rattle.region.proofs.Back.{Sized, SizedNode, record-back}
 use Rattle.handlers.specs.declared.Head.{Head}
-use Rattle.handlers.specs.Handled.{entered, headOf, readWait, writeWait}
+use Rattle.handlers.specs.Handled.{entered, headOf}
 use Rattle.handlers.proofs.Sections.{Tables, tables-of, heard-put, atmax-put, kept-put, last-entry, atmax-entry, atround-entry, assembled}
 
 pub sized-view : (n : ℕ) (b : List ℕ) → n ≤ 16 → Sized (viewOf n b)
@@ -56,20 +55,7 @@ module _ (r : List ℕ) (h : Bytes r) (l : length r ≡ recordSize) where
   raised-bytes t b e = go b ∙ ap (λ (x : Bool). recordBytes (grown x)) (sym e)
     where
       grown : Bool → Node
-      grown x =
-          record {
-            n = scalar r 0;
-            own = scalar r 1;
-            maxtag = pick x t (scalar r 2);
-            request = scalar r 3;
-            wait = waitIn r;
-            heard = words 256 r heardPlace;
-            last = viewIn r 0;
-            atmax = pick x (newest t (viewIn r 0) (viewIn r 1)) (viewIn r 1);
-            atround = viewIn r 2;
-            kept = scalar r 4;
-            keptview = viewIn r 3;
-          }
+      grown x = setTop (recordOf r) (pick x t (scalar r 2)) (pick x (newest t (viewIn r 0) (viewIn r 1)) (viewIn r 1))
 
       go : (x : Bool) → put (pick x (put r 2400 (viewBytes 16 (newest t (viewIn r 0) (viewIn r 1)))) r) 0
           (headBytes (headOf r) (pick x t (scalar r 2)) (scalar r 4) (waitIn r))
@@ -84,20 +70,7 @@ module _ (r : List ℕ) (h : Bytes r) (l : length r ≡ recordSize) where
   kept-bytes t v b e = go b ∙ ap (λ (x : Bool). recordBytes (grown x)) (sym e)
     where
       grown : Bool → Node
-      grown x =
-          record {
-            n = scalar r 0;
-            own = scalar r 1;
-            maxtag = scalar r 2;
-            request = scalar r 3;
-            wait = waitIn r;
-            heard = words 256 r heardPlace;
-            last = viewIn r 0;
-            atmax = viewIn r 1;
-            atround = viewIn r 2;
-            kept = pick x t (scalar r 4);
-            keptview = pick x v (viewIn r 3);
-          }
+      grown x = setKept (recordOf r) (pick x t (scalar r 4)) (pick x v (viewIn r 3))
 
       go : (x : Bool) → put (pick x (put r 2912 (viewBytes 16 v)) r) 0
           (headBytes (headOf r) (scalar r 2) (pick x t (scalar r 4)) (waitIn r)) ≡ recordBytes (grown x)
@@ -116,42 +89,6 @@ module _ (r : List ℕ) (h : Bytes r) (l : length r ≡ recordSize) where
       (atround-entry (atmax-entry (last-entry (heard-put T (cell s w) t (omega arith) (length-tab 256 (λ i. word r (heardPlace + 8 * i))))
       new w t p (z 0) lw hw) (both new (leb t (scalar r 2))) w t p (z 1) lw hw)
       (both new (roundHolds (waitIn r) t)) w t p (z 2) lw hw)
-
--- ---- the two kinds of answer
-
-module _ (c : Node) (s q t : ℕ) where
-  same-wait : (w : Wait) → c .wait ≡ w → waiting c w ≡ c
-  same-wait w e = ap (waiting c) (sym e)
-
-  pub read-answered : (w : Wait) → c .wait ≡ w → waiting c (readWait (c .request) s q t w) ≡ readAnswered c s q t w
-  unfolding readAnswered
-  read-answered (Reading o a m) e = go (eqb q (c .request)) (member a s)
-    where
-      go : (x y : Bool) → waiting c (pick x (pick y (Reading o a m) (Reading o (with a s) (max m t))) (Reading o a m))
-          ≡ pick x (pick y c (waiting c (Reading o (with a s) (max m t)))) c
-      go true true = same-wait (Reading o a m) e
-      go true false = refl
-      go false y = same-wait (Reading o a m) e
-  read-answered Idle e = same-wait Idle e
-  read-answered (Writing k i r a) e = same-wait (Writing k i r a) e
-  read-answered (Comparing k i r) e = same-wait (Comparing k i r) e
-  read-answered (Borrowing k r) e = same-wait (Borrowing k r) e
-
-  pub write-answered : (w : Wait) → c .wait ≡ w → waiting c (writeWait (c .request) s q t w) ≡ writeAnswered c s q t w
-  unfolding writeAnswered
-  write-answered (Writing k i r a) e = go (eqb q (c .request)) (eqb t r) (member a s)
-    where
-      go : (x y z : Bool)
-          → waiting c (pick x (pick y (pick z (Writing k i r a) (Writing k i r (with a s))) (Writing k i r a)) (Writing k i r a))
-          ≡ pick x (pick y (pick z c (waiting c (Writing k i r (with a s)))) c) c
-      go true true true = same-wait (Writing k i r a) e
-      go true true false = refl
-      go true false z = same-wait (Writing k i r a) e
-      go false y z = same-wait (Writing k i r a) e
-  write-answered Idle e = same-wait Idle e
-  write-answered (Reading o a m) e = same-wait (Reading o a m) e
-  write-answered (Comparing k i r) e = same-wait (Comparing k i r) e
-  write-answered (Borrowing k r) e = same-wait (Borrowing k r) e
 
 -- ---- the sizes of the tables after a handler, so that the record is read back
 
@@ -223,9 +160,9 @@ module _ (c : Node) (z : SizedNode c) where
   sized-react : (s : ℕ) (m : Message) (v : View) → Sized v → SizedNode (react c s m v .node)
   unfolding react
   sized-react s (Read q) v h = z
-  sized-react s (ReadAnswer q t) v h = subst SizedNode (read-answered c s q t (c .wait) refl) (sized-waiting _)
+  sized-react s (ReadAnswer q t) v h = sized-waiting _
   sized-react s (Write q t) v h = sized-raised t
-  sized-react s (WriteAnswer q t) v h = subst SizedNode (write-answered c s q t (c .wait) refl) (sized-waiting _)
+  sized-react s (WriteAnswer q t) v h = sized-waiting _
   sized-react s (Echo t) v h = sized-raised t
   sized-react s (Value t w p) v h = sized-received s w t p
   sized-react s (Good t) v h = sized-keep t v h
@@ -233,9 +170,9 @@ module _ (c : Node) (z : SizedNode c) where
 react-n : (c : Node) (s : ℕ) (m : Message) (v : View) → react c s m v .node .n ≡ c .n
 unfolding react raised received keep
 react-n c s (Read q) v = refl
-react-n c s (ReadAnswer q t) v = sym (ap (λ (d : Node). d .n) (read-answered c s q t (c .wait) refl))
+react-n c s (ReadAnswer q t) v = refl
 react-n c s (Write q t) v = refl
-react-n c s (WriteAnswer q t) v = sym (ap (λ (d : Node). d .n) (write-answered c s q t (c .wait) refl))
+react-n c s (WriteAnswer q t) v = refl
 react-n c s (Echo t) v = refl
 react-n c s (Value t w p) v = refl
 react-n c s (Good t) v = refl

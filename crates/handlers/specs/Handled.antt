@@ -1,17 +1,13 @@
 -- A message handled on the bytes of a record: the words that the handlers' contracts use beside those of the record.
-use Prim.Native.Nat.{ℕ, _+_, _-_, _*_, max}
+use Prim.Native.Nat.{ℕ, _+_, _-_, _*_}
 use mathlib.Core.Bool.{Bool}
 use mathlib.Core.List.{List}
-use lib.Dec.{eqb}
 use Rattle.octets.specs.Test.{pick}
 use Rattle.octets.specs.Bytes.{be, put}
 use Rattle.view.specs.View.{entryBytes}
 use Rattle.view.specs.declared.Report.{Report}
 use Rattle.view.specs.declared.View.{View}
 use Rattle.table.specs.Table.{cell, newestTag, newestReport}
-use Rattle.table.specs.Quorum.{member, with}
-use Rattle.record.specs.declared.Wait.{Wait}
-use Rattle.record.specs.declared.Wait.the-variants.{Idle, Reading, Writing, Comparing, Borrowing}
 use Rattle.region.specs.Record.{heardPlace, viewPlace, scalar, waitIn}
 use Rattle.handlers.specs.declared.Head.{Head}
 
@@ -46,22 +42,3 @@ headOf r =
       kept = scalar r 4;
       wait = waitIn r;
     }
-
--- The wait after an answer from s with number q and tag t, where `request` is the current number.
-abbrev pub readWait : (request s q t : ℕ) → Wait → Wait
-readWait request s q t (Reading o a m) =
-    pick (eqb q request) (pick (member a s) (Reading o a m) (Reading o (with a s) (max m t))) (Reading o a m)
-readWait request s q t Idle = Idle
-readWait request s q t (Writing k i r a) = Writing k i r a
-readWait request s q t (Comparing k i r) = Comparing k i r
-readWait request s q t (Borrowing k r) = Borrowing k r
-
-abbrev pub writeWait : (request s q t : ℕ) → Wait → Wait
-writeWait request s q t (Writing k i r a) =
-    pick (eqb q request)
-    (pick (eqb t r) (pick (member a s) (Writing k i r a) (Writing k i r (with a s))) (Writing k i r a))
-    (Writing k i r a)
-writeWait request s q t Idle = Idle
-writeWait request s q t (Reading o a m) = Reading o a m
-writeWait request s q t (Comparing k i r) = Comparing k i r
-writeWait request s q t (Borrowing k r) = Borrowing k r

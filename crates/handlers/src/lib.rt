@@ -1,23 +1,22 @@
-// The handlers of the seven kinds of message on the bytes of a record: what `node::react` does to a record by value,
+// The handlers of the seven kinds of message on the bytes of a record: what `react` does to a record by value,
 // done where the record lies. Few bytes change in most events, so neither is the record read whole nor written whole.
 pub mod tables;
 
-use node::Sent;
-use node::react::round_holds;
-use node::react::sent_where;
-use node::react::write_sent;
 use octets::and;
 use octets::get_word;
 use octets::put_bytes;
 use octets::put_word;
 use record::Wait;
+use record::usable::is_stale_tag;
 use region::stored::load_wait;
 use region::stored::save_head;
 use region::stored::save_view;
-use table::larger;
-use table::or;
-use table::quorum::is_member;
-use table::quorum::with_member;
+use step::Sent;
+use step::decide::read_wait;
+use step::decide::round_holds;
+use step::decide::sent_where;
+use step::decide::write_sent;
+use step::decide::write_wait;
 use tables::heard_in;
 use tables::newest_in;
 use tables::put_where;
@@ -33,10 +32,10 @@ ghost use lib.ListN.{length};
 ghost use Rattle.view.specs.View.{viewOf};
 ghost use Rattle.record.specs.Record.{waiting};
 ghost use Rattle.record.specs.Usable.{stale};
-ghost use Rattle.node.specs.React.{raised, isNew, received, keep, react};
+ghost use Rattle.step.specs.React.{raised, isNew, received, keep, react};
 ghost use Rattle.region.specs.Record.{recordSize, recordOf, recordBytes};
-ghost use Rattle.node.specs.Stale.{staleMessage, writerWithin};
-ghost use Rattle.handlers.specs.Handled.{headOf, entered, readWait, writeWait};
+ghost use Rattle.step.specs.Stale.{staleMessage, writerWithin};
+ghost use Rattle.handlers.specs.Handled.{headOf, entered};
 
 // The numbers and the wait of a record: what stands before its tables.
 pub struct Head {
@@ -131,88 +130,6 @@ fn kept_in(r: &mut [u8], n: usize, t: u64, v: &[u8])
     save_head(r, h.n, h.own, h.maxtag, h.request, h.kept, wait);
 }
 
-// The wait after a read answer from s with number q and tag t.
-fn read_wait(wait: Wait, request: u64, s: usize, q: u64, t: u64) -> Wait
-    requires { ⌜ (1 ≤ s) × (s ≤ 16) ⌝ }
-    ensures { λ r. ⌜ r ≡ readWait request s q t wait ⌝ }
-{
-    match wait {
-        Wait::Idle => wait,
-        Wait::Reading {
-            operation,
-            answered,
-            largest,
-        } => {
-            if q == request {
-                if is_member(answered, s) {
-                    return wait;
-                }
-                return Wait::Reading {
-                    operation: operation,
-                    answered: with_member(answered, s),
-                    largest: larger(largest, t),
-                };
-            }
-            wait
-        }
-        Wait::Writing {
-            kind: _,
-            round: _,
-            tag: _,
-            answered: _,
-        } => wait,
-        Wait::Comparing {
-            kind: _,
-            round: _,
-            tag: _,
-        } => wait,
-        Wait::Borrowing { kind: _, tag: _ } => wait,
-    }
-}
-
-// The wait after a write answer from s with number q and tag t.
-fn write_wait(wait: Wait, request: u64, s: usize, q: u64, t: u64) -> Wait
-    requires { ⌜ (1 ≤ s) × (s ≤ 16) ⌝ }
-    ensures { λ r. ⌜ r ≡ writeWait request s q t wait ⌝ }
-{
-    match wait {
-        Wait::Idle => wait,
-        Wait::Reading {
-            operation: _,
-            answered: _,
-            largest: _,
-        } => wait,
-        Wait::Writing {
-            kind,
-            round,
-            tag,
-            answered,
-        } => {
-            if q == request {
-                if t == tag {
-                    if is_member(answered, s) {
-                        return wait;
-                    }
-                    return Wait::Writing {
-                        kind: kind,
-                        round: round,
-                        tag: tag,
-                        answered: with_member(answered, s),
-                    };
-                }
-                return wait;
-            }
-            wait
-        }
-        Wait::Comparing {
-            kind: _,
-            round: _,
-            tag: _,
-        } => wait,
-        Wait::Borrowing { kind: _, tag: _ } => wait,
-    }
-}
-
 // The handler of each kind; `v` has the view that a good message carries. What it sends is the answer.
 pub fn react_in(r: &mut [u8], n: usize, s: usize, m: Message, v: &[u8]) -> Sent
     requires { ⌜ (length (now r) ≡ recordSize) × (n ≤ 16) × (16 * n ≤ length (now v)) × (1 ≤ s) × (s ≤ 16)
@@ -294,6 +211,5 @@ fn stale_in(r: &[u8], s: usize, w: usize, t: u64) -> bool
     requires { ⌜ (length (now r) ≡ recordSize) × (1 ≤ s) × (s ≤ 16) × (1 ≤ w) × (w ≤ 16) ⌝ }
     ensures { λ x. ⌜ x ≡ stale (recordOf (now (r .entry))) s w t ⌝ }
 {
-    let last = tag_in(r, 0, w);
-    or(t < heard_in(r, s, w), and(last < t, get_word(r, 16) < last))
+    is_stale_tag(heard_in(r, s, w), tag_in(r, 0, w), get_word(r, 16), t)
 }

@@ -22,9 +22,9 @@ use Rattle.wire.specs.declared.Message.the-variants.{Read, ReadAnswer, Write, W
 use Rattle.wire.proofs.RoundTrip.{front-only}
 use Rattle.table.specs.Quorum.{faults}
 use Rattle.record.specs.declared.Node.{Node}
-use Rattle.node.specs.Move.{messageStep}
-use Rattle.node.specs.Stale.{staleMessage}
-use Rattle.node.proofs.Allowed.{allowed-lawful}
+use Rattle.step.specs.Move.{messageStep}
+use Rattle.step.specs.Stale.{staleMessage}
+use Rattle.step.proofs.Allowed.{allowed-lawful}
 use Rattle.region.specs.Channel.{capacity, countOf, first}
 use Rattle.layout.specs.Layout.{stated, stopped, node, channel, isNode}
 use Rattle.cluster.specs.Event as E

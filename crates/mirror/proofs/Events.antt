@@ -15,7 +15,7 @@ use Rattle.table.specs.Loop.{count}
 use Rattle.table.specs.Quorum.{faults}
 use Rattle.record.specs.Usable.{isOpen}
 use Rattle.record.specs.declared.Operation.{Operation}
-use Rattle.node.specs.Move.{beginStep}
+use Rattle.step.specs.Move.{beginStep}
 use Rattle.layout.specs.Layout.{stated, stopped, node, isNode}
 use Rattle.cluster.specs.Event as E
 use Rattle.cluster.specs.declared.Extent.{Extent}

@@ -8,8 +8,8 @@ use Rattle.view.specs.View.{viewBytes}
 use Rattle.view.specs.declared.View.{View}
 use Rattle.wire.specs.Layout.{allowed}
 use Rattle.wire.specs.declared.Message.{Message}
-use Rattle.node.specs.Claims.{AllLawful}
-use Rattle.node.proofs.Allowed.{lawful-allowed}
+use Rattle.step.specs.Claims.{AllLawful}
+use Rattle.step.proofs.Allowed.{lawful-allowed}
 
 pub each-allowed : (n : ℕ) → n ≤ 16 → (v : View) (l : List Message) → AllLawful n v l → (m : Message) → m ∈ l
     → allowed n m (viewBytes n v) ≡ true

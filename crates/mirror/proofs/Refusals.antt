@@ -7,7 +7,7 @@ use mathlib.Core.List.{List, [], _∷_}
 use Rattle.theory.specs.Update.{upd2}
 use Rattle.octets.specs.Answer.{Answer, result, refused}
 use Rattle.view.specs.declared.View.{View}
-use Rattle.node.specs.declared.Ending.{Ending}
+use Rattle.step.specs.declared.Ending.{Ending}
 use Rattle.cluster.specs.Event.{Result}
 use Rattle.eqaso.specs.Message as M
 use Rattle.eqaso.specs.Algorithm as A

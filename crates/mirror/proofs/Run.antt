@@ -9,7 +9,7 @@ use Rattle.octets.specs.Answer.{result}
 use Rattle.octets.proofs.Test.{both-true}
 use Rattle.view.specs.View.{noView}
 use Rattle.table.specs.Quorum.{faults}
-use Rattle.node.specs.declared.Ending.the-variants.{None}
+use Rattle.step.specs.declared.Ending.the-variants.{None}
 use Rattle.region.specs.Channel.{waiting}
 use Rattle.layout.specs.Layout.{clusterSize, channel}
 use Rattle.cluster.specs.Event as E

@@ -7,11 +7,11 @@ use Rattle.wire.specs.declared.Message.{Message}
 use Rattle.record.specs.Usable.{isOpen, full, usable}
 use Rattle.record.specs.declared.Node.{Node}
 use Rattle.record.specs.declared.Operation.{Operation}
-use Rattle.node.specs.Allowed.{lawful}
-use Rattle.node.specs.Claims.{Long, AllLawful}
-use Rattle.node.specs.Move.{messageStep, beginStep}
-use Rattle.node.specs.Step.{messages}
-use Rattle.node.proofs.Theorems.{message-usable, message-lawful, begin-usable, begin-lawful}
+use Rattle.step.specs.Allowed.{lawful}
+use Rattle.step.specs.Claims.{Long, AllLawful}
+use Rattle.step.specs.Move.{messageStep, beginStep}
+use Rattle.step.specs.Step.{messages}
+use Rattle.step.proofs.Theorems.{message-usable, message-lawful, begin-usable, begin-lawful}
 use Rattle.eqaso.specs.Algorithm as A
 use Rattle.eqaso.specs.Order.{OneTo}
 use Rattle.refine.specs.Follows.{Follows}

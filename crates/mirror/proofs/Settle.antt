@@ -18,9 +18,9 @@ use Rattle.wire.specs.Layout.{allowed}
 use Rattle.wire.specs.declared.Message.{Message}
 use Rattle.table.specs.Quorum.{faults}
 use Rattle.record.specs.Usable.{usable}
-use Rattle.node.specs.Step.{messages}
-use Rattle.node.specs.declared.Ending.the-variants.{None}
-use Rattle.node.specs.declared.Step.{Step}
+use Rattle.step.specs.Step.{messages}
+use Rattle.step.specs.declared.Ending.the-variants.{None}
+use Rattle.step.specs.declared.Step.{Step}
 use Rattle.region.specs.Channel.{capacity}
 use Rattle.entries.specs.Entries.{Entry, entries}
 use Rattle.cluster.specs.Event as E

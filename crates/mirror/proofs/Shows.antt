@@ -14,7 +14,7 @@ use Rattle.view.specs.View.{viewBytes}
 use Rattle.wire.specs.Layout.{allowed}
 use Rattle.record.specs.Usable.{usable}
 use Rattle.record.specs.declared.Node.{Node}
-use Rattle.node.specs.declared.Step.{Step}
+use Rattle.step.specs.declared.Step.{Step}
 use Rattle.region.specs.Channel.{capacity}
 use Rattle.block.specs.Block.{takeOff, receive, keep, halt}
 use Rattle.entries.specs.Entries.{Entry, goTo, slot}

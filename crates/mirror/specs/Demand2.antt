@@ -8,8 +8,8 @@ use mathlib.Core.List.{List, [], map}
 use Rattle.octets.specs.Answer.{Answer, result}
 use Rattle.view.specs.View.{AbsentPast}
 use Rattle.table.specs.Quorum.{faults}
-use Rattle.node.specs.declared.Ending.{Ending}
-use Rattle.node.specs.declared.Ending.the-variants.{None}
+use Rattle.step.specs.declared.Ending.{Ending}
+use Rattle.step.specs.declared.Ending.the-variants.{None}
 use Rattle.region.specs.Channel.{waiting}
 use Rattle.layout.specs.Layout.{channel, stopped, node}
 use Rattle.cluster.specs.Event.{Result, fresh}

@@ -8,7 +8,7 @@ use lib.Dec.{eqb}
 use Rattle.table.specs.Loop.{either}
 use Rattle.octets.specs.Answer.{Answer, result, refused}
 use Rattle.record.specs.declared.Operation.{Operation}
-use Rattle.node.specs.declared.Ending.{Ending}
+use Rattle.step.specs.declared.Ending.{Ending}
 use Rattle.cluster.specs.Event as E
 use Rattle.halting.specs.Stop as S
 use Rattle.cluster.specs.declared.Extent.{Extent}

@@ -5,7 +5,7 @@ use mathlib.Core.Path.{_≡_}
 use mathlib.Core.List.{map}
 use Rattle.octets.specs.Answer.{Answer, result, refused}
 use Rattle.view.specs.declared.View.{View}
-use Rattle.node.specs.declared.Ending.{Ending}
+use Rattle.step.specs.declared.Ending.{Ending}
 use Rattle.cluster.specs.Event.{Result}
 use Rattle.eqaso.specs.Cluster as K
 use Rattle.refine.specs.Meaning.{endingOf}

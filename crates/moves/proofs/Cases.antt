@@ -20,18 +20,18 @@ use Rattle.record.specs.declared.Kind.{Kind}
 use Rattle.record.specs.declared.Wait.{Wait}
 use Rattle.record.specs.declared.Wait.the-variants.{Idle, Reading, Writing, Comparing, Borrowing}
 use Rattle.record.proofs.Parts.{Parts, writing-ok}
-use Rattle.node.specs.declared.Sent.{Sent}
-use Rattle.node.specs.declared.Sent.the-variants.{Nothing, One}
-use Rattle.node.specs.declared.Ending.the-variants.{None}
-use Rattle.node.specs.declared.Step.{Step}
-use Rattle.node.specs.declared.Rule.the-variants.{Borrowed}
-use Rattle.node.specs.Claims.{MustWait}
-use Rattle.node.specs.Step.{started, ended, endingOf}
-use Rattle.node.specs.Move.{opened, afterRead, lentView, afterGood, afterFailed, moveOn, begun}
-use Rattle.node.specs.Move.{readPass, writePass, comparePass, borrowPass, reads, writes, compares, borrows}
-use Rattle.node.proofs.Numbers.{on-pick}
-use Rattle.node.proofs.Turns.{reads-on}
-use Rattle.node.proofs.Waits.{no-quorum, waits-still}
+use Rattle.step.specs.declared.Sent.{Sent}
+use Rattle.step.specs.declared.Sent.the-variants.{Nothing, One}
+use Rattle.step.specs.declared.Ending.the-variants.{None}
+use Rattle.step.specs.declared.Step.{Step}
+use Rattle.step.specs.declared.Rule.the-variants.{Borrowed}
+use Rattle.step.specs.Claims.{MustWait}
+use Rattle.step.specs.Step.{started, ended, endingOf}
+use Rattle.step.specs.Move.{opened, afterRead, lentView, afterGood, afterFailed, moveOn, begun}
+use Rattle.step.specs.Move.{readPass, writePass, comparePass, borrowPass, reads, writes, compares, borrows}
+use Rattle.step.proofs.Numbers.{on-pick}
+use Rattle.step.proofs.Turns.{reads-on}
+use Rattle.step.proofs.Waits.{no-quorum, waits-still}
 use Rattle.region.specs.Record.{recordSize, heardPlace, scalar, viewIn, waitIn, waitBytes, recordOf, recordBytes}
 use Rattle.handlers.specs.declared.Head.{Head}
 use Rattle.handlers.specs.Handled.{headOf}

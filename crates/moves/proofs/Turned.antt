@@ -1,4 +1,4 @@
--- A record turned in its bytes, and the steps that the rounds lead to, case by case.
+-- A record setWait in its bytes, and the steps that the rounds lead to, case by case.
 use Prim.Native.Nat.{ℕ, _+_}
 use mathlib.Core.Path.{_≡_, refl, sym, ap, ap₂, _∙_}
 use mathlib.Core.Bool.{true, false}
@@ -13,21 +13,21 @@ use Rattle.view.specs.View.{viewBytes, noView, firstOf}
 use Rattle.view.specs.declared.Report.{Report}
 use Rattle.view.specs.declared.View.{View}
 use Rattle.wire.specs.declared.Message.the-variants.{Value, Good}
-use Rattle.record.specs.Record.{turned, closed}
+use Rattle.record.specs.Record.{setWait, closed}
 use Rattle.record.specs.declared.Node.{Node}
 use Rattle.record.specs.declared.Kind.{Kind}
 use Rattle.record.specs.declared.Kind.the-variants.{Update as UpdateKind, Scan as ScanKind}
 use Rattle.record.specs.declared.Operation.the-variants.{Update, Scan}
 use Rattle.record.specs.declared.Wait.{Wait}
 use Rattle.record.specs.declared.Wait.the-variants.{Idle, Borrowing}
-use Rattle.node.specs.declared.Sent.{Sent}
-use Rattle.node.specs.declared.Sent.the-variants.{Nothing, One, Two}
-use Rattle.node.specs.declared.Ending.the-variants.{None, Spent}
-use Rattle.node.specs.declared.Rule.the-variants.{Direct, Borrowed}
-use Rattle.node.specs.declared.Step.{Step}
-use Rattle.node.specs.Step.{started, endingOf}
-use Rattle.node.specs.Move.{opened, writing, nextTag, heldView, lentView, afterRead, afterGood, afterFailed, borrowPass}
-use Rattle.node.specs.Move.{borrows}
+use Rattle.step.specs.declared.Sent.{Sent}
+use Rattle.step.specs.declared.Sent.the-variants.{Nothing, One, Two}
+use Rattle.step.specs.declared.Ending.the-variants.{None, Spent}
+use Rattle.step.specs.declared.Rule.the-variants.{Direct, Borrowed}
+use Rattle.step.specs.declared.Step.{Step}
+use Rattle.step.specs.Step.{started, endingOf}
+use Rattle.step.specs.Move.{opened, writing, nextTag, heldView, lentView, afterRead, afterGood, afterFailed, borrowPass}
+use Rattle.step.specs.Move.{borrows}
 use Rattle.region.specs.Record.{recordSize, waitBytes, viewIn, recordOf, recordBytes}
 use Rattle.handlers.specs.declared.Head.{Head}
 use Rattle.handlers.specs.Handled.{headOf}
@@ -39,12 +39,12 @@ use Rattle.moves.specs.Moved.{effectOf, stepOf, effect, isStep}
 pub turned-bytes : (r : List ℕ) → Bytes r → length r ≡ recordSize → (next : ℕ → ℕ) (w : Wait) (v : View) {h : Head} {x y : List ℕ}
     → h ≡ headOf r → x ≡ put r 2656 (viewBytes 16 v)
     → y ≡ put x 0 (wordBytes (h .n ∷ h .own ∷ h .maxtag ∷ next (h .request) ∷ h .kept ∷ []) ++ waitBytes w)
-    → y ≡ recordBytes (turned (recordOf r) (next (recordOf r .request)) w v)
+    → y ≡ recordBytes (setWait (recordOf r) (next (recordOf r .request)) w v)
 unfolding recordOf
 turned-bytes r b l next w v d e p =
     p ∙ ap₂ (λ (h : Head) (x : List ℕ). put x 0
     (wordBytes (h .n ∷ h .own ∷ h .maxtag ∷ next (h .request) ∷ h .kept ∷ []) ++ waitBytes w)) d e
-    ∙ assembled (turned (recordOf r) (next (recordOf r .request)) w v) (atround-put (tables-of r b l) v)
+    ∙ assembled (setWait (recordOf r) (next (recordOf r .request)) w v) (atround-put (tables-of r b l) v)
 
 -- the places of a view that are given out: as many as the record has nodes
 pub places-of : (r : List ℕ) (i : ℕ) {n : ℕ} → recordOf r .n ≡ n
@@ -81,8 +81,8 @@ module _ (c : Node) (to : ℕ) (sent : Sent) where
   read-scan t = refl
 
   module _ (k : Kind) (i t : ℕ) where
-    pub good-open : eqb i 0 ≡ true → afterGood (started c to sent) c k i t ≡ stepOf (opened c k 1 (nextTag c 0 t))
-        (effectOf to sent Nothing (Two (Good t) (writing c (nextTag c 0 t))) (heldView c) None noView)
+    pub good-open : eqb i 0 ≡ true → afterGood (started c to sent) c k i t ≡ stepOf (opened c k 1 (nextTag (c .maxtag) 0 t))
+        (effectOf to sent Nothing (Two (Good t) (writing c (nextTag (c .maxtag) 0 t))) (heldView c) None noView)
     unfolding afterGood
     good-open e = rw e refl
 
@@ -92,8 +92,8 @@ module _ (c : Node) (to : ℕ) (sent : Sent) where
     good-end e = rw e refl
 
     pub failed-open : ltb i 3 ≡ true
-        → borrows (afterFailed (started c to sent) c k i t) ≡ stepOf (opened c k (i + 1) (nextTag c i t))
-        (effectOf to sent Nothing (One (writing c (nextTag c i t))) noView None noView)
+        → borrows (afterFailed (started c to sent) c k i t) ≡ stepOf (opened c k (i + 1) (nextTag (c .maxtag) i t))
+        (effectOf to sent Nothing (One (writing c (nextTag (c .maxtag) i t))) noView None noView)
     unfolding afterFailed borrowPass opened
     failed-open e = rw e refl
 

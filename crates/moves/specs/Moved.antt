@@ -7,11 +7,11 @@ use Rattle.record.specs.Record.{waiting}
 use Rattle.record.specs.declared.Node.{Node}
 use Rattle.record.specs.declared.Kind.{Kind}
 use Rattle.record.specs.declared.Wait.the-variants.{Comparing}
-use Rattle.node.specs.declared.Sent.{Sent}
-use Rattle.node.specs.declared.Ending.{Ending}
-use Rattle.node.specs.declared.Step.{Step}
-use Rattle.node.specs.Step.{ended}
-use Rattle.node.specs.Move.{compares, borrows}
+use Rattle.step.specs.declared.Sent.{Sent}
+use Rattle.step.specs.declared.Ending.{Ending}
+use Rattle.step.specs.declared.Step.{Step}
+use Rattle.step.specs.Step.{ended}
+use Rattle.step.specs.Move.{compares, borrows}
 use Rattle.region.specs.Record.{recordBytes}
 use Rattle.moves.specs.declared.Effect.{Effect}
 

@@ -1,14 +1,11 @@
-// How the open operation of a node begins and moves on, on the bytes of its record: what `node::begin_step` and
-// `node::passes::move_on` do to a record by value, done where the record lies.
+// How the open operation of a node begins and moves on, on the bytes of its record: what `begun` and
+// `moveOn` do to a record by value, done where the record lies.
 pub mod agree;
 pub mod rounds;
 
 use agree::agreeing_in;
 use handlers::head_of;
 use handlers::waiting_in;
-use node::Ending;
-use node::Outbox;
-use node::Sent;
 use octets::get_word;
 use octets::less;
 use record::Kind;
@@ -22,6 +19,9 @@ use rounds::good_in;
 use rounds::lend_in;
 use rounds::read_in;
 use rounds::rested;
+use step::Ending;
+use step::Outbox;
+use step::Sent;
 use table::larger;
 use table::quorum::is_quorum;
 use table::quorum::members;
@@ -34,8 +34,8 @@ ghost use Prim.Native.Nat.{_≤_, _<_};
 ghost use lib.ListN.{length};
 ghost use Rattle.view.specs.Size.{limit};
 ghost use Rattle.record.specs.Usable.{isOpen, full, usable};
-ghost use Rattle.node.specs.Step.{started};
-ghost use Rattle.node.specs.Move.{moveOn, begun};
+ghost use Rattle.step.specs.Step.{started};
+ghost use Rattle.step.specs.Move.{moveOn, begun};
 ghost use Rattle.region.specs.Record.{recordSize, recordOf, recordBytes};
 ghost use Rattle.moves.specs.Moved.{isStep, compared};
 

@@ -3,11 +3,6 @@
 use crate::Effect;
 use handlers::head_of;
 use handlers::tables::newest_in;
-use node::Ending;
-use node::Outbox;
-use node::Rule;
-use node::Sent;
-use node::rounds::ending_of;
 use octets::fill;
 use octets::get_word;
 use octets::put_bytes;
@@ -16,7 +11,12 @@ use record::Operation;
 use record::Wait;
 use region::stored::load_view;
 use region::stored::save_head;
-use table::larger;
+use step::Ending;
+use step::Outbox;
+use step::Rule;
+use step::Sent;
+use step::decide::ending_of;
+use step::decide::next_tag;
 use view::LIMIT;
 use view::View;
 use view::absent;
@@ -28,11 +28,11 @@ ghost use Rattle.view.specs.Size.{limit};
 ghost use Rattle.view.specs.View.{noView};
 ghost use Rattle.record.specs.Record.{closed};
 ghost use Rattle.record.specs.declared.Wait.the-variants.{Idle};
-ghost use Rattle.node.specs.declared.Sent.the-variants.{Nothing};
-ghost use Rattle.node.specs.declared.Ending.the-variants.{None};
-ghost use Rattle.node.specs.declared.Rule.the-variants.{Borrowed};
-ghost use Rattle.node.specs.Step.{started, ended, endingOf};
-ghost use Rattle.node.specs.Move.{opened, nextTag, afterRead, lentView, afterGood, afterFailed, borrows};
+ghost use Rattle.step.specs.declared.Sent.the-variants.{Nothing};
+ghost use Rattle.step.specs.declared.Ending.the-variants.{None};
+ghost use Rattle.step.specs.declared.Rule.the-variants.{Borrowed};
+ghost use Rattle.step.specs.Step.{started, ended, endingOf};
+ghost use Rattle.step.specs.Move.{opened, nextTag, afterRead, lentView, afterGood, afterFailed, borrows};
 ghost use Rattle.region.specs.Record.{recordSize, recordOf, recordBytes};
 ghost use Rattle.moves.specs.Moved.{isStep, effectOf};
 
@@ -170,13 +170,9 @@ pub fn read_in(r: &mut [u8], to: usize, sent: Sent, o: Operation, t: u64) -> Eff
 // The tag of the round after round i with tag t.
 fn next_in(r: &[u8], i: u64, t: u64) -> u64
     requires { ⌜ (length (now r) ≡ recordSize) × (t ≤ limit) ⌝ }
-    ensures { λ u. ⌜ u ≡ nextTag (recordOf (now (r .entry))) i t ⌝ }
+    ensures { λ u. ⌜ u ≡ nextTag (recordOf (now (r .entry)) .maxtag) i t ⌝ }
 {
-    let top = get_word(r, 16);
-    if i == 0 {
-        return larger(t + 1, top);
-    }
-    top
+    next_tag(get_word(r, 16), i, t)
 }
 
 // A good round: after round 0 the next one opens, any other ends the operation. Its view is of n places.

@@ -9,7 +9,7 @@ use lib.ListN.{length, getD, replicate}
 use Rattle.octets.specs.Answer.{result}
 use Rattle.octets.proofs.Test.{true-false}
 use Rattle.record.specs.declared.Operation.the-variants.{Scan}
-use Rattle.node.specs.declared.Ending.the-variants.{None}
+use Rattle.step.specs.declared.Ending.the-variants.{None}
 use Rattle.layout.specs.Layout.{clusterSize, stated, stopped, node}
 use Rattle.cluster.specs.Event as E
 use Rattle.cluster.specs.declared.Extent.the-variants.{Whole}

@@ -17,11 +17,11 @@ use Rattle.table.specs.Loop.{count}
 use Rattle.table.specs.Quorum.{faults}
 use Rattle.record.specs.Usable.{full}
 use Rattle.record.specs.declared.Operation.{Operation}
-use Rattle.node.specs.Move.{begun, beginStep}
-use Rattle.node.specs.declared.Sent.the-variants.{One}
-use Rattle.node.specs.declared.Step.{Step}
-use Rattle.node.specs.declared.Ending.the-variants.{None}
-use Rattle.node.proofs.Waits.{begin-asks}
+use Rattle.step.specs.Move.{begun, beginStep}
+use Rattle.step.specs.declared.Sent.the-variants.{One}
+use Rattle.step.specs.declared.Step.{Step}
+use Rattle.step.specs.declared.Ending.the-variants.{None}
+use Rattle.step.proofs.Waits.{begin-asks}
 use Rattle.region.specs.Channel.{capacity, countOf}
 use Rattle.region.specs.Record.{heardPlace, recordOf}
 use Rattle.block.specs.Block.{recordIn}

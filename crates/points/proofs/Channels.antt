@@ -23,13 +23,13 @@ use Rattle.record.specs.Usable.{isOpen, full}
 use Rattle.record.specs.declared.Node.{Node}
 use Rattle.record.specs.declared.Wait.{Wait}
 use Rattle.record.specs.declared.Wait.the-variants.{Idle, Reading, Writing, Comparing, Borrowing}
-use Rattle.node.specs.Move.{messageStep, moveOn, readPass, writePass, comparePass, borrowPass}
-use Rattle.node.specs.React.{raised, react}
-use Rattle.node.specs.Step.{messages, started}
-use Rattle.node.specs.declared.Sent.the-variants.{One}
-use Rattle.node.specs.declared.Step.{Step}
-use Rattle.node.specs.declared.Ending.the-variants.{None}
-use Rattle.node.proofs.Same.{move-on-keeps}
+use Rattle.step.specs.Move.{messageStep, moveOn, readPass, writePass, comparePass, borrowPass}
+use Rattle.step.specs.React.{raised, react}
+use Rattle.step.specs.Step.{messages, started}
+use Rattle.step.specs.declared.Sent.the-variants.{One}
+use Rattle.step.specs.declared.Step.{Step}
+use Rattle.step.specs.declared.Ending.the-variants.{None}
+use Rattle.step.proofs.Same.{move-on-keeps}
 use Rattle.region.specs.Channel.{capacity, countOf, first}
 use Rattle.region.specs.Record.{recordOf, recordBytes}
 use Rattle.region.proofs.Back.{Sized}

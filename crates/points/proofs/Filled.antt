@@ -21,7 +21,7 @@ use Rattle.wire.specs.Layout.{allowed}
 use Rattle.wire.specs.declared.Message.{Message}
 use Rattle.wire.specs.declared.Message.the-variants.{Read, ReadAnswer, Write, WriteAnswer, Echo, Value, Good}
 use Rattle.record.specs.declared.Node.{Node}
-use Rattle.node.specs.Stale.{staleMessage}
+use Rattle.step.specs.Stale.{staleMessage}
 use Rattle.region.specs.Channel.{capacity, countOf, first}
 use Rattle.entries.specs.Entries.{Entry, entry, goTo}
 use Rattle.layout.specs.Layout.{clusterSize, stated, channel}

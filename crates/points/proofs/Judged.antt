@@ -14,9 +14,9 @@ use Rattle.octets.specs.Test.{pick}
 use Rattle.octets.proofs.Test.{true-false, not-true-false}
 use Rattle.table.specs.Loop.{all}
 use Rattle.table.proofs.Laws.{all-at, all-all}
-use Rattle.node.specs.Step.{messages}
-use Rattle.node.specs.declared.Ending.the-variants.{None}
-use Rattle.node.specs.declared.Step.{Step}
+use Rattle.step.specs.Step.{messages}
+use Rattle.step.specs.declared.Ending.the-variants.{None}
+use Rattle.step.specs.declared.Step.{Step}
 use Rattle.region.specs.Channel.{capacity, countOf}
 use Rattle.block.specs.Block.{blockSize, hasStopped, channelIn, keep, takeOff, halt}
 use Rattle.block.proofs.Changes.{keep-length, keep-flag, keep-channel, halt-length}

@@ -30,16 +30,16 @@ use Rattle.record.specs.declared.Operation.the-variants.{Update, Scan}
 use Rattle.record.specs.declared.Kind.the-variants.{Update as UpdateKind, Scan as ScanKind}
 use Rattle.record.specs.declared.Wait.the-variants.{Idle, Reading}
 use Rattle.record.proofs.Parts.{parts, usable-of, reading-of}
-use Rattle.node.specs.Move.{opened, writing, afterRead, readPass, writePass, comparePass, borrowPass}
-use Rattle.node.specs.Move.{writes, compares, borrows, moveOn, messageStep}
-use Rattle.node.specs.React.{react, readAnswered}
-use Rattle.node.specs.Step.{started, afterReading, ended}
-use Rattle.node.specs.Told as K
-use Rattle.node.specs.declared.Ending.the-variants.{Spent}
-use Rattle.node.specs.declared.Sent.the-variants.{Nothing, One, Two}
-use Rattle.node.specs.declared.Step.{Step}
-use Rattle.node.proofs.Turns.{reading-most}
-use Rattle.node.proofs.Waits.{no-quorum}
+use Rattle.step.specs.Move.{opened, writing, afterRead, readPass, writePass, comparePass, borrowPass}
+use Rattle.step.specs.Move.{writes, compares, borrows, moveOn, messageStep}
+use Rattle.step.specs.React.{react, readWait}
+use Rattle.step.specs.Step.{started, afterReading, ended}
+use Rattle.step.specs.Told as K
+use Rattle.step.specs.declared.Ending.the-variants.{Spent}
+use Rattle.step.specs.declared.Sent.the-variants.{Nothing, One, Two}
+use Rattle.step.specs.declared.Step.{Step}
+use Rattle.step.proofs.Turns.{reading-most}
+use Rattle.step.proofs.Waits.{no-quorum}
 use Rattle.endpoint.specs.Bytes.{run}
 use Rattle.endpoint.specs.Entry as N
 use Rattle.endpoint.proofs.Refusals.{message-read, taken-goes}
@@ -82,9 +82,9 @@ module _ (c : Node) (o : Operation) (m s t : ℕ) (b out : List ℕ) (L : LastAn
   abbrev counted : Step
   counted = started (waiting c (Reading o (with (L .answered) s) (max m t))) s Nothing
 
-  counts : readAnswered c s (c .request) t (c .wait) ≡ counted .node
-  unfolding readAnswered
-  counts = ap (readAnswered c s (c .request) t) (L .reads) ∙ rw (eq-eqb (c .request) (c .request) refl, L .new)
+  counts : waiting c (readWait (c .request) s (c .request) t (c .wait)) ≡ counted .node
+  counts = ap (waiting c)
+      (ap (readWait (c .request) s (c .request) t) (L .reads) ∙ rw (eq-eqb (c .request) (c .request) refl, L .new))
 
   passes : readPass f counted (counted .node) (counted .node .wait) ≡ afterRead counted (counted .node) o (used c m t)
   unfolding readPass

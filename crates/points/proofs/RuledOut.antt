@@ -19,8 +19,8 @@ use Rattle.wire.specs.declared.Message.the-variants.{Read, Good}
 use Rattle.figures.specs.Figures.{totals, figuresOf}
 use Rattle.figures.specs.declared.Totals.{Totals}
 use Rattle.table.specs.Quorum.{faults}
-use Rattle.node.specs.Told as K
-use Rattle.node.specs.declared.Ending.{Ending}
+use Rattle.step.specs.Told as K
+use Rattle.step.specs.declared.Ending.{Ending}
 use Rattle.endpoint.specs.Entry as N
 use Rattle.endpoint.specs.Outcome.{Outcome}
 use Rattle.layout.specs.Layout.{clusterSize}

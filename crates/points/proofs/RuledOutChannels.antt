@@ -14,7 +14,7 @@ use Rattle.octets.proofs.Put.{getD-part}
 use Rattle.octets.proofs.Table.{getD-tab}
 use Rattle.wire.specs.declared.Message.the-variants.{Read, Write}
 use Rattle.record.specs.declared.Operation.the-variants.{Scan}
-use Rattle.node.specs.declared.Ending.the-variants.{None}
+use Rattle.step.specs.declared.Ending.the-variants.{None}
 use Rattle.region.specs.Channel.{channelSize, countOf}
 use Rattle.block.specs.Block.{blockSize, channelPlace, channelIn}
 use Rattle.layout.specs.Layout.{clusterSize, blockPlace, stated, block, channel}

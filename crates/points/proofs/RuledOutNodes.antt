@@ -21,8 +21,8 @@ use Rattle.record.specs.declared.Operation.{Operation}
 use Rattle.record.specs.declared.Operation.the-variants.{Update, Scan}
 use Rattle.record.specs.declared.Wait.{Wait}
 use Rattle.record.specs.declared.Wait.the-variants.{Idle, Reading, Writing, Comparing, Borrowing}
-use Rattle.node.specs.Told as K
-use Rattle.node.specs.declared.Ending.the-variants.{None}
+use Rattle.step.specs.Told as K
+use Rattle.step.specs.declared.Ending.the-variants.{None}
 use Rattle.endpoint.specs.Entry as N
 use Rattle.endpoint.specs.Outcome.{Outcome}
 use Rattle.block.specs.Block.{halt}

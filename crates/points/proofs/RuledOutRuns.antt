@@ -14,9 +14,9 @@ use Rattle.octets.specs.Test.{pick, both}
 use Rattle.view.specs.View.{noView}
 use Rattle.view.specs.declared.View.{View}
 use Rattle.record.specs.declared.Operation.the-variants.{Scan}
-use Rattle.node.specs.declared.Ending.{Ending}
-use Rattle.node.specs.declared.Ending.the-variants.{None, Scan as Scanned}
-use Rattle.node.specs.declared.Rule.the-variants.{Direct}
+use Rattle.step.specs.declared.Ending.{Ending}
+use Rattle.step.specs.declared.Ending.the-variants.{None, Scan as Scanned}
+use Rattle.step.specs.declared.Rule.the-variants.{Direct}
 use Rattle.region.specs.Channel.{countOf}
 use Rattle.layout.specs.Layout.{stated, channel}
 use Rattle.cluster.specs.Event as E

@@ -15,7 +15,7 @@ use Rattle.theory.proofs.Update.{upd-same}
 use Rattle.view.specs.View.{noView}
 use Rattle.table.specs.Loop.{count}
 use Rattle.table.specs.Quorum.{faults}
-use Rattle.node.specs.declared.Ending.the-variants.{None}
+use Rattle.step.specs.declared.Ending.the-variants.{None}
 use Rattle.block.specs.Block.{halt}
 use Rattle.layout.specs.Layout.{clusterSize, stopped, onBlock, isNode}
 use Rattle.layout.proofs.Check.{sound-few}

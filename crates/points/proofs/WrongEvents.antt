@@ -12,8 +12,8 @@ use Rattle.view.specs.View.{noView}
 use Rattle.wire.specs.declared.Message.{Message}
 use Rattle.wire.specs.declared.Message.the-variants.{Read, Write}
 use Rattle.record.specs.declared.Operation.the-variants.{Scan}
-use Rattle.node.specs.declared.Ending.{Ending}
-use Rattle.node.specs.declared.Ending.the-variants.{None}
+use Rattle.step.specs.declared.Ending.{Ending}
+use Rattle.step.specs.declared.Ending.the-variants.{None}
 use Rattle.region.specs.Channel.{countOf}
 use Rattle.layout.specs.Layout.{stated, stopped, channel}
 use Rattle.cluster.specs.Event as E

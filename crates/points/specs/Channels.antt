@@ -15,10 +15,10 @@ use Rattle.table.specs.Loop.{count}
 use Rattle.table.specs.Quorum.{faults}
 use Rattle.record.specs.Usable.{isOpen, full}
 use Rattle.record.specs.declared.Operation.{Operation}
-use Rattle.node.specs.Move.{messageStep, beginStep}
-use Rattle.node.specs.Stale.{staleMessage}
-use Rattle.node.specs.declared.Ending.{Ending}
-use Rattle.node.specs.declared.Ending.the-variants.{None}
+use Rattle.step.specs.Move.{messageStep, beginStep}
+use Rattle.step.specs.Stale.{staleMessage}
+use Rattle.step.specs.declared.Ending.{Ending}
+use Rattle.step.specs.declared.Ending.the-variants.{None}
 use Rattle.region.specs.Channel.{countOf, first}
 use Rattle.entries.specs.Entries.{Entry, entry, entries, goTo}
 use Rattle.layout.specs.Layout.{clusterSize, stated, stopped, node, channel, fits, sound}

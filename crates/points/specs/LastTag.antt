@@ -21,8 +21,8 @@ use Rattle.record.specs.declared.Operation.{Operation}
 use Rattle.record.specs.declared.Operation.the-variants.{Update, Scan}
 use Rattle.record.specs.declared.Kind.the-variants.{Update as UpdateKind, Scan as ScanKind}
 use Rattle.record.specs.declared.Wait.the-variants.{Idle, Reading}
-use Rattle.node.specs.Move.{opened}
-use Rattle.node.specs.Told as K
+use Rattle.step.specs.Move.{opened}
+use Rattle.step.specs.Told as K
 use Rattle.endpoint.specs.Outcome.{Outcome}
 use Rattle.eqaso.specs.Order.{OneTo}
 use Rattle.points.specs.Calls.{Calls}

@@ -14,8 +14,8 @@ use Rattle.wire.specs.declared.Message.the-variants.{Read, Good}
 use Rattle.figures.specs.Figures.{totals}
 use Rattle.figures.specs.declared.Totals.{Totals}
 use Rattle.record.specs.Record.{blank}
-use Rattle.node.specs.declared.Ending.the-variants.{None}
-use Rattle.node.specs.Told.{nothing}
+use Rattle.step.specs.declared.Ending.the-variants.{None}
+use Rattle.step.specs.Told.{nothing}
 use Rattle.endpoint.specs.Entry as N
 use Rattle.cluster.specs.Event.{refuse, freshBytes}
 use Rattle.eqaso.specs.Order.{OneTo}

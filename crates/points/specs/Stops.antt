@@ -5,7 +5,7 @@ use mathlib.Core.Bool.{true}
 use mathlib.Core.List.{List}
 use lib.ListN.{length}
 use Rattle.octets.specs.Answer.{result}
-use Rattle.node.specs.declared.Ending.the-variants.{None}
+use Rattle.step.specs.declared.Ending.the-variants.{None}
 use Rattle.layout.specs.Layout.{clusterSize, stated, stopped, fits, sound}
 use Rattle.cluster.specs.Event.{Result, refuse}
 use Rattle.eqaso.specs.Order.{OneTo}

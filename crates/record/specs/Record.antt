@@ -1,6 +1,8 @@
--- The record of one node: its fresh form, and the changes that a step makes in it.
+-- The record of one node: its fresh form, and a setter for each group of fields that a step changes together. There is
+-- no record update here, so that only these definitions list all fields.
 -- Assumes nothing.
 use Prim.Native.Nat.{ℕ}
+use mathlib.Core.List.{List}
 use lib.ListN.{replicate}
 use Rattle.view.specs.declared.View.{View}
 use Rattle.view.specs.View.{noView}
@@ -25,9 +27,26 @@ blank n own =
       keptview = noView;
     }
 
--- the record with another request number, wait, and reports held for the round
-abbrev pub turned : Node → ℕ → Wait → View → Node
-turned c q w v =
+-- another maxtag, and reports held for it
+abbrev pub setTop : Node → (maxtag : ℕ) → (atmax : View) → Node
+setTop c top held =
+    record {
+      n = c .n;
+      own = c .own;
+      maxtag = top;
+      request = c .request;
+      wait = c .wait;
+      heard = c .heard;
+      last = c .last;
+      atmax = held;
+      atround = c .atround;
+      kept = c .kept;
+      keptview = c .keptview;
+    }
+
+-- another request number, wait, and reports held for the round
+abbrev pub setWait : Node → (request : ℕ) → Wait → (atround : View) → Node
+setWait c q w held =
     record {
       n = c .n;
       own = c .own;
@@ -37,15 +56,49 @@ turned c q w v =
       heard = c .heard;
       last = c .last;
       atmax = c .atmax;
-      atround = v;
+      atround = held;
       kept = c .kept;
       keptview = c .keptview;
     }
 
+-- other tables
+abbrev pub setTables : Node → (heard : List ℕ) → (last atmax atround : View) → Node
+setTables c heard last atmax atround =
+    record {
+      n = c .n;
+      own = c .own;
+      maxtag = c .maxtag;
+      request = c .request;
+      wait = c .wait;
+      heard = heard;
+      last = last;
+      atmax = atmax;
+      atround = atround;
+      kept = c .kept;
+      keptview = c .keptview;
+    }
+
+-- another good message kept
+abbrev pub setKept : Node → (kept : ℕ) → (keptview : View) → Node
+setKept c t v =
+    record {
+      n = c .n;
+      own = c .own;
+      maxtag = c .maxtag;
+      request = c .request;
+      wait = c .wait;
+      heard = c .heard;
+      last = c .last;
+      atmax = c .atmax;
+      atround = c .atround;
+      kept = t;
+      keptview = v;
+    }
+
 -- another wait, the rest unchanged
 abbrev pub waiting : Node → Wait → Node
-waiting c w = turned c (c .request) w (c .atround)
+waiting c w = setWait c (c .request) w (c .atround)
 
 -- no round is open any more
 abbrev pub closed : Node → Wait → Node
-closed c w = turned c (c .request) w noView
+closed c w = setWait c (c .request) w noView

@@ -79,5 +79,8 @@ full c = ltb (limit - c .request) 5
 
 -- 9: a value of writer w from sender s whose tag t is below the last heard from that sender for that writer, or above
 -- the writer's last while that last is above maxtag
+abbrev pub staleTag : (heard last maxtag t : ℕ) → Bool
+staleTag heard last maxtag t = either (ltb t heard) (both (ltb last t) (ltb maxtag last))
+
 abbrev pub stale : Node → ℕ → ℕ → ℕ → Bool
-stale c s w t = either (ltb t (heardOf (c .heard) s w)) (both (ltb (tagOf (c .last) w) t) (ltb (c .maxtag) (tagOf (c .last) w)))
+stale c s w t = staleTag (heardOf (c .heard) s w) (tagOf (c .last) w) (c .maxtag) t

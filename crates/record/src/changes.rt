@@ -5,11 +5,11 @@ use crate::Wait;
 use view::View;
 use view::absent;
 ghost use mathlib.Core.Path.{_≡_};
-ghost use Rattle.record.specs.Record.{turned, waiting, closed};
+ghost use Rattle.record.specs.Record.{setWait, waiting, closed};
 
 // The record with another request number, wait, and reports held for the round.
-pub fn turned_node(c: Node, q: u64, w: Wait, v: View) -> Node
-    ensures { λ r. ⌜ r ≡ turned c q w v ⌝ }
+pub fn set_wait(c: Node, q: u64, w: Wait, v: View) -> Node
+    ensures { λ r. ⌜ r ≡ setWait c q w v ⌝ }
 {
     let heard = c.heard;
     let last = c.last;
@@ -33,11 +33,11 @@ pub fn turned_node(c: Node, q: u64, w: Wait, v: View) -> Node
 pub fn waiting_node(c: Node, w: Wait) -> Node
     ensures { λ r. ⌜ r ≡ waiting c w ⌝ }
 {
-    turned_node(c, c.request, w, c.atround)
+    set_wait(c, c.request, w, c.atround)
 }
 
 pub fn closed_node(c: Node, w: Wait) -> Node
     ensures { λ r. ⌜ r ≡ closed c w ⌝ }
 {
-    turned_node(c, c.request, w, absent())
+    set_wait(c, c.request, w, absent())
 }

@@ -12,7 +12,7 @@ use table::views::view_within;
 use view::LIMIT;
 ghost use mathlib.Core.Path.{_≡_};
 ghost use Prim.Native.Nat.{_≤_};
-ghost use Rattle.record.specs.Usable.{stillUses, roundTag, roundOk, waitOk, sizesOk, numbersWithin, numbersOk, tablesOk, usable, isOpen, full, stale};
+ghost use Rattle.record.specs.Usable.{stillUses, roundTag, roundOk, waitOk, sizesOk, numbersWithin, numbersOk, tablesOk, usable, isOpen, full, staleTag, stale};
 
 // The request numbers that the open operation may still use.
 fn still_uses(wait: Wait) -> u64
@@ -185,16 +185,24 @@ pub fn is_full(c: Node) -> bool
     less(LIMIT, c.request) < 5
 }
 
-// Whether a value of writer w with tag t from sender s is refused (9): it is below the last tag heard from s for w, or
-// above the writer's last while that is above `maxtag`.
+// Whether a value with tag t is refused (9): it is below the last tag heard from its sender for its writer, or above
+// the writer's last while that is above `maxtag`.
+pub fn is_stale_tag(heard: u64, last: u64, maxtag: u64, t: u64) -> bool
+    ensures { λ r. ⌜ r ≡ staleTag heard last maxtag t ⌝ }
+{
+    or(t < heard, and(last < t, maxtag < last))
+}
+
+// The same of a value of writer w from sender s, at a record.
 pub fn is_stale(c: Node, s: usize, w: usize, t: u64) -> bool
     requires { ⌜ (1 ≤ s) × (s ≤ 16) × (1 ≤ w) × (w ≤ 16) ⌝ }
     ensures { λ r. ⌜ r ≡ stale c s w t ⌝ }
 {
     let heard = c.heard;
-    let last = tag_of(c.last, w);
-    or(
-        t < heard[(s - 1) * 16 + (w - 1)],
-        and(last < t, c.maxtag < last),
+    is_stale_tag(
+        heard[(s - 1) * 16 + (w - 1)],
+        tag_of(c.last, w),
+        c.maxtag,
+        t,
     )
 }

@@ -11,7 +11,7 @@ use Rattle.record.specs.Record.{waiting}
 use Rattle.record.specs.declared.Node.{Node}
 use Rattle.record.specs.declared.Wait.{Wait}
 use Rattle.record.specs.declared.Wait.the-variants.{Writing}
-use Rattle.node.specs.React.{readAnswered, writeAnswered}
+use Rattle.step.specs.React.{readWait, writeWait}
 use Rattle.eqaso.specs.Algorithm as A
 use Rattle.eqaso.specs.Order.{OneTo}
 use Rattle.refine.specs.Meaning.{kindOf, number}
@@ -21,45 +21,51 @@ use Rattle.refine.proofs.Quorums.{same-with, same-again}
 use Rattle.refine.proofs.Turned.{follows-turned}
 
 module _ {n i : ℕ} {ν : A.Node} {c : Node} (F : Follows n i ν c) (k q t : ℕ) (sender : OneTo n k) where
-  R : Node → A.Node → Type 0
-  R d μ = Follows n i μ d
+  R : Wait → A.Node → Type 0
+  R w μ = Follows n i μ (waiting c w)
 
   current : Tells (eqb q (c .request)) (q ≡ ν .request)
   current = rw (F .request) (eq-tells q (ν .request))
+
+  -- The wait as it was.
+  unmoved : {w′ : Wait} → c .wait ≡ w′ → Follows n i ν (waiting c w′)
+  unmoved e = subst (λ w. Follows n i ν (waiting c w)) e F
 
   -- Another wait that holds the same reports for its round.
   rewaits : {w : A.Wait} {w′ : Wait} → SameWait n w w′ → HoldsRound n (c .atround) w (ν .all)
       → Follows n i (A.waiting w ν) (waiting c w′)
   rewaits same h = follows-turned F (F .request) same h (F .atround-size)
 
-  pub read-answered : {w : A.Wait} {w′ : Wait} → SameWait n w w′
-      → Follows n i (A.readAnswered k q t ν w) (readAnswered c k q t w′)
-  unfolding readAnswered R
-  read-answered (SameWait.reading {o} {s} {a} {u} same) = same-side R (ℕ-discrete q (ν .request)) current
-      (λ e. same-test R (s k) (sym (same k sender)) (λ y. F)
-      (λ y. rewaits (SameWait.reading (same-with n a k s sender same)) tt)) (λ e. F)
-  read-answered SameWait.idle = F
-  read-answered (SameWait.writing same) = F
-  read-answered SameWait.comparing = F
-  read-answered SameWait.borrowing = F
+  pub read-answered : {w : A.Wait} {w′ : Wait} → c .wait ≡ w′ → SameWait n w w′
+      → Follows n i (A.readAnswered k q t ν w) (waiting c (readWait (c .request) k q t w′))
+  unfolding R
+  read-answered e (SameWait.reading {o} {s} {a} {u} same) = same-side R (ℕ-discrete q (ν .request)) current
+      (λ d. same-test R (s k) (sym (same k sender)) (λ y. unmoved e)
+      (λ y. rewaits (SameWait.reading (same-with n a k s sender same)) tt)) (λ d. unmoved e)
+  read-answered e SameWait.idle = unmoved e
+  read-answered e (SameWait.writing same) = unmoved e
+  read-answered e SameWait.comparing = unmoved e
+  read-answered e SameWait.borrowing = unmoved e
 
   pub write-answered : {w : A.Wait} {w′ : Wait} → ν .wait ≡ w → c .wait ≡ w′ → SameWait n w w′
-      → Follows n i (A.writeAnswered k q t ν w) (writeAnswered c k q t w′)
-  unfolding writeAnswered R
+      → Follows n i (A.writeAnswered k q t ν w) (waiting c (writeWait (c .request) k q t w′))
+  unfolding R
   write-answered e e′ (SameWait.writing {op} {r} {t = u} {a} {s} same) =
       same-side R (ℕ-discrete q (ν .request)) current
-      (λ d. same-side R (ℕ-discrete t u) (eq-tells t u) (λ d. count) (λ d. F)) (λ d. F)
+      (λ d. same-side R (ℕ-discrete t u) (eq-tells t u) (λ d. count) (λ d. unmoved e′)) (λ d. unmoved e′)
     where
       held : HoldsRound n (c .atround) (A.writing op r u s) (ν .all)
       held = subst (λ w. HoldsRound n (c .atround) w (ν .all)) e (F .atround)
 
+      round : ℕ → Wait
+      round b = Writing (kindOf op) (number r) u b
+
       count : Follows n i (A.waiting (A.writing op r u (upd s k true)) ν)
-          (pick (member a k) c (waiting c (Writing (kindOf op) (number r) u (with a k))))
+          (waiting c (pick (member a k) (round a) (round (with a k))))
       count = split (member a k)
-          (λ y. rw y (subst (λ w. Follows n i (A.waiting (A.writing op r u (upd s k true)) ν) (waiting c w)) (sym e′)
-          (rewaits (SameWait.writing (same-again n a k s y same)) held)))
+          (λ y. rw y (rewaits (SameWait.writing (same-again n a k s y same)) held))
           (λ y. rw y (rewaits (SameWait.writing (same-with n a k s sender same)) held))
-  write-answered e e′ SameWait.idle = F
-  write-answered e e′ (SameWait.reading same) = F
-  write-answered e e′ SameWait.comparing = F
-  write-answered e e′ SameWait.borrowing = F
+  write-answered e e′ SameWait.idle = unmoved e′
+  write-answered e e′ (SameWait.reading same) = unmoved e′
+  write-answered e e′ SameWait.comparing = unmoved e′
+  write-answered e e′ SameWait.borrowing = unmoved e′

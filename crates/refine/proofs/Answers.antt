@@ -14,9 +14,9 @@ use Rattle.record.specs.declared.Operation.{Operation}
 use Rattle.record.specs.declared.Operation.the-variants.{Update, Scan}
 use Rattle.record.specs.declared.Wait.{Wait}
 use Rattle.record.specs.declared.Wait.the-variants.{Idle}
-use Rattle.node.specs.declared.Sent.the-variants.{One, Two}
-use Rattle.node.specs.declared.Step.{Step}
-use Rattle.node.specs.Move.{writing, afterRead, readPass, writePass, reads, writes}
+use Rattle.step.specs.declared.Sent.the-variants.{One, Two}
+use Rattle.step.specs.declared.Step.{Step}
+use Rattle.step.specs.Move.{writing, afterRead, readPass, writePass, reads, writes}
 use Rattle.eqaso.specs.Algorithm as A
 use Rattle.eqaso.specs.Algorithm.{_then_}
 use Rattle.refine.specs.Meaning.{operationOf}

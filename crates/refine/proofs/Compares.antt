@@ -14,13 +14,13 @@ use Rattle.record.specs.Record.{closed}
 use Rattle.record.specs.declared.Node.{Node}
 use Rattle.record.specs.declared.Wait.{Wait}
 use Rattle.record.specs.declared.Wait.the-variants.{Idle}
-use Rattle.node.specs.declared.Sent.the-variants.{Nothing, One, Two}
-use Rattle.node.specs.declared.Rule.{Rule}
-use Rattle.node.specs.declared.Rule.the-variants.{Direct, Borrowed}
-use Rattle.node.specs.declared.Step.{Step}
-use Rattle.node.specs.Step as S
-use Rattle.node.specs.Move.{opened, writing, heldView, lentView, afterGood, afterFailed, comparePass, borrowPass}
-use Rattle.node.specs.Move.{compares, borrows}
+use Rattle.step.specs.declared.Sent.the-variants.{Nothing, One, Two}
+use Rattle.step.specs.declared.Rule.{Rule}
+use Rattle.step.specs.declared.Rule.the-variants.{Direct, Borrowed}
+use Rattle.step.specs.declared.Step.{Step}
+use Rattle.step.specs.Step as S
+use Rattle.step.specs.Move.{opened, writing, heldView, lentView, afterGood, afterFailed, comparePass, borrowPass}
+use Rattle.step.specs.Move.{compares, borrows}
 use Rattle.eqaso.specs.Message as M
 use Rattle.eqaso.specs.Algorithm as A
 use Rattle.eqaso.specs.Algorithm.{_then_}

@@ -7,11 +7,11 @@ use mathlib.Core.List.{List, [], _++_, map, map-append, append-nil}
 use Rattle.view.specs.declared.View.{View}
 use Rattle.record.specs.declared.Wait.{Wait}
 use Rattle.record.specs.declared.Wait.the-variants.{Idle}
-use Rattle.node.specs.declared.Sent.{Sent}
-use Rattle.node.specs.declared.Sent.the-variants.{Nothing}
-use Rattle.node.specs.declared.Outbox.{Outbox}
-use Rattle.node.specs.declared.Step.{Step}
-use Rattle.node.specs.Step.{listed}
+use Rattle.step.specs.declared.Sent.{Sent}
+use Rattle.step.specs.declared.Sent.the-variants.{Nothing}
+use Rattle.step.specs.declared.Outbox.{Outbox}
+use Rattle.step.specs.declared.Step.{Step}
+use Rattle.step.specs.Step.{listed}
 use Rattle.eqaso.specs.Message as M
 use Rattle.eqaso.specs.Algorithm as A
 use Rattle.eqaso.specs.Algorithm.{_then_}

@@ -10,7 +10,7 @@ use borrow.Author.Tests.{lt-ltb, le-ltb}
 use Rattle.view.specs.declared.View.{View}
 use Rattle.octets.specs.Test.{pick}
 use Rattle.record.specs.declared.Node.{Node}
-use Rattle.node.specs.React.{raised, keep}
+use Rattle.step.specs.React.{raised, keep}
 use Rattle.eqaso.specs.Algorithm as A
 use Rattle.eqaso.specs.Node.{topping}
 use Rattle.eqaso.specs.Bounded.{BoundedNode}

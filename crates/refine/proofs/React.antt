@@ -16,10 +16,10 @@ use Rattle.wire.specs.declared.Message.{Message}
 use Rattle.wire.specs.declared.Message.the-variants.{Read, ReadAnswer, Write, WriteAnswer, Echo, Value, Good}
 use Rattle.octets.specs.Test.{pick}
 use Rattle.record.specs.declared.Node.{Node}
-use Rattle.node.specs.declared.Sent.{Sent}
-use Rattle.node.specs.declared.Sent.the-variants.{Nothing, One, Two}
-use Rattle.node.specs.Step.{started}
-use Rattle.node.specs.React.{react, raised, isNew, received}
+use Rattle.step.specs.declared.Sent.{Sent}
+use Rattle.step.specs.declared.Sent.the-variants.{Nothing, One, Two}
+use Rattle.step.specs.Step.{started}
+use Rattle.step.specs.React.{react, raised, isNew, received}
 use Rattle.eqaso.specs.Message as M
 use Rattle.eqaso.specs.Algorithm as A
 use Rattle.eqaso.specs.Algorithm.{_then_}
@@ -105,7 +105,7 @@ module _ {n i : ℕ} (small : n ≤ 16) {ν : A.Node} {c : Node} (F : Follows n 
           → Together n i k (Handled n) (react c k m v) (A.react k (messageOf n i v m) ν)
       by (Read q) a = sends (One (ReadAnswer q (c .maxtag))) (M.readAnswer k q (ν .maxtag) ∷ []) F
           (λ x. rw (F .maxtag) refl)
-      by (ReadAnswer q t) a = sends Nothing [] (read-answered F k q t sender (F .wait)) (λ x. refl)
+      by (ReadAnswer q t) a = sends Nothing [] (read-answered F k q t sender refl (F .wait)) (λ x. refl)
       by (Write q t) a = written q t
       by (WriteAnswer q t) a = sends Nothing [] (write-answered F k q t sender refl refl (F .wait)) (λ x. refl)
       by (Echo t) a = echoed t

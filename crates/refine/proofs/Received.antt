@@ -19,7 +19,7 @@ use Rattle.table.specs.Table.{put, tagOf, heardOf, cell}
 use Rattle.record.specs.declared.Node.{Node}
 use Rattle.record.specs.declared.Wait.{Wait}
 use Rattle.record.specs.Usable.{stale}
-use Rattle.node.specs.React.{received, isNew, roundHolds}
+use Rattle.step.specs.React.{received, isNew, roundHolds}
 use Rattle.eqaso.specs.Message as M
 use Rattle.eqaso.specs.Algorithm as A
 use Rattle.eqaso.specs.Order.{OneTo}

@@ -12,8 +12,8 @@ use Rattle.record.specs.declared.Node.{Node}
 use Rattle.record.specs.declared.Operation.{Operation}
 use Rattle.record.specs.declared.Wait.{Wait}
 use Rattle.record.specs.Usable.{isOpen, full, stale}
-use Rattle.node.specs.declared.Step.{Step}
-use Rattle.node.specs.Move.{moveOn, messageStep, begun, beginStep}
+use Rattle.step.specs.declared.Step.{Step}
+use Rattle.step.specs.Move.{moveOn, messageStep, begun, beginStep}
 use Rattle.eqaso.specs.Message as M
 use Rattle.eqaso.specs.Algorithm as A
 use Rattle.eqaso.specs.Cluster.{isIdle}

@@ -7,11 +7,11 @@ use mathlib.Core.Logic.{ite}
 use lib.ListN.{length-replicate}
 use Rattle.view.specs.declared.View.{View}
 use Rattle.table.specs.Table.{newest, tagOf}
-use Rattle.record.specs.Record.{blank, turned, waiting, closed}
+use Rattle.record.specs.Record.{blank, setWait, waiting, closed}
 use Rattle.record.specs.declared.Node.{Node}
 use Rattle.record.specs.declared.Wait.{Wait}
 use Rattle.record.specs.declared.Wait.the-variants.{Idle}
-use Rattle.node.specs.Move.{opened}
+use Rattle.step.specs.Move.{opened}
 use Rattle.eqaso.specs.Message as M
 use Rattle.eqaso.specs.Algorithm as A
 use Rattle.eqaso.proofs.Bounded.{BoundedNode, newest-by-two}
@@ -48,7 +48,7 @@ turning q w ν = record { all = ν .all; from = ν .from; maxtag = ν .maxtag; g
 
 module _ {n i : ℕ} {ν : A.Node} {c : Node} (F : Follows n i ν c) where
   pub follows-turned : {q q′ : ℕ} → q′ ≡ q → {w : A.Wait} {w′ : Wait} → SameWait n w w′
-      → {v : View} → HoldsRound n v w (ν .all) → Sized v → Follows n i (turning q w ν) (turned c q′ w′ v)
+      → {v : View} → HoldsRound n v w (ν .all) → Sized v → Follows n i (turning q w ν) (setWait c q′ w′ v)
   follows-turned e same {v} h z = record {
     size = F .size;
     own = F .own;

@@ -2,7 +2,7 @@
 -- the same nodes and with the same views, the same ending with its rule and view, and records that follow.
 use Prim.Native.Nat.{ℕ}
 use mathlib.Core.Path.{_≡_}
-use Rattle.node.specs.declared.Step.{Step}
+use Rattle.step.specs.declared.Step.{Step}
 use Rattle.eqaso.specs.Algorithm as A
 use Rattle.refine.specs.Meaning.{sentOf, endingOf}
 use Rattle.refine.specs.Follows.{Follows}

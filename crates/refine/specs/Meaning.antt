@@ -12,12 +12,12 @@ use Rattle.record.specs.declared.Operation.{Operation}
 use Rattle.record.specs.declared.Operation.the-variants.{Update, Scan}
 use Rattle.record.specs.declared.Kind.{Kind}
 use Rattle.record.specs.declared.Kind.the-variants.{Update as UpdateKind, Scan as ScanKind}
-use Rattle.node.specs.declared.Outbox.{Outbox}
-use Rattle.node.specs.declared.Rule.{Rule}
-use Rattle.node.specs.declared.Rule.the-variants.{Direct, Borrowed}
-use Rattle.node.specs.declared.Ending.{Ending}
-use Rattle.node.specs.declared.Ending.the-variants.{None, Done, Scan as Scanned, Spent}
-use Rattle.node.specs.Step.{messages}
+use Rattle.step.specs.declared.Outbox.{Outbox}
+use Rattle.step.specs.declared.Rule.{Rule}
+use Rattle.step.specs.declared.Rule.the-variants.{Direct, Borrowed}
+use Rattle.step.specs.declared.Ending.{Ending}
+use Rattle.step.specs.declared.Ending.the-variants.{None, Done, Scan as Scanned, Spent}
+use Rattle.step.specs.Step.{messages}
 use Rattle.eqaso.specs.Message as M
 use Rattle.eqaso.specs.Algorithm as A
 

@@ -7,7 +7,7 @@ use lib.ListN.{length}
 use lib.Dec.{eqb}
 use Rattle.octets.specs.Test.{pick}
 use Rattle.view.specs.View.{noView}
-use Rattle.node.specs.Told.{shown}
+use Rattle.step.specs.Told.{shown}
 use Rattle.layout.specs.Layout.{stated}
 use Rattle.cluster.specs.Event.{fresh}
 use Rattle.cluster.specs.Outcome.{toldOf}

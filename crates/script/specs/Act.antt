@@ -3,7 +3,7 @@
 use Prim.Native.Nat.{ℕ}
 use mathlib.Core.List.{List}
 use Rattle.record.specs.declared.Operation.the-variants.{Update as UpdateOf, Scan as ScanOf}
-use Rattle.node.specs.Told.{Told, refusal, nothing, done, scan, spent, shown}
+use Rattle.step.specs.Told.{Told, refusal, nothing, done, scan, spent, shown}
 use Rattle.layout.specs.Layout.{stated}
 use Rattle.cluster.specs.declared.Extent.{Extent}
 use Rattle.cluster.specs.declared.Extent.the-variants.{Whole, Cut}

@@ -6,9 +6,9 @@ use native.Mathlib.Omega.{arith}
 use Rattle.octets.specs.Loop.{join}
 use Rattle.octets.specs.Answer.{Answer, result, refused}
 use Rattle.view.specs.declared.View.{View}
-use Rattle.node.specs.declared.Ending.{Ending}
-use Rattle.node.specs.declared.Ending.the-variants.{None, Done, Scan as Scanned, Spent}
-use Rattle.node.specs.Told.{told, shown}
+use Rattle.step.specs.declared.Ending.{Ending}
+use Rattle.step.specs.declared.Ending.the-variants.{None, Done, Scan as Scanned, Spent}
+use Rattle.step.specs.Told.{told, shown}
 use Rattle.layout.specs.Layout.{stated}
 use Rattle.lines.specs.declared.Line.{Line}
 use Rattle.lines.specs.declared.Line.the-variants.{Update, Scan, Deliver, Stop, Bad}

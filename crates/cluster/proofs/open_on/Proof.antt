@@ -10,10 +10,10 @@ use Rattle.octets.specs.Answer.{result}
 use Rattle.octets.specs.Test.{pick}
 use Rattle.view.specs.Size.{limit}
 use Rattle.view.specs.View.{noView}
-use Rattle.node.specs.declared.Ending.the-variants.{None}
+use Rattle.step.specs.declared.Ending.the-variants.{None}
 use Rattle.record.specs.Usable.{full}
 use Rattle.record.specs.declared.Node.{Node}
-use Rattle.node.specs.Move.{begun}
+use Rattle.step.specs.Move.{begun}
 use Rattle.region.specs.Record.{recordOf}
 use Rattle.handlers.proofs.Handling.{sized-of}
 use Rattle.entries.specs.Entries.{entries}

@@ -3,8 +3,8 @@ use borrow.Author.Needs.{needs}
 use mathlib.Core.Path.{sym, ap, _∙_, subst}
 use Prim.Native.Nat.{ℕ}
 use borrow.Author.Tests.{lt-ltb, le-ltb}
-use Rattle.node.specs.Move.{beginStep}
-use Rattle.node.specs.declared.Step.{Step}
+use Rattle.step.specs.Move.{beginStep}
+use Rattle.step.specs.declared.Step.{Step}
 use Rattle.endpoint.specs.Outcome.{tells}
 use Rattle.endpoint.specs.Entry.{letOut}
 use Rattle.endpoint.proofs.Refusals.{begin-12, begin-2, begin-5, begin-6, begin-goes}

@@ -7,9 +7,9 @@ use Rattle.view.specs.declared.View.{View}
 use Rattle.table.specs.Quorum.{faults}
 use Rattle.record.proofs.Parts.{parts}
 use Rattle.table.proofs.Laws.{length-mapped}
-use Rattle.node.specs.Claims.{Long}
-use Rattle.node.specs.Move.{messageStep}
-use Rattle.node.specs.declared.Step.{Step}
+use Rattle.step.specs.Claims.{Long}
+use Rattle.step.specs.Move.{messageStep}
+use Rattle.step.specs.declared.Step.{Step}
 use Rattle.endpoint.specs.Outcome.{tells}
 use Rattle.endpoint.specs.Entry.{letOut}
 use Rattle.endpoint.proofs.Refusals.{taken-9, taken-goes}

@@ -3,7 +3,7 @@ use native.Mathlib.Omega.{arith}
 use Prim.Native.Nat.{ℕ, _+_, _-_}
 use mathlib.Core.Path.{sym, ap, ap₂, _∙_, _≡_}
 use lib.ListN.{take, length}
-use Rattle.node.specs.Step.{listed}
+use Rattle.step.specs.Step.{listed}
 use Rattle.entries.specs.Entries.{entriesOf, goTo}
 use Rattle.entries.proofs.Laws.{three-to}
 use Rattle.entries.proofs.entries_to.Statement.{statement}

@@ -1,6 +1,6 @@
 -- `handlers::is_stale_in` meets its contract.
 use borrow.Author.Needs.{needs}
-use Rattle.node.proofs.Allowed.{writer-from}
+use Rattle.step.proofs.Allowed.{writer-from}
 use Rattle.handlers.proofs.is_stale_in.Statement.{statement}
 use Rattle.handlers.proofs.is_stale_in.Tie as tie
 

@@ -5,12 +5,10 @@ use Prim.Native.Nat.{ℕ, _-_}
 use Rattle.wire.specs.declared.Message.the-variants.{ReadAnswer}
 use Rattle.record.specs.Record.{waiting}
 use Rattle.record.specs.declared.Wait.{Wait}
-use Rattle.node.specs.React.{react}
-use Rattle.node.specs.declared.Sent.the-variants.{One}
-use Rattle.node.proofs.Allowed.{writer-from}
-use Rattle.region.specs.Record.{waitIn, recordOf, recordBytes}
-use Rattle.handlers.specs.Handled.{readWait, writeWait}
-use Rattle.handlers.proofs.Handling.{read-answered, write-answered}
+use Rattle.step.specs.React.{readWait, writeWait, react}
+use Rattle.step.specs.declared.Sent.the-variants.{One}
+use Rattle.step.proofs.Allowed.{writer-from}
+use Rattle.region.specs.Record.{recordOf, recordBytes}
 use Rattle.handlers.proofs.react_in.Statement.{statement}
 use Rattle.handlers.proofs.react_in.Tie as tie
 
@@ -45,8 +43,7 @@ returns-2 c =
     rw (c10 .m2 .given .1) (
       refl,
       c .before .before .waiting-in2 .ensures ∙ ap (λ (w : Wait). recordBytes (waiting (recordOf r) w)) (c3 .read-wait .ensures
-          ∙ ap₂ (λ (w : Wait) (x : ℕ). readWait x (a .s) q t w) (c6 .load-wait2 .ensures) (c3 .before .get-word2 .ensures))
-          ∙ ap recordBytes (read-answered (recordOf r) (a .s) q t (waitIn r) refl),
+          ∙ ap₂ (λ (w : Wait) (x : ℕ). readWait x (a .s) q t w) (c6 .load-wait2 .ensures) (c3 .before .get-word2 .ensures)),
     )
 
 returns-3 : tie.Need-returns-3
@@ -70,8 +67,7 @@ returns-4 c =
     rw (c10 .m4 .given .1) (
       refl,
       c .before .before .waiting-in3 .ensures ∙ ap (λ (w : Wait). recordBytes (waiting (recordOf r) w)) (c3 .write-wait .ensures
-          ∙ ap₂ (λ (w : Wait) (x : ℕ). writeWait x (a .s) q t w) (c6 .load-wait3 .ensures) (c3 .before .get-word3 .ensures))
-          ∙ ap recordBytes (write-answered (recordOf r) (a .s) q t (waitIn r) refl),
+          ∙ ap₂ (λ (w : Wait) (x : ℕ). writeWait x (a .s) q t w) (c6 .load-wait3 .ensures) (c3 .before .get-word3 .ensures)),
     )
 
 returns-5 : tie.Need-returns-5

@@ -7,7 +7,7 @@ use mathlib.Core.Bool.{Bool}
 use lib.Dec.{ltb, leb}
 use Rattle.octets.specs.Test.{both}
 use Rattle.octets.specs.Bytes.{put}
-use Rattle.node.specs.React.{isNew, roundHolds}
+use Rattle.step.specs.React.{isNew, roundHolds}
 use Rattle.region.specs.Record.{scalar, waitIn, recordOf}
 use Rattle.handlers.specs.declared.Head.{Head}
 use Rattle.handlers.specs.Handled.{entered}

@@ -6,11 +6,14 @@ use Rattle.handlers.proofs.stale_in.Tie as tie
 
 returns : tie.Need-returns
 unfolding recordOf
-returns c =
-    let c3 = c .before .before .before in
-    simp (c .or .ensures, c .before .and .ensures, c3 .before .tag-in .ensures, c3 .heard-in .ensures, c .before .before .get-word .ensures)
+returns c = simp (
+  c .is-stale-tag .ensures,
+  c .before .before .before .heard-in .ensures,
+  c .before .before .tag-in .ensures,
+  c .before .get-word .ensures,
+)
 
 pub stale-in-spec : {M : Type 1} → statement M
 stale-in-spec =
     tie.close
-    (tie.spec (λ c κs. search needs) (λ c κs. search needs) (λ c κs. search needs) (λ c κs. search needs) (λ c κs. search needs) returns)
+    (tie.spec (λ c κs. search needs) (λ c κs. search needs) (λ c κs. search needs) (λ c κs. search needs) returns)

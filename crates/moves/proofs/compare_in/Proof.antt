@@ -4,7 +4,7 @@ use borrow.Author.Tests.{le-leb, lt-leb}
 use mathlib.Core.Path.{sym, ap, _∙_}
 use Prim.Native.Nat.{ℕ}
 use lib.Dec.{leb}
-use Rattle.node.specs.Step.{started}
+use Rattle.step.specs.Step.{started}
 use Rattle.region.specs.Record.{recordOf}
 use Rattle.moves.proofs.Cases.{compared-good, compared-failed, compared-not, maxtag-of, agreed-of, as-step}
 use Rattle.moves.proofs.compare_in.Statement.{statement}

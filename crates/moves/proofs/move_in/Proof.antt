@@ -5,9 +5,9 @@ use mathlib.Core.Path.{sym, ap, _∙_}
 use Prim.Native.Nat.{_<_, max}
 use lib.Dec.{leb}
 use Rattle.record.proofs.Parts.{parts}
-use Rattle.node.specs.Step.{started}
-use Rattle.node.proofs.Numbers.{max-most}
-use Rattle.node.proofs.Turns.{reading-most, comparing-most}
+use Rattle.step.specs.Step.{started}
+use Rattle.step.proofs.Numbers.{max-most}
+use Rattle.step.proofs.Turns.{reading-most, comparing-most}
 use Rattle.region.specs.Record.{recordOf}
 use Rattle.moves.proofs.Cases.{read-on, write-on, compare-on, borrow-on, writing-most, as-step, rests}
 use Rattle.moves.proofs.Cases.{wait-of, maxtag-of, kept-of, answered-of}

@@ -5,9 +5,9 @@ use mathlib.Core.List.{List}
 use Rattle.octets.specs.Answer.{result, refused}
 use Rattle.octets.specs.Answer.{Answer as Said}
 use Rattle.view.specs.declared.View.{View}
-use Rattle.node.specs.declared.Ending.{Ending}
-use Rattle.node.specs.declared.Ending.the-variants.{None, Done, Scan, Spent}
-use Rattle.node.specs.Told.{Told, told, shown}
+use Rattle.step.specs.declared.Ending.{Ending}
+use Rattle.step.specs.declared.Ending.the-variants.{None, Done, Scan, Spent}
+use Rattle.step.specs.Told.{Told, told, shown}
 use Rattle.layout.specs.Layout.{stated}
 use Rattle.cluster.specs.declared.Answer.{Answer}
 use Rattle.cluster.specs.Outcome.{said, tells, toldBy, toldOf}

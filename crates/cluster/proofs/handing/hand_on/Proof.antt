@@ -7,9 +7,9 @@ use Rattle.view.specs.View.{viewOf}
 use Rattle.wire.specs.Codec.{viewAt}
 use Rattle.record.specs.Usable.{usable}
 use Rattle.record.specs.declared.Node.{Node}
-use Rattle.node.specs.Move.{moveOn, messageStep}
-use Rattle.node.specs.Step.{started}
-use Rattle.node.proofs.Allowed.{lawful-writer}
+use Rattle.step.specs.Move.{moveOn, messageStep}
+use Rattle.step.specs.Step.{started}
+use Rattle.step.proofs.Allowed.{lawful-writer}
 use Rattle.region.specs.Channel.{first}
 use Rattle.region.specs.Record.{recordOf}
 use Rattle.handlers.proofs.Handling.{sized-view, sized-of, reacted, reacted-n, reacted-bytes, reacted-step}

@@ -9,7 +9,7 @@ use Rattle.octets.proofs.Lent.{lent}
 use Rattle.view.specs.View.{viewOf}
 use Rattle.view.specs.declared.View.{View}
 use Rattle.wire.specs.Codec.{viewAt}
-use Rattle.node.specs.React.{react}
+use Rattle.step.specs.React.{react}
 use Rattle.region.specs.Record.{recordOf, recordBytes}
 use Rattle.layout.specs.Layout.{channel}
 use Rattle.layout.proofs.Blocks.{length-channel, length-first}

@@ -8,7 +8,7 @@ use borrow.Author.Tests.{not-true, not-false}
 use Rattle.octets.specs.Answer.{result}
 use Rattle.octets.specs.Test.{pick}
 use Rattle.view.specs.View.{noView}
-use Rattle.node.specs.declared.Ending.the-variants.{None}
+use Rattle.step.specs.declared.Ending.the-variants.{None}
 use Rattle.region.specs.Record.{recordOf}
 use Rattle.block.specs.Block.{keep, takeOff}
 use Rattle.entries.specs.Entries.{entries}

@@ -6,7 +6,7 @@ use Prim.Native.Nat.{ℕ}
 use native.Mathlib.Nat.{le-of-eq}
 use lib.ListN.{length}
 use Rattle.octets.specs.Bytes.{put}
-use Rattle.node.specs.Step.{messages}
+use Rattle.step.specs.Step.{messages}
 use Rattle.endpoint.specs.Bytes.{run}
 use Rattle.endpoint.proofs.Runs.{front-length, front-most, again-length, front-is, room-of}
 use Rattle.endpoint.proofs.emit.emit_all.Statement.{statement}

@@ -1,7 +1,7 @@
 -- `endpoint::emit::emit_parts` meets its contract. Assumes nothing.
 use borrow.Author.Needs.{needs}
 use mathlib.Core.Path.{_∙_}
-use Rattle.node.specs.Step.{listed}
+use Rattle.step.specs.Step.{listed}
 use Rattle.endpoint.proofs.Runs.{room-as, room-first, room-second, room-third, three-long, three-put}
 use Rattle.endpoint.proofs.emit.emit_parts.Statement.{statement}
 use Rattle.endpoint.proofs.emit.emit_parts.Tie as tie

@@ -5,7 +5,7 @@ use Prim.Native.Nat.{ℕ, _+_}
 use mathlib.Core.Bool.{true, false}
 use lib.Dec.{leb}
 use borrow.Author.Tests.{lt-ltb, le-ltb, le-leb, lt-leb}
-use Rattle.node.specs.Move.{opened}
+use Rattle.step.specs.Move.{opened}
 use Rattle.region.specs.Record.{scalar, recordOf, recordBytes}
 use Rattle.moves.proofs.Turned.{is-step, failed-open, failed-lend, failed-wait}
 use Rattle.moves.proofs.rounds.failed_in.Statement.{statement}

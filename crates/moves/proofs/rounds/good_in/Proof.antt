@@ -3,7 +3,7 @@ use borrow.Author.Needs.{needs}
 use mathlib.Core.Path.{ap, _∙_}
 use Prim.Native.Nat.{ℕ}
 use borrow.Author.Tests.{eq-eqb, ne-eqb}
-use Rattle.node.specs.Move.{opened}
+use Rattle.step.specs.Move.{opened}
 use Rattle.region.specs.Record.{recordOf, recordBytes}
 use Rattle.moves.proofs.Turned.{is-step, places-of, good-open, good-end}
 use Rattle.moves.proofs.rounds.good_in.Statement.{statement}

@@ -5,7 +5,7 @@ use Prim.Native.Nat.{ℕ, _+_}
 use Rattle.octets.specs.Bytes.{put}
 use Rattle.table.specs.Table.{newest}
 use Rattle.record.specs.declared.Wait.the-variants.{Writing}
-use Rattle.node.specs.Move.{opened}
+use Rattle.step.specs.Move.{opened}
 use Rattle.region.specs.Record.{viewIn, recordOf}
 use Rattle.handlers.specs.declared.Head.{Head}
 use Rattle.moves.proofs.Turned.{turned-bytes}

@@ -4,7 +4,7 @@ use Rattle.record.proofs.changes.closed_node.Statement.{statement}
 use Rattle.record.proofs.changes.closed_node.Tie as tie
 
 returns : tie.Need-returns
-returns c = simp (c .turned-node .ensures, c .before .absent .ensures)
+returns c = simp (c .set-wait .ensures, c .before .absent .ensures)
 
 pub closed-node-spec : {M : Type 1} → statement M
 closed-node-spec =

@@ -1,0 +1,12 @@
+-- `step::decide::sent_where` meets its contract. Assumes nothing.
+use borrow.Author.Needs.{needs}
+use Rattle.step.proofs.decide.sent_where.Statement.{statement}
+use Rattle.step.proofs.decide.sent_where.Tie as tie
+
+returns : tie.Need-returns
+returns c = simp (c .if1 .taken)
+
+pub sent-where-spec : {M : Type 1} → statement M
+sent-where-spec =
+    tie.close
+    (tie.spec returns (λ c. search needs))

@@ -1,0 +1,61 @@
+-- The words in which specs/Theorems says what is claimed of a step.
+-- Assumes nothing.
+use mathlib.Core.Path.{_≡_}
+use mathlib.Core.Bool.{Bool, true, false}
+use mathlib.Core.Logic.{_⊎_}
+use mathlib.Core.List.{List, [], _∷_}
+use Prim.Native.Nat.{ℕ, _+_, _<_}
+use lib.Dec.{leb}
+use lib.ListN.{length}
+use Rattle.view.specs.declared.View.{View}
+use Rattle.wire.specs.Layout.{size}
+use Rattle.wire.specs.declared.Message.{Message}
+use Rattle.wire.specs.declared.Message.the-variants.{Echo}
+use Rattle.table.specs.Quorum.{size as setSize, isQuorum, agreeing}
+use Rattle.record.specs.declared.Node.{Node}
+use Rattle.record.specs.declared.Wait.{Wait}
+use Rattle.record.specs.declared.Wait.the-variants.{Idle, Reading, Writing, Comparing, Borrowing}
+use Rattle.step.specs.Allowed.{lawful}
+
+-- the tables that a value is stored in have the length that their type says
+pub record Long (c : Node) : Type 0 where
+  pub last : (length (c .last .tags) ≡ 16) × (length (c .last .reports) ≡ 16)
+  pub atmax : (length (c .atmax .tags) ≡ 16) × (length (c .atmax .reports) ≡ 16)
+  pub atround : (length (c .atround .tags) ≡ 16) × (length (c .atround .reports) ≡ 16)
+
+-- every message of a list is of the layout for n nodes, the good ones with the view v
+abbrev pub AllLawful : ℕ → View → List Message → Type 0
+AllLawful n v [] = Unit {0}
+AllLawful n v (m ∷ ms) = (lawful n m v ≡ true) × AllLawful n v ms
+
+-- how many bytes the messages of a list have together
+abbrev pub sizes : ℕ → List Message → ℕ
+sizes n [] = 0
+sizes n (m ∷ ms) = size n m + sizes n ms
+
+-- the open operation must wait: there is no quorum of what it waits for, or no good message to borrow from
+abbrev pub MustWait : ℕ → Node → Wait → Type 0
+MustWait f c Idle = Unit {0}
+MustWait f c (Reading o a m) = isQuorum (c .n) f (setSize (c .n) a) ≡ false
+MustWait f c (Writing k i r a) = isQuorum (c .n) f (setSize (c .n) a) ≡ false
+MustWait f c (Comparing k i r) = isQuorum (c .n) f (agreeing (c .n) (c .own) (c .heard) (c .atround .tags)) ≡ false
+MustWait f c (Borrowing k r) = leb r (c .kept) ≡ false
+
+-- whether read answers are awaited, or write answers
+abbrev pub isReading : Wait → Bool
+isReading Idle = false
+isReading (Reading o a m) = true
+isReading (Writing k i r a) = false
+isReading (Comparing k i r) = false
+isReading (Borrowing k r) = false
+
+abbrev pub isWriting : Wait → Bool
+isWriting Idle = false
+isWriting (Reading o a m) = false
+isWriting (Writing k i r a) = true
+isWriting (Comparing k i r) = false
+isWriting (Borrowing k r) = false
+
+-- maxtag stays, or it grows and an echo of it is the first message
+abbrev pub Echoed : ℕ → ℕ → List Message → Type 0
+Echoed old new ms = (new ≡ old) ⊎ ((old < new) × ((rest : List Message) × (ms ≡ Echo new ∷ rest)))
