@@ -8,10 +8,10 @@ use Rattle.theory.specs.Count.{count}
 use Rattle.theory.proofs.Count.{count-none}
 use Rattle.theory.specs.Log.{_∈_, push}
 use Rattle.theory.proofs.Log.{push-or}
-use Rattle.eqaso.specs.Message.{Value, Message, read, readAnswer, write, writeAnswer, echo, value, good}
-use Rattle.eqaso.specs.Algorithm.{Operation, update, scan, nobody, Wait, reading, writing, comparing, borrowing}
-use Rattle.eqaso.specs.Algorithm.{Node, Ending, none, done, shown, spent, Step, sending, _then_, react}
-use Rattle.eqaso.specs.Algorithm.{messageStep, beginStep}
+use Rattle.history.specs.Message.{Value, Message, read, readAnswer, write, writeAnswer, echo, value, good}
+use Rattle.history.specs.Event.{Operation, update, scan, Ending, none, done, shown, spent}
+use Rattle.eqaso.specs.Algorithm.{nobody, Wait, reading, writing, comparing, borrowing, Node, Step, sending}
+use Rattle.eqaso.specs.Algorithm.{_then_, react, messageStep, beginStep}
 use Rattle.eqaso.proofs.Read.{readTag}
 use Rattle.eqaso.proofs.Cases.{raise-cases, receive-by, read-cases, write-cases}
 use Rattle.eqaso.proofs.Passes.{Claim, On}

@@ -9,10 +9,11 @@ use Rattle.theory.specs.Update.{upd}
 use Rattle.theory.proofs.Update.{upd-all, upd-map}
 use Rattle.theory.specs.Log.{_∈_, _⊑_, push}
 use Rattle.theory.proofs.Log.{placed, each-at}
-use Rattle.eqaso.specs.Message.{Message, read, readAnswer, write, writeAnswer, echo, value, good}
-use Rattle.eqaso.specs.Algorithm.{Operation, messageStep, beginStep}
-use Rattle.eqaso.specs.Cluster.{Extent, halted}
-use Rattle.eqaso.specs.Order.{OneTo}
+use Rattle.history.specs.Message.{Message, read, readAnswer, write, writeAnswer, echo, value, good}
+use Rattle.history.specs.Event.{Operation, Extent}
+use Rattle.history.specs.Order.{OneTo}
+use Rattle.eqaso.specs.Algorithm.{messageStep, beginStep}
+use Rattle.eqaso.specs.Cluster.{halted}
 use Rattle.eqaso.proofs.Cert.{Log, Logs}
 use Rattle.eqaso.proofs.Local.{Due}
 use Rattle.eqaso.proofs.Meant.{Meant}

@@ -7,9 +7,9 @@ use mathlib.Core.Path.{_≡_, refl, sym, _∙_, ap}
 use mathlib.Core.Bool.{cond, decide}
 use mathlib.Core.List.{List, [], _∷_, _++_, append-assoc}
 use lib.ListN.{length, take, drop, getD}
-use Rattle.eqaso.specs.Algorithm.{Ending, none, done, shown, spent}
-use Rattle.eqaso.specs.Trace.{Seen, Trace, handler, endingAt, Fate, unfinished, ended, fateBy, firstEnding}
-use Rattle.eqaso.specs.Trace.{tagsSent, ownTags}
+use Rattle.history.specs.Event.{Ending, none, done, shown, spent}
+use Rattle.history.specs.Trace.{Seen, Trace, handler, endingAt, Fate, unfinished, ended, fateBy, firstEnding, tagsSent}
+use Rattle.history.specs.Trace.{ownTags}
 
 module _ {A : Type 0} where
   pub getD-last : (l : List A) (x d : A) → getD (l ++ (x ∷ [])) (length l) d ≡ x

@@ -6,9 +6,10 @@ use Rattle.theory.specs.Update.{upd}
 use Rattle.theory.proofs.Update.{upd-same, upd-all}
 use Rattle.theory.specs.Log.{_∈_, _⊑_}
 use Rattle.theory.proofs.Log.{⊑-cons, placed}
-use Rattle.eqaso.specs.Message.{Value, Message, read, readAnswer, write, writeAnswer, echo, value, good}
-use Rattle.eqaso.specs.Algorithm.{Operation, idle}
-use Rattle.eqaso.specs.Order.{OneTo}
+use Rattle.history.specs.Message.{Value, Message, read, readAnswer, write, writeAnswer, echo, value, good}
+use Rattle.history.specs.Event.{Operation}
+use Rattle.history.specs.Order.{OneTo}
+use Rattle.eqaso.specs.Algorithm.{idle}
 use Rattle.eqaso.proofs.Cert.{Log}
 use Rattle.eqaso.proofs.Local.{Past, Local}
 use Rattle.eqaso.proofs.Change.{handing}

@@ -6,10 +6,11 @@ use mathlib.Core.Bool.{Bool, false}
 use lib.ListN.{length}
 use Rattle.theory.specs.Update.{upd}
 use Rattle.theory.proofs.Update.{upd-same}
-use Rattle.eqaso.specs.Algorithm.{Operation, update, scan, Ending, none, Step, beginStep}
-use Rattle.eqaso.specs.Cluster.{Extent, begin, accepted, entries, letOut, halted, given}
-use Rattle.eqaso.specs.Trace.{Seen, Trace, begunBy}
-use Rattle.eqaso.specs.Order.{OneTo}
+use Rattle.history.specs.Event.{Operation, update, scan, Ending, none, Extent, begin, accepted}
+use Rattle.history.specs.Trace.{Seen, Trace, begunBy}
+use Rattle.history.specs.Order.{OneTo}
+use Rattle.eqaso.specs.Algorithm.{Step, beginStep}
+use Rattle.eqaso.specs.Cluster.{entries, letOut, halted, given}
 use Rattle.eqaso.proofs.Cert.{Logs}
 use Rattle.eqaso.proofs.Front.{front-in}
 use Rattle.eqaso.proofs.Sites.{Site, Sites, logs, begun}

@@ -6,7 +6,7 @@ use mathlib.Core.Logic.{_⊎_, inl, inr}
 use mathlib.Core.List.{List, [], _∷_, _++_, List·Memᴰ·head, List·Memᴰ·tail, nil≢cons}
 use Rattle.theory.specs.Log.{_∈_, _⊑_, here, more, push}
 use Rattle.theory.proofs.Log.{⊑-trans, ⊑-cons, placed, push-append, push-up, push-new, push-or}
-use Rattle.eqaso.specs.Message.{Message}
+use Rattle.history.specs.Message.{Message}
 use Rattle.eqaso.proofs.Cert.{Log}
 use Rattle.eqaso.proofs.Meant.{Meant, Others, whose, keep-by, pick, pick-append, pick-in, pick-of}
 

@@ -3,7 +3,7 @@
 use Prim.Native.Nat.{ℕ}
 use mathlib.Core.Path.{_≡_}
 use Rattle.theory.specs.Update.{upd}
-use Rattle.eqaso.specs.Trace.{Trace, Begun, nothing, updating, scanning, begun, Fate, unfinished, fate, tagAt}
+use Rattle.history.specs.Trace.{Trace, Begun, nothing, updating, scanning, begun, Fate, unfinished, fate, tagAt}
 
 pub record Book : Type 0 where
   pub begun : ℕ → Begun

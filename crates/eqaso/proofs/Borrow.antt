@@ -11,10 +11,10 @@ use Rattle.theory.proofs.Count.{meet}
 use Rattle.theory.specs.Update.{upd}
 use Rattle.theory.specs.Log.{_∈_, _⊑_}
 use Rattle.theory.proofs.Log.{comparable, mem-up}
-use Rattle.eqaso.specs.Message.{Value, View, value}
-use Rattle.eqaso.specs.Algorithm.{Operation, update, scan, round3, Wait, idle, reading, writing, comparing}
-use Rattle.eqaso.specs.Algorithm.{borrowing, Good, Node, still, ended, waiting, borrowed, finish, kept}
-use Rattle.eqaso.specs.Algorithm.{borrowPass}
+use Rattle.history.specs.Message.{Value, View, value}
+use Rattle.history.specs.Event.{Operation, update, scan, round3, borrowed}
+use Rattle.eqaso.specs.Algorithm.{Wait, idle, reading, writing, comparing, borrowing, Good, Node, still, ended}
+use Rattle.eqaso.specs.Algorithm.{waiting, finish, kept, borrowPass}
 use Rattle.eqaso.proofs.Cert.{Log, Logs, Cert, carry, below}
 use Rattle.eqaso.proofs.Local.{Past, Own, Settled, Known, Spread, Stage, Local}
 use Rattle.eqaso.proofs.Grow.{upd-longer, settled-up}

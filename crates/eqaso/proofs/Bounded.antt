@@ -8,9 +8,9 @@ use mathlib.Core.Logic.{_⊎_, inl, inr, _↔_, ite}
 use mathlib.Core.Bool.{Bool, true, decide, decide-iff, _&&_}
 use mathlib.Core.List.{List, [], _∷_, List·Memᴰ·head, List·Memᴰ·tail}
 use Rattle.theory.specs.Log.{_∈_}
-use Rattle.eqaso.specs.Message.{Value}
+use Rattle.history.specs.Message.{Value}
+use Rattle.history.specs.Order.{OneTo}
 use Rattle.eqaso.specs.Algorithm.{Node, newest, within, agrees}
-use Rattle.eqaso.specs.Order.{OneTo}
 pub use Rattle.eqaso.specs.Bounded.{UpTo, Bounded, BoundedNode, Arrives}
 use Rattle.eqaso.proofs.Sets.{or-cases, or-left, or-right, and-both, and-of, within-to, within-of}
 use Rattle.eqaso.proofs.Newest.{entry, newest-value, newest-above, newest-same, newest-then}

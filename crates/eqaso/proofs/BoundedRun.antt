@@ -5,10 +5,11 @@ use mathlib.Core.Logic.{_⊎_, inl, inr}
 use mathlib.Core.Bool.{Bool, false}
 use mathlib.Core.List.{List, _∷_}
 use Rattle.theory.specs.Log.{_∈_}
-use Rattle.eqaso.specs.Message.{Value, Message, value}
-use Rattle.eqaso.specs.Algorithm.{Operation, Round, comparing, Node}
-use Rattle.eqaso.specs.Cluster.{Event, Cluster, start, after}
-use Rattle.eqaso.specs.Order.{OneTo}
+use Rattle.history.specs.Message.{Value, Message, value}
+use Rattle.history.specs.Event.{Operation, Round, Event}
+use Rattle.history.specs.Order.{OneTo}
+use Rattle.eqaso.specs.Algorithm.{comparing, Node}
+use Rattle.eqaso.specs.Cluster.{Cluster, start, after, trace}
 use Rattle.eqaso.proofs.Cert.{Log, Logs}
 use Rattle.eqaso.proofs.Local.{Past, Pending, Local}
 use Rattle.eqaso.proofs.Sites.{logs}
@@ -17,7 +18,6 @@ use Rattle.eqaso.proofs.Arrival.{expected}
 use Rattle.eqaso.proofs.Channel.{fits-hand}
 use Rattle.eqaso.proofs.Bounded.{BoundedNode}
 use Rattle.eqaso.specs.Bounded.{Expected}
-use Rattle.eqaso.specs.Trace.{trace}
 use Rattle.eqaso.proofs.Good.{Good, coming}
 use Rattle.eqaso.proofs.Run.{good}
 

@@ -7,8 +7,9 @@ use mathlib.Core.List.{List, [], _∷_, List·Memᴰ·head, List·Memᴰ·tail}
 use Rattle.theory.specs.Update.{upd}
 use Rattle.theory.proofs.Update.{upd-all}
 use Rattle.theory.specs.Log.{_∈_}
-use Rattle.eqaso.specs.Message.{Value, Message, read, readAnswer, write, writeAnswer, echo, value, good}
-use Rattle.eqaso.specs.Algorithm.{Operation, Node, sending, _then_, react, messageStep, beginStep}
+use Rattle.history.specs.Message.{Value, Message, read, readAnswer, write, writeAnswer, echo, value, good}
+use Rattle.history.specs.Event.{Operation}
+use Rattle.eqaso.specs.Algorithm.{Node, sending, _then_, react, messageStep, beginStep}
 use Rattle.eqaso.specs.Bounded.{Expected, UpTo}
 use Rattle.eqaso.proofs.Cert.{Log}
 use Rattle.eqaso.proofs.Cases.{raise-by, receive-by, read-cases, write-cases}

@@ -8,10 +8,10 @@ use mathlib.Core.Bool.{Bool, true, false, true≢false, cond}
 use mathlib.Core.List.{List, [], _∷_}
 use Rattle.theory.specs.Update.{upd}
 use Rattle.theory.specs.Log.{_∈_}
-use Rattle.eqaso.specs.Message.{Value, echo, value}
-use Rattle.eqaso.specs.Algorithm.{Operation, Round, Nodes, Wait, idle, reading, writing, comparing, borrowing}
-use Rattle.eqaso.specs.Algorithm.{Node, Step, still, sending, waiting, has, receive, raise, readAnswered}
-use Rattle.eqaso.specs.Algorithm.{writeAnswered}
+use Rattle.history.specs.Message.{Value, echo, value}
+use Rattle.history.specs.Event.{Operation, Round}
+use Rattle.eqaso.specs.Algorithm.{Nodes, Wait, idle, reading, writing, comparing, borrowing, Node, Step, still}
+use Rattle.eqaso.specs.Algorithm.{sending, waiting, has, receive, raise, readAnswered, writeAnswered}
 use Rattle.eqaso.specs.Node.{topping, holding}
 use Rattle.eqaso.proofs.Sets.{has-to, has-of}
 

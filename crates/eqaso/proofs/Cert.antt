@@ -10,7 +10,7 @@ use Rattle.theory.specs.Count.{count}
 use Rattle.theory.proofs.Count.{meet}
 use Rattle.theory.specs.Log.{_∈_, _⊑_}
 use Rattle.theory.proofs.Log.{⊑-trans, mem-up, comparable}
-use Rattle.eqaso.specs.Message.{Value, Message, read, readAnswer, write, writeAnswer, echo, value, good}
+use Rattle.history.specs.Message.{Value, Message, read, readAnswer, write, writeAnswer, echo, value, good}
 
 -- Everything that a node ever sent, newest first; and that of all nodes.
 abbrev pub Log : Type 0

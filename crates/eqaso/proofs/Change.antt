@@ -11,9 +11,10 @@ use Rattle.theory.specs.Update.{upd}
 use Rattle.theory.proofs.Update.{upd-all}
 use Rattle.theory.specs.Log.{_∈_, _⊑_, here, more}
 use Rattle.theory.proofs.Log.{mem-up, cons-or}
-use Rattle.eqaso.specs.Message.{Value, View, Message, read, readAnswer, write, writeAnswer, echo, value, good}
-use Rattle.eqaso.specs.Algorithm.{Operation, Round, Wait, idle, reading, writing, comparing, borrowing, Node}
-use Rattle.eqaso.specs.Algorithm.{topping, holding, waiting, keep}
+use Rattle.history.specs.Message.{Value, View, Message, read, readAnswer, write, writeAnswer, echo, value, good}
+use Rattle.history.specs.Event.{Operation, Round}
+use Rattle.eqaso.specs.Algorithm.{Wait, idle, reading, writing, comparing, borrowing, Node, topping, holding}
+use Rattle.eqaso.specs.Algorithm.{waiting, keep}
 use Rattle.eqaso.proofs.Cert.{Log, Logs, _≼_}
 use Rattle.eqaso.proofs.Local.{Past, Took, Pending, Settled, Known, Due, Olds, Have, Stage, Phase, Local}
 use Rattle.eqaso.proofs.Grow.{held-up}

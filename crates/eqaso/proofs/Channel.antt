@@ -10,9 +10,10 @@ use Rattle.theory.specs.Update.{upd, upd2}
 use Rattle.theory.proofs.Update.{upd-same, upd-other, upd-self, upd-all, upd-both, upd2-both}
 use Rattle.theory.specs.Log.{_⊑_, here, push}
 use Rattle.theory.proofs.Log.{⊑-trans, push-up}
-use Rattle.eqaso.specs.Message.{Message}
-use Rattle.eqaso.specs.Cluster.{Extent, whole, cut, Sent, entries, letOut, sentTo, halted, channels}
-use Rattle.eqaso.specs.Order.{OneTo}
+use Rattle.history.specs.Message.{Message}
+use Rattle.history.specs.Event.{Extent, whole, cut, Sent, sentTo}
+use Rattle.history.specs.Order.{OneTo}
+use Rattle.eqaso.specs.Cluster.{entries, letOut, halted, channels}
 use Rattle.eqaso.proofs.Cert.{Logs}
 use Rattle.eqaso.proofs.Between.{Between, nothing-between, between-more, Handed, hand-over, handed-at}
 use Rattle.eqaso.proofs.Front.{first, front, front-is, front-up}

@@ -5,13 +5,15 @@ use mathlib.Core.Bool.{Bool}
 use mathlib.Core.List.{List, [], List·Memᴰ·head, Memᴰ·append-right}
 use Rattle.theory.specs.Log.{_∈_}
 use Rattle.theory.proofs.Log.{⊑-trans, ⊑-cons, mem-up, place, each-at}
-use Rattle.eqaso.specs.Message.{Value, View, value, good}
-use Rattle.eqaso.specs.Cluster.{Event, unlimited, start, after}
-use Rattle.eqaso.specs.Trace.{trace, letOutTo}
+use Rattle.history.specs.Message.{Value, View, value, good}
+use Rattle.history.specs.Event.{Event}
+use Rattle.history.specs.Trace.{letOutTo}
+use Rattle.history.specs.Tags.{TagsAsWorded}
+use Rattle.history.specs.Views.{RoundsComparable, ShowsAbsence, HasEarlier}
+use Rattle.eqaso.specs.Cluster.{unlimited, start, after, trace}
+use Rattle.eqaso.specs.Claims.{sixteen, Claim3, OnLinks, SpentLast, BeginsOpen}
 use Rattle.eqaso.specs.Bounded.{RunBounded, RunExpected, OwnHeld, OpensHigh, LetOut, InitialSegment}
 use Rattle.eqaso.specs.Bounded.{RunClosed, RunRising}
-use Rattle.eqaso.specs.Claims.{sixteen, Claim3, OnLinks, TagsAsWorded, RoundsComparable, ShowsAbsence}
-use Rattle.eqaso.specs.Claims.{HasEarlier, SpentLast, BeginsOpen}
 use Rattle.eqaso.proofs.Cert.{carry}
 use Rattle.eqaso.proofs.Local.{Due}
 use Rattle.eqaso.proofs.Grow.{upd-shorter}

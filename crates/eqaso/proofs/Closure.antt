@@ -10,8 +10,9 @@ use mathlib.Core.List.{List, _∷_, List·Memᴰ·tail}
 use Rattle.theory.proofs.Count.{meet}
 use Rattle.theory.specs.Log.{_∈_, _⊑_, here, Each}
 use Rattle.theory.proofs.Log.{⊑-trans, mem-up, comparable, cons-or, place, placed, each-at}
-use Rattle.eqaso.specs.Message.{Value, absent, value}
-use Rattle.eqaso.specs.Algorithm.{Operation, update, scan, round0, Wait, writing, Node, newest}
+use Rattle.history.specs.Message.{Value, absent, value}
+use Rattle.history.specs.Event.{Operation, update, scan, round0}
+use Rattle.eqaso.specs.Algorithm.{Wait, writing, Node, newest}
 use Rattle.eqaso.specs.Bounded.{UpTo}
 use Rattle.eqaso.proofs.Cert.{Log, Logs, Inside, Cert}
 use Rattle.eqaso.proofs.Local.{Past, ValueDue, Pending, Due, Olds, Local}

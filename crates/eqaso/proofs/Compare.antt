@@ -14,9 +14,9 @@ use Rattle.theory.specs.Update.{upd}
 use Rattle.theory.proofs.Update.{upd-all}
 use Rattle.theory.specs.Log.{_∈_, _⊑_, here}
 use Rattle.theory.proofs.Log.{⊑-trans, mem-up}
-use Rattle.eqaso.specs.Message.{Value, of, echo, value, good}
-use Rattle.eqaso.specs.Algorithm.{Operation, update, Round, Wait, idle, comparing, Node, waiting, agrees}
-use Rattle.eqaso.specs.Algorithm.{viewUpto}
+use Rattle.history.specs.Message.{Value, of, echo, value, good}
+use Rattle.history.specs.Event.{Operation, update, Round}
+use Rattle.eqaso.specs.Algorithm.{Wait, idle, comparing, Node, waiting, agrees, viewUpto}
 use Rattle.eqaso.proofs.Cert.{Log, Logs, echoed-up, Inside, Cert, carry}
 use Rattle.eqaso.proofs.Local.{Past, Own, Held, Settled, Spread, Stage, Wrote, Compares, Local}
 use Rattle.eqaso.proofs.Grow.{≼-refl, upd-up, upd-longer}

@@ -5,15 +5,15 @@ use native.Mathlib.Decide.{ℕ-discrete}
 use native.Mathlib.Omega.{arith}
 use mathlib.Core.Path.{_≡_, _∙_, subst}
 use Rattle.order.specs.Sequence.{before}
-use Rattle.eqaso.specs.Message.{absent}
-use Rattle.eqaso.specs.Algorithm.{done, spent}
-use Rattle.eqaso.specs.Trace.{Trace, Begun, updating, scanning, begun, Fate, unfinished, ended, fate, tagAt}
-use Rattle.eqaso.specs.Trace.{viewOf, entryAt}
-use Rattle.eqaso.specs.Order.{OneTo, Finished, IsScan, PlacedBy, EndedBefore, SingleOrder}
-use Rattle.eqaso.specs.Claims.{HasView, viewIn}
+use Rattle.history.specs.Message.{absent}
+use Rattle.history.specs.Event.{done, spent}
+use Rattle.history.specs.Trace.{Trace, Begun, updating, scanning, begun, Fate, unfinished, ended, fate, tagAt, viewOf}
+use Rattle.history.specs.Trace.{entryAt}
+use Rattle.history.specs.Order.{OneTo, Finished, IsScan, PlacedBy, EndedBefore, SingleOrder}
+use Rattle.history.specs.Views.{HasView, viewIn}
+use Rattle.history.proofs.Written.{written-none}
 use Rattle.eqaso.proofs.Book.{tagOf, bookOf}
 use Rattle.eqaso.proofs.Facts.{Fit}
-use Rattle.eqaso.proofs.Written.{written-none}
 use Rattle.eqaso.proofs.Items.{own-view}
 use Rattle.eqaso.proofs.Kept.{Kept}
 

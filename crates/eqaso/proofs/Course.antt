@@ -9,10 +9,11 @@ use Rattle.theory.specs.Count.{count}
 use Rattle.theory.proofs.Count.{count-none}
 use Rattle.theory.specs.Log.{_∈_, push}
 use Rattle.theory.proofs.Log.{push-new}
-use Rattle.eqaso.specs.Message.{Value, of, View, Message, write, value, good}
-use Rattle.eqaso.specs.Algorithm.{Operation, update, scan, Rule, direct, borrowed, Round, round0, round1, round3}
-use Rattle.eqaso.specs.Algorithm.{Nodes, nobody, Wait, idle, reading, writing, comparing, borrowing, Node, Ending}
-use Rattle.eqaso.specs.Algorithm.{none, done, shown, spent, waiting, quorum?, finish}
+use Rattle.history.specs.Message.{Value, of, View, Message, write, value, good}
+use Rattle.history.specs.Event.{Operation, update, scan, Rule, direct, borrowed, Round, round0, round1, round3, Ending}
+use Rattle.history.specs.Event.{none, done, shown, spent}
+use Rattle.eqaso.specs.Algorithm.{Nodes, nobody, Wait, idle, reading, writing, comparing, borrowing, Node}
+use Rattle.eqaso.specs.Algorithm.{waiting, quorum?, finish}
 use Rattle.eqaso.proofs.Cert.{Log, IsValue, value≢write}
 use Rattle.eqaso.proofs.Read.{readTag}
 use Rattle.eqaso.proofs.Passes.{Claim}

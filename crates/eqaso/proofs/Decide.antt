@@ -5,11 +5,11 @@ use native.Mathlib.Omega.{arith}
 use mathlib.Core.Path.{_≡_, ap, subst}
 use lib.ListN.{length}
 use Rattle.order.proofs.Select.{some-below}
-use Rattle.eqaso.specs.Message.{Entry}
-use Rattle.eqaso.specs.Algorithm.{none, done, shown, spent}
-use Rattle.eqaso.specs.Trace.{Trace, Begun, nothing, updating, scanning, begun, Fate, unfinished, ended, fate}
-use Rattle.eqaso.specs.Trace.{tagAt, viewOf, entryAt}
-use Rattle.eqaso.specs.Order.{Finished, IsScan, Shows, PlacedBy, Placed}
+use Rattle.history.specs.Message.{Entry}
+use Rattle.history.specs.Event.{none, done, shown, spent}
+use Rattle.history.specs.Trace.{Trace, Begun, nothing, updating, scanning, begun, Fate, unfinished, ended, fate, tagAt}
+use Rattle.history.specs.Trace.{viewOf, entryAt}
+use Rattle.history.specs.Order.{Finished, IsScan, Shows, PlacedBy, Placed}
 use Rattle.eqaso.proofs.Extend.{begun-past}
 
 scan? : (b : Begun) → Dec (IsScan b)

@@ -7,11 +7,12 @@ use lib.ListN.{length}
 use Rattle.theory.specs.Count.{count}
 use Rattle.theory.specs.Update.{upd}
 use Rattle.theory.specs.Log.{_∈_, push}
-use Rattle.eqaso.specs.Message.{Value, Message, value}
-use Rattle.eqaso.specs.Algorithm.{none, Step, messageStep}
-use Rattle.eqaso.specs.Cluster.{Extent, deliver, accepted, entries, letOut, halted, given}
-use Rattle.eqaso.specs.Trace.{Seen, Trace}
-use Rattle.eqaso.specs.Order.{OneTo}
+use Rattle.history.specs.Message.{Value, Message, value}
+use Rattle.history.specs.Event.{none, Extent, deliver, accepted}
+use Rattle.history.specs.Trace.{Seen, Trace}
+use Rattle.history.specs.Order.{OneTo}
+use Rattle.eqaso.specs.Algorithm.{Step, messageStep}
+use Rattle.eqaso.specs.Cluster.{entries, letOut, halted, given}
 use Rattle.eqaso.proofs.Cert.{Log, Logs, _≼_}
 use Rattle.eqaso.proofs.Front.{front, front-in}
 use Rattle.eqaso.proofs.Sites.{Site, Sites, logs, handed, Comes}

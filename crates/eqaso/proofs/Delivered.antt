@@ -3,11 +3,11 @@ use Prim.Native.Nat.{ℕ, _+_, _<_}
 use mathlib.Core.Path.{_≡_, refl, sym, _∙_, ap, subst}
 use mathlib.Core.Logic.{inl, inr}
 use mathlib.Core.Bool.{Bool}
-use Rattle.eqaso.specs.Message.{View, Message}
-use Rattle.eqaso.specs.Algorithm.{Operation, update, scan, Wait, idle, reading, writing, comparing, borrowing}
-use Rattle.eqaso.specs.Algorithm.{Rule, Ending, none, done, shown, spent}
-use Rattle.eqaso.specs.Cluster.{Extent, whole, cut, given}
-use Rattle.eqaso.specs.Trace.{Trace}
+use Rattle.history.specs.Message.{View, Message}
+use Rattle.history.specs.Event.{Operation, update, scan, Rule, Ending, none, done, shown, spent, Extent, whole, cut}
+use Rattle.history.specs.Trace.{Trace}
+use Rattle.eqaso.specs.Algorithm.{Wait, idle, reading, writing, comparing, borrowing}
+use Rattle.eqaso.specs.Cluster.{given}
 use Rattle.eqaso.proofs.Cert.{Log, Logs}
 use Rattle.eqaso.proofs.Local.{Past, Phase}
 use Rattle.eqaso.proofs.Sites.{Sites}

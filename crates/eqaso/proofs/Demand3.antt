@@ -2,7 +2,7 @@
 -- its operations, and nothing is left open where no message waits for a standing node.
 use Prim.Native.Nat.{ℕ, _+_, _<_}
 use mathlib.Core.Bool.{Bool}
-use Rattle.eqaso.specs.Order.{Demand3}
+use Rattle.eqaso.specs.Claims.{Demand3}
 use Rattle.eqaso.proofs.OneOrder.{one-order}
 use Rattle.eqaso.proofs.Quiet.{quiet}
 

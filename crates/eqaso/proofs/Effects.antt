@@ -12,12 +12,12 @@ use Rattle.theory.proofs.Count.{count-one}
 use Rattle.theory.specs.Update.{upd, upd2, upd-by}
 use Rattle.theory.proofs.Update.{upd-other, upd2-same, upd2-other}
 use Rattle.theory.specs.Log.{_∈_}
-use Rattle.eqaso.specs.Message.{Message}
+use Rattle.history.specs.Message.{Message}
+use Rattle.history.specs.Event.{Extent, whole, cut, Event, Sent, sentTo}
+use Rattle.history.specs.Trace.{Seen, stopsBy, handedIn}
+use Rattle.history.specs.Order.{OneTo}
+use Rattle.eqaso.specs.Cluster.{entries, letOut, Cluster, refuse, halted, seen, channels}
 use Rattle.eqaso.specs.Algorithm.{Node, beginStep, messageStep}
-use Rattle.eqaso.specs.Cluster.{Extent, whole, cut, Event, Sent, entries, letOut, sentTo, Cluster, refuse, halted}
-use Rattle.eqaso.specs.Cluster.{channels}
-use Rattle.eqaso.specs.Trace.{Seen, seen, stopsBy, handedIn}
-use Rattle.eqaso.specs.Order.{OneTo}
 use Rattle.eqaso.proofs.Reach.{Reaches, sent-reach}
 use Rattle.eqaso.proofs.Happened.{Happened, refusal, began, delivered, ceased, Handles, outcome}
 use Rattle.eqaso.proofs.Channel.{Channels, channels-from, channels-other}

@@ -7,17 +7,17 @@ use mathlib.Core.List.{[]}
 use Rattle.theory.specs.Count.{count}
 use Rattle.theory.proofs.Count.{count-not}
 use Rattle.theory.specs.Log.{_∈_}
-use Rattle.eqaso.specs.Message.{Message, good}
+use Rattle.history.specs.Message.{Message, good}
+use Rattle.history.specs.Trace.{Trace}
+use Rattle.history.specs.Order.{OneTo}
 use Rattle.eqaso.specs.Algorithm.{Wait, idle, reading, writing, comparing, borrowing}
 use Rattle.eqaso.specs.Cluster.{Cluster}
-use Rattle.eqaso.specs.Order.{OneTo}
 use Rattle.eqaso.proofs.Meant.{Meant}
 use Rattle.eqaso.proofs.Sets.{not-true}
 use Rattle.eqaso.proofs.Between.{Between, all-handed}
 use Rattle.eqaso.proofs.Sites.{logs}
 use Rattle.eqaso.proofs.Mark.{Low}
 use Rattle.eqaso.proofs.Standstill.{Lent, Drained, no-wait}
-use Rattle.eqaso.specs.Trace.{Trace}
 use Rattle.eqaso.proofs.Good.{Good, gots}
 
 module _ {n f : ℕ} {σ : Cluster} {tr : Trace} (half : f + f < n) (R : Good n f σ tr) (few : count (σ .stopped) n ≤ f)

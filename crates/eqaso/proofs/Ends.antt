@@ -6,11 +6,10 @@ use mathlib.Core.List.{List}
 use lib.ListN.{length}
 use Rattle.theory.specs.Update.{upd}
 use Rattle.theory.specs.Log.{_∈_}
-use Rattle.eqaso.specs.Message.{Value, of, View, Message, value}
-use Rattle.eqaso.specs.Algorithm.{Operation, update, scan, Rule, Ending, done, shown, spent}
-use Rattle.eqaso.specs.Cluster.{whole}
-use Rattle.eqaso.specs.Trace.{Trace, updating, scanning, ended}
-use Rattle.eqaso.specs.Order.{OneTo, EndedBefore}
+use Rattle.history.specs.Message.{Value, of, View, Message, value}
+use Rattle.history.specs.Event.{Operation, update, scan, Rule, Ending, done, shown, spent, whole}
+use Rattle.history.specs.Trace.{Trace, updating, scanning, ended}
+use Rattle.history.specs.Order.{OneTo, EndedBefore}
 use Rattle.eqaso.proofs.Cert.{Log, Logs}
 use Rattle.eqaso.proofs.Sets.{not-true}
 use Rattle.eqaso.proofs.Front.{front-in}

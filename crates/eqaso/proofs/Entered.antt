@@ -9,9 +9,9 @@ use mathlib.Core.List.{[], _∷_, _++_}
 use lib.ListN.{length, take, length-append}
 use Rattle.theory.specs.Log.{_∈_}
 use Rattle.theory.proofs.Update.{upd-all}
-use Rattle.eqaso.specs.Algorithm.{Ending, none, done, shown, spent}
-use Rattle.eqaso.specs.Trace.{Seen, Trace, handler, Begun, nothing, updating, scanning, begun, endingAt}
-use Rattle.eqaso.specs.Trace.{unfinished, ended, fateBy, fateAt, fateOf, fate, upToEnd, ownTags, largest, tagAt}
+use Rattle.history.specs.Event.{Ending, none, done, shown, spent}
+use Rattle.history.specs.Trace.{Seen, Trace, handler, Begun, nothing, updating, scanning, begun, endingAt, unfinished}
+use Rattle.history.specs.Trace.{ended, fateBy, fateAt, fateOf, fate, upToEnd, ownTags, largest, tagAt}
 use Rattle.eqaso.proofs.Book.{tagOf, bookOf, begins, tags, ends, At, OpenAt}
 use Rattle.eqaso.proofs.Tags.{largest-above, largest-below, first-low, first-next, first-only}
 use Rattle.eqaso.proofs.Append.{orElse}

@@ -9,10 +9,11 @@ use mathlib.Core.Bool.{cond, decide}
 use mathlib.Core.List.{List, [], _∷_, _++_}
 use lib.ListN.{length, take, length-append}
 use lib.Seq.{take-nil, take-all, take-append-le}
-use Rattle.eqaso.specs.Message.{Message}
+use Rattle.history.specs.Message.{Message}
+use Rattle.history.specs.Event.{Sent, sentTo}
+use Rattle.history.specs.Order.{OneTo}
+use Rattle.eqaso.specs.Cluster.{Address, one, all, address, entriesTo, addressed}
 use Rattle.eqaso.specs.Algorithm.{table}
-use Rattle.eqaso.specs.Cluster.{Sent, Address, one, all, address, entriesTo, addressed, sentTo}
-use Rattle.eqaso.specs.Order.{OneTo}
 use Rattle.eqaso.proofs.Meant.{by-number, whose-by, keep-by, pick}
 
 -- Message m to node b.

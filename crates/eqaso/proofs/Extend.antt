@@ -4,9 +4,9 @@ use native.Mathlib.Omega.{arith}
 use mathlib.Core.Path.{_≡_, refl, sym, _∙_, ap, subst}
 use mathlib.Core.List.{List, [], _∷_, _++_}
 use lib.ListN.{length, take, drop, length-append, length-drop, List·getD-append, List·getD-eq-default}
-use Rattle.eqaso.specs.Algorithm.{Ending, none, done, shown, spent}
-use Rattle.eqaso.specs.Trace.{Seen, nothingSeen, Trace, nothing, begunBy, begun, endingAt, unfinished, ended}
-use Rattle.eqaso.specs.Trace.{fateBy, firstEnding, fateAt, upToEnd, ownTags, largest, firstAbove, tagAt}
+use Rattle.history.specs.Event.{Ending, none, done, shown, spent}
+use Rattle.history.specs.Trace.{Seen, nothingSeen, Trace, nothing, begunBy, begun, endingAt, unfinished, ended, fateBy}
+use Rattle.history.specs.Trace.{firstEnding, fateAt, upToEnd, ownTags, largest, firstAbove, tagAt}
 use Rattle.eqaso.proofs.Append.{getD-last, drop-append, drop-length, take-append, take-all, orElse}
 use Rattle.eqaso.proofs.Append.{ending-append, Inside, ending-inside, own-append}
 

@@ -4,11 +4,11 @@ use Prim.Native.Nat.{ℕ, _≤_, _<_}
 use mathlib.Core.Path.{_≡_}
 use mathlib.Core.Logic.{_⊎_}
 use lib.ListN.{length}
-use Rattle.eqaso.specs.Message.{Entry, absent, View}
-use Rattle.eqaso.specs.Algorithm.{none, done, shown, spent}
-use Rattle.eqaso.specs.Trace.{Begun, nothing, updating, scanning, Fate, unfinished, ended, entryAt}
-use Rattle.eqaso.specs.Order.{OneTo, EndedBefore}
-use Rattle.eqaso.specs.Claims.{HasView, viewIn, Below, Comparable}
+use Rattle.history.specs.Message.{Entry, absent, View}
+use Rattle.history.specs.Event.{none, done, shown, spent}
+use Rattle.history.specs.Trace.{Begun, nothing, updating, scanning, Fate, unfinished, ended, entryAt}
+use Rattle.history.specs.Order.{OneTo, EndedBefore}
+use Rattle.history.specs.Views.{HasView, viewIn, Below, Comparable}
 use Rattle.eqaso.proofs.Book.{Book, At}
 
 -- What a view has of node w: nothing, or the tag and report of an update of w.

@@ -9,11 +9,11 @@ use mathlib.Core.Logic.{ite}
 use mathlib.Core.List.{[], _∷_, List·Memᴰ·tail}
 use Rattle.theory.specs.Count.{count}
 use Rattle.theory.specs.Log.{here, more}
-use Rattle.eqaso.specs.Message.{of, value, good}
-use Rattle.eqaso.specs.Algorithm.{Operation, update, scan, Round, round0, round1, round2, round3, Wait, idle}
-use Rattle.eqaso.specs.Algorithm.{reading, writing, comparing, borrowing, Node, done, shown, still, ended}
-use Rattle.eqaso.specs.Algorithm.{waiting, Rule, direct, afterGood, afterFailed, agrees, quorum?, viewUpto}
-use Rattle.eqaso.specs.Algorithm.{comparePass}
+use Rattle.history.specs.Message.{of, value, good}
+use Rattle.history.specs.Event.{Operation, update, scan, Round, round0, round1, round2, round3, done, shown, Rule}
+use Rattle.history.specs.Event.{direct}
+use Rattle.eqaso.specs.Algorithm.{Wait, idle, reading, writing, comparing, borrowing, Node, still, ended, waiting}
+use Rattle.eqaso.specs.Algorithm.{afterGood, afterFailed, agrees, quorum?, viewUpto, comparePass}
 use Rattle.eqaso.proofs.Cert.{Log, Logs}
 use Rattle.eqaso.proofs.Local.{Past, Settled, Local}
 use Rattle.eqaso.proofs.Grow.{upd-longer, settled-up}

@@ -12,9 +12,10 @@ use lib.ListN.{length, take, length-append}
 use lib.Seq.{take-nil, take-length}
 use Rattle.theory.specs.Log.{_∈_, _⊑_, here, push}
 use Rattle.theory.proofs.Log.{push-append, push-up}
-use Rattle.eqaso.specs.Message.{Message}
-use Rattle.eqaso.specs.Cluster.{Extent, whole, cut, address, addressed, entries, letOut, sentTo}
-use Rattle.eqaso.specs.Order.{OneTo}
+use Rattle.history.specs.Message.{Message}
+use Rattle.history.specs.Event.{Extent, whole, cut, sentTo}
+use Rattle.history.specs.Order.{OneTo}
+use Rattle.eqaso.specs.Cluster.{address, addressed, entries, letOut}
 use Rattle.eqaso.proofs.Meant.{pick, pick-append}
 use Rattle.eqaso.proofs.Entries.{size, enough, enough-some, one-front, length-addressed, take-append}
 use Rattle.eqaso.proofs.Entries.{sentTo-append}

@@ -8,9 +8,10 @@ use Rattle.theory.specs.Update.{upd}
 use Rattle.theory.proofs.Update.{upd-map}
 use Rattle.theory.specs.Log.{push}
 use Rattle.theory.proofs.Log.{⊑-trans}
-use Rattle.eqaso.specs.Message.{Message}
-use Rattle.eqaso.specs.Cluster.{Extent, Cluster, halted, channels, entries, letOut}
-use Rattle.eqaso.specs.Trace.{Seen, Trace}
+use Rattle.history.specs.Message.{Message}
+use Rattle.history.specs.Event.{Extent}
+use Rattle.history.specs.Trace.{Seen, Trace}
+use Rattle.eqaso.specs.Cluster.{Cluster, halted, channels, entries, letOut}
 use Rattle.eqaso.proofs.Cert.{Logs}
 use Rattle.eqaso.proofs.Between.{Handed, handed-at}
 use Rattle.eqaso.proofs.Channel.{Fits, fits-act}

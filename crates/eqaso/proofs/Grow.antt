@@ -7,9 +7,9 @@ use Rattle.theory.specs.Update.{upd}
 use Rattle.theory.proofs.Update.{upd-same, upd-other, upd-all}
 use Rattle.theory.specs.Log.{_∈_, _⊑_, here, Each}
 use Rattle.theory.proofs.Log.{⊑-trans, mem-up, each-map}
-use Rattle.eqaso.specs.Message.{Value, Message, read, readAnswer, write, writeAnswer, echo, value, good}
-use Rattle.eqaso.specs.Algorithm.{Operation, update, scan, Round, round0, round1, round2, round3, Wait, idle}
-use Rattle.eqaso.specs.Algorithm.{reading, writing, comparing, borrowing, Node}
+use Rattle.history.specs.Message.{Value, Message, read, readAnswer, write, writeAnswer, echo, value, good}
+use Rattle.history.specs.Event.{Operation, update, scan, Round, round0, round1, round2, round3}
+use Rattle.eqaso.specs.Algorithm.{Wait, idle, reading, writing, comparing, borrowing, Node}
 use Rattle.eqaso.proofs.Cert.{Log, Logs, _≼_, echoed-up, carry}
 use Rattle.eqaso.proofs.Local.{Past, Own, Held, Settled, Due, Olds, Have, Spread, Before, Stage, Phase, Local}
 

@@ -7,8 +7,8 @@ use mathlib.Core.Logic.{_≢_, _⊎_, inl, inr}
 use mathlib.Core.Bool.{cond, decide}
 use mathlib.Core.List.{List, [], append-nil, List·Memᴰ·not-nil}
 use Rattle.theory.specs.Log.{_∈_}
-use Rattle.eqaso.specs.Algorithm.{Ending, none}
-use Rattle.eqaso.specs.Trace.{Seen, handler, Begun, begunBy, endingOf, endingAt, tagsSent, ownTags}
+use Rattle.history.specs.Event.{Ending, none}
+use Rattle.history.specs.Trace.{Seen, handler, Begun, begunBy, endingOf, endingAt, tagsSent, ownTags}
 use Rattle.eqaso.proofs.Book.{Book}
 use Rattle.eqaso.proofs.Extend.{ownAt}
 use Rattle.eqaso.proofs.Rows.{Listed}

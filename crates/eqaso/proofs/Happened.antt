@@ -6,14 +6,15 @@ use mathlib.Core.Bool.{Bool, true, false, decide, not, _&&_, false≢true}
 use mathlib.Core.List.{List, [], _∷_, _++_, append-nil, append-assoc}
 use Rattle.theory.specs.Count.{count}
 use Rattle.theory.specs.Update.{upd2}
-use Rattle.eqaso.specs.Message.{Message}
-use Rattle.eqaso.specs.Algorithm.{limit, Operation, Wait, idle, reading, writing, comparing, borrowing, Step}
-use Rattle.eqaso.specs.Algorithm.{still, beginStep, messageStep}
-use Rattle.eqaso.specs.Cluster.{Extent, whole, cut, Event, begin, deliver, stop, Cluster, start, Result, refuse}
-use Rattle.eqaso.specs.Cluster.{entries, letOut, commit, demand, holds, roomy, isNode, stands, isIdle, mayCut}
-use Rattle.eqaso.specs.Cluster.{mayStop, deliverFirst, event, after}
-use Rattle.eqaso.specs.Trace.{Trace, seen, traceFrom, trace}
-use Rattle.eqaso.specs.Order.{OneTo}
+use Rattle.history.specs.Message.{Message}
+use Rattle.history.specs.Event.{Operation, Extent, whole, cut, Event, begin, deliver, stop}
+use Rattle.history.specs.Trace.{Trace}
+use Rattle.history.specs.Order.{OneTo}
+use Rattle.eqaso.specs.Algorithm.{limit, Wait, idle, reading, writing, comparing, borrowing, Step, still}
+use Rattle.eqaso.specs.Algorithm.{beginStep, messageStep}
+use Rattle.eqaso.specs.Cluster.{Cluster, start, Result, refuse, seen, traceFrom, trace, entries, letOut, commit}
+use Rattle.eqaso.specs.Cluster.{demand, holds, roomy, isNode, stands, isIdle, mayCut, mayStop, deliverFirst}
+use Rattle.eqaso.specs.Cluster.{event, after}
 use Rattle.eqaso.proofs.Sets.{and-both, not-true}
 
 -- One more node may stop, where the event stops one.

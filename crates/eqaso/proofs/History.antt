@@ -8,11 +8,11 @@ use mathlib.Core.Bool.{Bool, false}
 use mathlib.Core.List.{_∷_}
 use Rattle.theory.specs.Log.{_∈_, _⊑_, here, more}
 use Rattle.theory.proofs.Log.{⊑-trans, mem-up, place, comparable}
-use Rattle.eqaso.specs.Message.{Value, of, View, value}
-use Rattle.eqaso.specs.Algorithm.{Operation, update, scan, Wait, idle, reading, writing, comparing, borrowing}
-use Rattle.eqaso.specs.Algorithm.{none, done, shown, spent}
-use Rattle.eqaso.specs.Trace.{Begun, nothing, updating, scanning, Fate, unfinished, ended}
-use Rattle.eqaso.specs.Order.{OneTo, EndedBefore}
+use Rattle.history.specs.Message.{Value, of, View, value}
+use Rattle.history.specs.Event.{Operation, update, scan, none, done, shown, spent}
+use Rattle.history.specs.Trace.{Begun, nothing, updating, scanning, Fate, unfinished, ended}
+use Rattle.history.specs.Order.{OneTo, EndedBefore}
+use Rattle.eqaso.specs.Algorithm.{Wait, idle, reading, writing, comparing, borrowing}
 use Rattle.eqaso.proofs.Cert.{Log, Logs, _≼_, carry}
 use Rattle.eqaso.proofs.Local.{Settled, Known}
 use Rattle.eqaso.proofs.Grow.{settled-up}

@@ -13,10 +13,11 @@ use Rattle.theory.specs.Update.{upd}
 use Rattle.theory.proofs.Update.{upd-same, upd-all}
 use Rattle.theory.specs.Log.{_∈_, _⊑_, here, push}
 use Rattle.theory.proofs.Log.{mem-up, push-up, push-or, push-new}
-use Rattle.eqaso.specs.Message.{View, Message, write, good}
+use Rattle.history.specs.Message.{View, Message, write, good}
+use Rattle.history.specs.Event.{Extent, whole, cut}
+use Rattle.history.specs.Order.{OneTo}
+use Rattle.eqaso.specs.Cluster.{halted}
 use Rattle.eqaso.specs.Algorithm.{Wait, writing, Node}
-use Rattle.eqaso.specs.Cluster.{Extent, whole, cut, halted}
-use Rattle.eqaso.specs.Order.{OneTo}
 use Rattle.eqaso.proofs.Cert.{Logs}
 use Rattle.eqaso.proofs.Front.{front, front-in, front-last}
 use Rattle.eqaso.proofs.Channel.{stood}

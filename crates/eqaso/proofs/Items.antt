@@ -11,12 +11,12 @@ use Rattle.theory.specs.Log.{_∈_}
 use Rattle.order.specs.Line.{Kind, update, scan, Items, May, Sound}
 use Rattle.order.proofs.Select.{select, select-from, select-to, select-once}
 use Rattle.order.proofs.Total.{total, total-mono, total-tight}
-use Rattle.eqaso.specs.Message.{View}
-use Rattle.eqaso.specs.Algorithm.{done, shown, spent}
-use Rattle.eqaso.specs.Trace.{Trace, Begun, nothing, updating, scanning, begun, Fate, unfinished, ended, fate}
-use Rattle.eqaso.specs.Trace.{viewOf, entryAt}
-use Rattle.eqaso.specs.Order.{OneTo, Finished, IsScan, PlacedBy, Placed, EndedBefore}
-use Rattle.eqaso.specs.Claims.{HasView, viewIn}
+use Rattle.history.specs.Message.{View}
+use Rattle.history.specs.Event.{done, shown, spent}
+use Rattle.history.specs.Trace.{Trace, Begun, nothing, updating, scanning, begun, Fate, unfinished, ended, fate, viewOf}
+use Rattle.history.specs.Trace.{entryAt}
+use Rattle.history.specs.Order.{OneTo, Finished, IsScan, PlacedBy, Placed, EndedBefore}
+use Rattle.history.specs.Views.{HasView, viewIn}
 use Rattle.eqaso.proofs.Book.{tagOf, plain}
 use Rattle.eqaso.proofs.Facts.{Fit, Between, Facts}
 use Rattle.eqaso.proofs.Decide.{placed?, placed-before}

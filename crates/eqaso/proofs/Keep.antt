@@ -7,11 +7,11 @@ use mathlib.Core.Path.{_≡_, refl, sym, _∙_, subst, subst₂}
 use mathlib.Core.Logic.{inl, inr}
 use Rattle.theory.specs.Update.{upd}
 use Rattle.theory.proofs.Update.{upd-other, upd-all}
-use Rattle.eqaso.specs.Message.{Entry}
-use Rattle.eqaso.specs.Algorithm.{done, shown, spent}
-use Rattle.eqaso.specs.Trace.{Begun, updating, scanning, Fate, unfinished, ended}
-use Rattle.eqaso.specs.Order.{OneTo, EndedBefore}
-use Rattle.eqaso.specs.Claims.{HasView}
+use Rattle.history.specs.Message.{Entry}
+use Rattle.history.specs.Event.{done, shown, spent}
+use Rattle.history.specs.Trace.{Begun, updating, scanning, Fate, unfinished, ended}
+use Rattle.history.specs.Order.{OneTo, EndedBefore}
+use Rattle.history.specs.Views.{HasView}
 use Rattle.eqaso.proofs.Book.{Book, begins, At, IdleAt, OpenAt}
 use Rattle.eqaso.proofs.Facts.{Place, Fit, Between, Facts}
 

@@ -6,11 +6,11 @@ use mathlib.Core.Logic.{inl, inr}
 use lib.ListN.{length}
 use Rattle.theory.specs.Update.{upd}
 use Rattle.theory.proofs.Update.{upd-all}
-use Rattle.eqaso.specs.Message.{View}
-use Rattle.eqaso.specs.Algorithm.{Ending}
-use Rattle.eqaso.specs.Trace.{updating, Fate, ended, entryAt}
-use Rattle.eqaso.specs.Order.{OneTo, EndedBefore}
-use Rattle.eqaso.specs.Claims.{HasView, viewIn, Below, Comparable}
+use Rattle.history.specs.Message.{View}
+use Rattle.history.specs.Event.{Ending}
+use Rattle.history.specs.Trace.{updating, Fate, ended, entryAt}
+use Rattle.history.specs.Order.{OneTo, EndedBefore}
+use Rattle.history.specs.Views.{HasView, viewIn, Below, Comparable}
 use Rattle.eqaso.proofs.Book.{Book, ends, At, OpenAt}
 use Rattle.eqaso.proofs.Facts.{Place, Closed, Fit, Between, Facts, ViewDue}
 use Rattle.eqaso.proofs.Keep.{not-ended, between-later, at-old, update-old, viewed-old}

@@ -7,10 +7,10 @@ use mathlib.Core.Path.{_≡_, refl, sym, _∙_, ap, subst, subst₂}
 use mathlib.Core.Logic.{_≢_, inl, inr}
 use Rattle.theory.specs.Update.{upd}
 use Rattle.theory.proofs.Update.{upd-other, upd-all}
-use Rattle.eqaso.specs.Message.{Entry}
-use Rattle.eqaso.specs.Trace.{Begun, nothing, updating, scanning, entryAt}
-use Rattle.eqaso.specs.Order.{EndedBefore}
-use Rattle.eqaso.specs.Claims.{HasView, viewIn}
+use Rattle.history.specs.Message.{Entry}
+use Rattle.history.specs.Trace.{Begun, nothing, updating, scanning, entryAt}
+use Rattle.history.specs.Order.{EndedBefore}
+use Rattle.history.specs.Views.{HasView, viewIn}
 use Rattle.eqaso.proofs.Book.{Book, tags, At, OpenAt}
 use Rattle.eqaso.proofs.Facts.{Place, Closed, Fit, Facts, TagDue}
 use Rattle.eqaso.proofs.Keep.{not-ended, node-one}

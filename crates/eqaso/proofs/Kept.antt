@@ -7,11 +7,11 @@ use mathlib.Core.List.{[], _∷_, _++_, List·Memᴰ·append-cases, List·Memᴰ
 use lib.ListN.{length, length-append}
 use Rattle.theory.specs.Log.{_∈_}
 use Rattle.theory.proofs.Update.{upd-same, upd-other}
-use Rattle.eqaso.specs.Message.{View}
-use Rattle.eqaso.specs.Algorithm.{Ending, none, done, shown, spent, Rule}
-use Rattle.eqaso.specs.Trace.{Seen, Trace, handler, Begun, nothing, updating, scanning, begun, ended, ownTags}
-use Rattle.eqaso.specs.Order.{OneTo}
-use Rattle.eqaso.specs.Claims.{HasView, viewIn}
+use Rattle.history.specs.Message.{View}
+use Rattle.history.specs.Event.{Ending, none, done, shown, spent, Rule}
+use Rattle.history.specs.Trace.{Seen, Trace, handler, Begun, nothing, updating, scanning, begun, ended, ownTags}
+use Rattle.history.specs.Order.{OneTo}
+use Rattle.history.specs.Views.{HasView, viewIn}
 use Rattle.eqaso.proofs.Book.{Book, bookOf, begins, tags, ends, At, IdleAt, OpenAt}
 use Rattle.eqaso.proofs.Facts.{Facts, Fit, TagDue, ViewDue, OwnDue}
 use Rattle.eqaso.proofs.Keep.{facts-later, facts-begin, at-old, tagged-old, node-one, scan-bare}

@@ -4,10 +4,11 @@ use native.Mathlib.Omega.{arith}
 use mathlib.Core.Path.{_≡_, refl, sym, _∙_, subst}
 use mathlib.Core.Logic.{_≢_}
 use Rattle.theory.proofs.Update.{upd-other, upd-all}
-use Rattle.eqaso.specs.Message.{Value, of}
-use Rattle.eqaso.specs.Algorithm.{Operation, Wait, idle, reading, writing, comparing, borrowing, Ending}
-use Rattle.eqaso.specs.Trace.{Begun, nothing, updating, scanning, unfinished, ended}
-use Rattle.eqaso.specs.Order.{EndedBefore}
+use Rattle.history.specs.Message.{Value, of}
+use Rattle.history.specs.Event.{Operation, Ending}
+use Rattle.history.specs.Trace.{Begun, nothing, updating, scanning, unfinished, ended}
+use Rattle.history.specs.Order.{EndedBefore}
+use Rattle.eqaso.specs.Algorithm.{Wait, idle, reading, writing, comparing, borrowing}
 use Rattle.eqaso.proofs.Cert.{Logs}
 use Rattle.eqaso.proofs.Book.{Book, begins, tags, ends, At, IdleAt, OpenAt}
 use Rattle.eqaso.proofs.Facts.{Facts, Fit}

@@ -67,7 +67,6 @@ pub mod Kept
 pub mod Modes
 pub mod Decide
 pub mod Items
-pub mod Written
 pub mod Single
 pub mod Corollary
 pub mod Words
@@ -94,12 +93,7 @@ pub mod Quiet
 pub mod Demand3
 pub mod BoundedRun
 pub mod Claims
--- Runs computed, and traces that are ruled out.
+-- Runs computed.
 pub mod Runs
 pub mod Instance
 pub mod ReadOff
-pub mod RuledOut
-pub mod RuledOutEndings
-pub mod RuledOutLine
-pub mod RuledOutTime
-pub mod RuledOutOpen

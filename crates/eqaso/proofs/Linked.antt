@@ -10,11 +10,12 @@ use lib.Seq.{drop-at}
 use Rattle.theory.specs.Count.{count}
 use Rattle.theory.proofs.Count.{count-none}
 use Rattle.theory.specs.Log.{_∈_}
-use Rattle.eqaso.specs.Message.{Message}
+use Rattle.history.specs.Message.{Message}
+use Rattle.history.specs.Event.{Event}
+use Rattle.history.specs.Trace.{Seen, Trace, stopsBy, stopped, letOutTo, handedOver, waits}
+use Rattle.history.specs.Order.{OneTo}
+use Rattle.eqaso.specs.Cluster.{Cluster, start, after, seen, trace}
 use Rattle.eqaso.specs.Algorithm.{fresh}
-use Rattle.eqaso.specs.Cluster.{Event, Cluster, start, after}
-use Rattle.eqaso.specs.Trace.{Seen, Trace, seen, trace, stopsBy, stopped, letOutTo, handedOver, waits}
-use Rattle.eqaso.specs.Order.{OneTo}
 use Rattle.eqaso.proofs.Reach.{Reaches}
 use Rattle.eqaso.proofs.Happened.{Happened, outcome, always}
 use Rattle.eqaso.proofs.Snoc.{stopped-snoc, letOutTo-snoc, handedOver-snoc, passed}

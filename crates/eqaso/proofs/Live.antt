@@ -11,10 +11,10 @@ use Rattle.theory.specs.Update.{upd}
 use Rattle.theory.proofs.Update.{upd-same, upd-all}
 use Rattle.theory.specs.Log.{_∈_, _⊑_, here, more, push}
 use Rattle.theory.proofs.Log.{mem-up}
-use Rattle.eqaso.specs.Message.{Value, Message, read, readAnswer, write, writeAnswer, echo, value, good}
-use Rattle.eqaso.specs.Algorithm.{Operation, update, scan, round0, round1, nobody, Wait, idle, reading, writing}
-use Rattle.eqaso.specs.Algorithm.{comparing, borrowing, Good, Node, sending, _then_, waiting, asking, kept, keep}
-use Rattle.eqaso.specs.Algorithm.{react, messageStep, beginStep}
+use Rattle.history.specs.Message.{Value, Message, read, readAnswer, write, writeAnswer, echo, value, good}
+use Rattle.history.specs.Event.{Operation, update, scan, round0, round1}
+use Rattle.eqaso.specs.Algorithm.{nobody, Wait, idle, reading, writing, comparing, borrowing, Good, Node, sending}
+use Rattle.eqaso.specs.Algorithm.{_then_, waiting, asking, kept, keep, react, messageStep, beginStep}
 use Rattle.eqaso.proofs.Cert.{Log, Logs}
 use Rattle.eqaso.proofs.Meant.{Meant, Others}
 use Rattle.eqaso.specs.Node.{topping, holding}

@@ -9,9 +9,9 @@ use mathlib.Core.List.{List, _∷_}
 use Rattle.theory.specs.Count.{count}
 use Rattle.theory.specs.Update.{upd}
 use Rattle.theory.specs.Log.{_∈_, _⊑_, Each}
-use Rattle.eqaso.specs.Message.{Value, of, View, Message, read, readAnswer, write, writeAnswer, echo, value, good}
-use Rattle.eqaso.specs.Algorithm.{Operation, update, scan, Round, round0, round1, round2, round3, Nodes, Wait}
-use Rattle.eqaso.specs.Algorithm.{idle, reading, writing, comparing, borrowing, Good, Node, viewUpto}
+use Rattle.history.specs.Message.{Value, of, View, Message, read, readAnswer, write, writeAnswer, echo, value, good}
+use Rattle.history.specs.Event.{Operation, update, scan, Round, round0, round1, round2, round3}
+use Rattle.eqaso.specs.Algorithm.{Nodes, Wait, idle, reading, writing, comparing, borrowing, Good, Node, viewUpto}
 use Rattle.eqaso.proofs.Cert.{Log, Logs, _≼_, Echoed, Cert}
 
 -- What the proof remembers of the open operation of a node, beside its state.

@@ -9,10 +9,10 @@ use mathlib.Core.Bool.{true}
 use mathlib.Core.List.{[], _∷_, List·Memᴰ·head, List·Memᴰ·tail}
 use Rattle.theory.specs.Update.{upd}
 use Rattle.theory.specs.Log.{_∈_, push}
-use Rattle.eqaso.specs.Message.{of, View, Message, read, readAnswer, write, writeAnswer, echo, value, good}
-use Rattle.eqaso.specs.Algorithm.{Operation, update, scan, round0, round1, nobody, Wait, idle, reading, writing}
-use Rattle.eqaso.specs.Algorithm.{comparing, borrowing, Node, sending, _then_, waiting, viewUpto, react}
-use Rattle.eqaso.specs.Algorithm.{messageStep, beginStep}
+use Rattle.history.specs.Message.{of, View, Message, read, readAnswer, write, writeAnswer, echo, value, good}
+use Rattle.history.specs.Event.{Operation, update, scan, round0, round1}
+use Rattle.eqaso.specs.Algorithm.{nobody, Wait, idle, reading, writing, comparing, borrowing, Node, sending}
+use Rattle.eqaso.specs.Algorithm.{_then_, waiting, viewUpto, react, messageStep, beginStep}
 use Rattle.eqaso.proofs.Cert.{Log}
 use Rattle.eqaso.specs.Node.{turned, topping}
 use Rattle.eqaso.proofs.Cases.{raise-cases, receive-cases, read-cases, write-cases}

@@ -5,7 +5,7 @@ use mathlib.Core.Path.{_≡_, refl, ap, subst, sym}
 use mathlib.Core.Logic.{_⊎_, inl, inr, _≢_}
 use mathlib.Core.List.{List, [], _∷_, _++_, List·Memᴰ·head, List·Memᴰ·tail}
 use Rattle.theory.specs.Log.{_∈_}
-use Rattle.eqaso.specs.Message.{Message}
+use Rattle.history.specs.Message.{Message}
 use Rattle.eqaso.specs.Cluster.{Address, one, all, address}
 
 abbrev pub MeantBy : ℕ → Address → Type 0

@@ -3,8 +3,8 @@ use Prim.Native.Nat.{ℕ}
 use mathlib.Core.Path.{_≡_, refl, sym, _∙_, subst}
 use mathlib.Core.Logic.{_≢_}
 use Rattle.theory.proofs.Update.{upd-same, upd-other, upd-all}
-use Rattle.eqaso.specs.Algorithm.{Ending}
-use Rattle.eqaso.specs.Trace.{Begun, nothing, Fate, unfinished, ended}
+use Rattle.history.specs.Event.{Ending}
+use Rattle.history.specs.Trace.{Begun, nothing, Fate, unfinished, ended}
 use Rattle.eqaso.proofs.Book.{Book, begins, tags, ends, At, IdleAt, OpenAt}
 use Rattle.eqaso.proofs.Keep.{at-same}
 

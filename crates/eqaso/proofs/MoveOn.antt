@@ -7,11 +7,11 @@ use mathlib.Core.Logic.{ite}
 use mathlib.Core.List.{[], _∷_}
 use Rattle.theory.specs.Count.{count}
 use Rattle.theory.specs.Log.{push}
-use Rattle.eqaso.specs.Message.{of, Message, read, write, value, good}
-use Rattle.eqaso.specs.Algorithm.{limit, Operation, update, scan, direct, borrowed, Round, round0, round1, round2}
-use Rattle.eqaso.specs.Algorithm.{round3, Nodes, nobody, Wait, idle, reading, writing, comparing, borrowing, Node}
-use Rattle.eqaso.specs.Algorithm.{Step, spent, ended, still, sending, _then_, waiting, asking, agrees, quorum?}
-use Rattle.eqaso.specs.Algorithm.{kept, viewUpto, opening, finish, afterRead, afterGood, afterFailed, readPass}
+use Rattle.history.specs.Message.{of, Message, read, write, value, good}
+use Rattle.history.specs.Event.{Operation, update, scan, direct, borrowed, Round, round0, round1, round2, round3, spent}
+use Rattle.eqaso.specs.Algorithm.{limit, Nodes, nobody, Wait, idle, reading, writing, comparing, borrowing, Node}
+use Rattle.eqaso.specs.Algorithm.{Step, ended, still, sending, _then_, waiting, asking, agrees, quorum?, kept}
+use Rattle.eqaso.specs.Algorithm.{viewUpto, opening, finish, afterRead, afterGood, afterFailed, readPass}
 use Rattle.eqaso.specs.Algorithm.{writePass, comparePass, borrowPass, moveOn, react, messageStep, beginStep}
 use Rattle.eqaso.proofs.Cert.{Log}
 use Rattle.eqaso.proofs.Passes.{Claim, Final, Leaves, move-leaves, finished, reacted}

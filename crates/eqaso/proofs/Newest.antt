@@ -7,7 +7,7 @@ use mathlib.Core.Logic.{_⊎_, inl, inr, _≢_, _↔_}
 use mathlib.Core.Bool.{cond, decide, _&&_}
 use mathlib.Core.List.{List, [], _∷_, List·Memᴰ·head, List·Memᴰ·tail}
 use Rattle.theory.specs.Log.{_∈_}
-use Rattle.eqaso.specs.Message.{Value, Entry, absent}
+use Rattle.history.specs.Message.{Value, Entry, absent}
 use Rattle.eqaso.specs.Node.{newest, highest, latest}
 
 -- What a view has of a value.

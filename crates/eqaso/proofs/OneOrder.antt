@@ -2,9 +2,9 @@
 use Prim.Native.Nat.{ℕ, _+_, _<_}
 use mathlib.Core.Bool.{Bool}
 use mathlib.Core.List.{List}
-use Rattle.eqaso.specs.Cluster.{Event}
-use Rattle.eqaso.specs.Trace.{trace}
-use Rattle.eqaso.specs.Order.{SingleOrder}
+use Rattle.history.specs.Event.{Event}
+use Rattle.history.specs.Order.{SingleOrder}
+use Rattle.eqaso.specs.Cluster.{trace}
 use Rattle.eqaso.proofs.Single.{single-order}
 use Rattle.eqaso.proofs.Run.{good}
 

@@ -6,9 +6,9 @@ use mathlib.Core.Logic.{inl}
 use mathlib.Core.Bool.{false≢true}
 use mathlib.Core.List.{_∷_, List·Memᴰ·head, List·Memᴰ·tail}
 use Rattle.theory.specs.Log.{_∈_, here, more}
-use Rattle.eqaso.specs.Message.{Value, Message, write, value}
-use Rattle.eqaso.specs.Algorithm.{Operation, update, scan, Round, round0, round1, round2, round3, nobody, Wait}
-use Rattle.eqaso.specs.Algorithm.{writing, comparing, Node, waiting, opening}
+use Rattle.history.specs.Message.{Value, Message, write, value}
+use Rattle.history.specs.Event.{Operation, update, scan, Round, round0, round1, round2, round3}
+use Rattle.eqaso.specs.Algorithm.{nobody, Wait, writing, comparing, Node, waiting, opening}
 use Rattle.eqaso.proofs.Cert.{Log, Logs}
 use Rattle.eqaso.proofs.Local.{Past, Held, Rise, Have, Before, Stage, Local}
 use Rattle.eqaso.specs.Node.{turned}

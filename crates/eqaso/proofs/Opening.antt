@@ -5,7 +5,7 @@ use mathlib.Core.Path.{sym, subst}
 use mathlib.Core.List.{[], _∷_, List·Memᴰ·head, List·Memᴰ·tail}
 use Rattle.theory.specs.Log.{_∈_, push}
 use Rattle.theory.proofs.Log.{push-new}
-use Rattle.eqaso.specs.Message.{of, Message, read, readAnswer, write, writeAnswer, echo, value, good}
+use Rattle.history.specs.Message.{of, Message, read, readAnswer, write, writeAnswer, echo, value, good}
 use Rattle.eqaso.specs.Algorithm.{Node, sending, _then_, react, messageStep}
 use Rattle.eqaso.proofs.Cert.{Log}
 use Rattle.eqaso.proofs.Cases.{raise-cases, receive-cases}

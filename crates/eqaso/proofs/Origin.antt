@@ -10,11 +10,11 @@ use mathlib.Core.List.{List·Memᴰ·append-cases}
 use Rattle.theory.specs.Update.{upd, upd2}
 use Rattle.theory.proofs.Update.{upd-self, upd-all}
 use Rattle.theory.specs.Log.{_∈_, push}
-use Rattle.eqaso.specs.Message.{Value, of, Message, read, readAnswer, write, writeAnswer, echo, value, good}
-use Rattle.eqaso.specs.Algorithm.{Operation, Node, still, sending, _then_, viewUpto, react, messageStep, beginStep}
-use Rattle.eqaso.specs.Cluster.{Extent, whole, cut, Event, begin, deliver, stop, Cluster, refuse, start}
-use Rattle.eqaso.specs.Cluster.{entries, letOut, sentTo, after}
-use Rattle.eqaso.specs.Trace.{Seen, Trace, seen, trace, handler, letOutTo}
+use Rattle.history.specs.Message.{Value, of, Message, read, readAnswer, write, writeAnswer, echo, value, good}
+use Rattle.history.specs.Event.{Operation, Extent, whole, cut, Event, begin, deliver, stop, sentTo}
+use Rattle.history.specs.Trace.{Seen, Trace, handler, letOutTo}
+use Rattle.eqaso.specs.Algorithm.{Node, still, sending, _then_, viewUpto, react, messageStep, beginStep}
+use Rattle.eqaso.specs.Cluster.{Cluster, refuse, start, entries, letOut, after, seen, trace}
 use Rattle.eqaso.specs.Bounded.{LetOut}
 use Rattle.eqaso.proofs.Cert.{Log}
 use Rattle.eqaso.proofs.Cases.{raise-cases, receive-cases, read-cases, write-cases}

@@ -5,9 +5,9 @@ use mathlib.Core.List.{List}
 use Rattle.theory.specs.Update.{upd}
 use Rattle.theory.specs.Log.{_∈_, push}
 use Rattle.theory.proofs.Log.{push-append}
-use Rattle.eqaso.specs.Message.{Value, of, View}
-use Rattle.eqaso.specs.Algorithm.{Operation, update, scan, Node, Ending, none, done, shown, spent, Step, still}
-use Rattle.eqaso.specs.Algorithm.{then-by, _then_, viewUpto}
+use Rattle.history.specs.Message.{Value, of, View}
+use Rattle.history.specs.Event.{Operation, update, scan, Ending, none, done, shown, spent}
+use Rattle.eqaso.specs.Algorithm.{Node, Step, still, then-by, _then_, viewUpto}
 use Rattle.eqaso.proofs.Cert.{Log, Logs, Inside, Cert}
 use Rattle.eqaso.proofs.Local.{Past, Settled, Local}
 

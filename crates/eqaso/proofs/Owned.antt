@@ -7,9 +7,9 @@ use mathlib.Core.Bool.{cond, decide}
 use mathlib.Core.List.{List, [], _∷_, _++_, List·Memᴰ·head, List·Memᴰ·tail, Memᴰ·append-left, Memᴰ·append-right}
 use mathlib.Core.List.{List·Memᴰ·append-cases, List·Memᴰ·eq-of-singleton}
 use Rattle.theory.specs.Log.{_∈_}
-use Rattle.eqaso.specs.Message.{Value, Message, read, readAnswer, write, writeAnswer, echo, value, good}
-use Rattle.eqaso.specs.Cluster.{Sent, sentTo}
-use Rattle.eqaso.specs.Trace.{Trace, handler, letOutTo, tagBy, tagsSent, ownTags}
+use Rattle.history.specs.Message.{Value, Message, read, readAnswer, write, writeAnswer, echo, value, good}
+use Rattle.history.specs.Event.{Sent, sentTo}
+use Rattle.history.specs.Trace.{Trace, handler, letOutTo, tagBy, tagsSent, ownTags}
 use Rattle.eqaso.proofs.Reach.{sentTo-in, sentTo-of}
 
 -- An own value of node c with tag t.

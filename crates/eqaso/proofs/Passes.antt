@@ -4,10 +4,10 @@ use mathlib.Core.Path.{_≡_, refl, sym, subst}
 use mathlib.Core.List.{[], _∷_}
 use Rattle.theory.specs.Log.{push}
 use Rattle.theory.proofs.Log.{push-append}
-use Rattle.eqaso.specs.Message.{View, Message, read, readAnswer, write, writeAnswer, echo, value, good}
-use Rattle.eqaso.specs.Algorithm.{Operation, update, scan, Rule, Wait, Node, Ending, none, done, shown, spent}
-use Rattle.eqaso.specs.Algorithm.{Step, sending, then-by, _then_, waiting, finish, react, readPass, writePass}
-use Rattle.eqaso.specs.Algorithm.{comparePass, borrowPass, moveOn}
+use Rattle.history.specs.Message.{View, Message, read, readAnswer, write, writeAnswer, echo, value, good}
+use Rattle.history.specs.Event.{Operation, update, scan, Rule, Ending, none, done, shown, spent}
+use Rattle.eqaso.specs.Algorithm.{Wait, Node, Step, sending, then-by, _then_, waiting, finish, react, readPass}
+use Rattle.eqaso.specs.Algorithm.{writePass, comparePass, borrowPass, moveOn}
 use Rattle.eqaso.proofs.Cert.{Log}
 use Rattle.eqaso.proofs.Cases.{raise-cases, receive-cases}
 

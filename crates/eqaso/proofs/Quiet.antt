@@ -4,10 +4,11 @@ use mathlib.Core.Path.{_≡_, refl, sym, subst, ap, _∙_}
 use mathlib.Core.Bool.{Bool, false}
 use mathlib.Core.List.{List}
 use Rattle.eqaso.specs.Algorithm.{idle}
-use Rattle.eqaso.specs.Cluster.{Event, Cluster, start, after}
-use Rattle.eqaso.specs.Trace.{Trace, trace, Begun, nothing, updating, scanning, begun, Fate, unfinished, ended}
-use Rattle.eqaso.specs.Trace.{fate, stopped}
-use Rattle.eqaso.specs.Order.{OneTo, Finished, ClosedBy, NothingWaits, Quiet}
+use Rattle.history.specs.Event.{Event}
+use Rattle.history.specs.Trace.{Trace, Begun, nothing, updating, scanning, begun, Fate, unfinished, ended, fate}
+use Rattle.history.specs.Trace.{stopped}
+use Rattle.history.specs.Order.{OneTo, Finished, ClosedBy, NothingWaits, Quiet}
+use Rattle.eqaso.specs.Cluster.{Cluster, start, after, trace}
 use Rattle.eqaso.proofs.Linked.{Linked, linked, waits-is}
 use Rattle.eqaso.proofs.Book.{bookOf, At}
 use Rattle.eqaso.proofs.Facts.{Fit}

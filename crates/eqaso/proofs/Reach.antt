@@ -9,11 +9,11 @@ use mathlib.Core.List.{List, [], _∷_, List·Memᴰ·head, List·Memᴰ·tail, 
 use mathlib.Core.List.{List·Memᴰ·eq-of-singleton}
 use lib.ListN.{drop, take-append-drop}
 use Rattle.theory.specs.Log.{_∈_}
-use Rattle.eqaso.specs.Message.{Message}
+use Rattle.history.specs.Message.{Message}
+use Rattle.history.specs.Event.{Extent, whole, cut, Sent, sentTo}
+use Rattle.history.specs.Order.{OneTo}
+use Rattle.eqaso.specs.Cluster.{Address, one, all, address, entriesTo, addressed, entries, letOut}
 use Rattle.eqaso.specs.Algorithm.{table}
-use Rattle.eqaso.specs.Cluster.{Extent, whole, cut, Sent, Address, one, all, address, entriesTo, addressed}
-use Rattle.eqaso.specs.Cluster.{entries, letOut, sentTo}
-use Rattle.eqaso.specs.Order.{OneTo}
 use Rattle.eqaso.proofs.Entries.{entry}
 
 -- A message may go to node b.

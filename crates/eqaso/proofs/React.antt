@@ -9,9 +9,9 @@ use Rattle.theory.specs.Update.{upd}
 use Rattle.theory.proofs.Update.{upd-all}
 use Rattle.theory.specs.Log.{_∈_, _⊑_, here, push, Each}
 use Rattle.theory.proofs.Log.{⊑-trans, placed, comparable, cons-or, before-it, each-at}
-use Rattle.eqaso.specs.Message.{Value, of, read, readAnswer, write, writeAnswer, echo, value}
-use Rattle.eqaso.specs.Algorithm.{Nodes, Operation, update, scan, Round, round0, round1, round2, round3, Wait}
-use Rattle.eqaso.specs.Algorithm.{reading, writing, Node, none, Step, waiting, has, raise, readAnswered}
+use Rattle.history.specs.Message.{Value, of, read, readAnswer, write, writeAnswer, echo, value}
+use Rattle.history.specs.Event.{Operation, update, scan, Round, round0, round1, round2, round3, none}
+use Rattle.eqaso.specs.Algorithm.{Nodes, Wait, reading, writing, Node, Step, waiting, has, raise, readAnswered}
 use Rattle.eqaso.specs.Algorithm.{writeAnswered}
 use Rattle.eqaso.proofs.Cert.{Log, Logs}
 use Rattle.eqaso.proofs.Local.{Past, Held, WriteDue, Due, Have, ReadBy, WroteBy, Writes, Local}

@@ -11,10 +11,10 @@ use Rattle.theory.specs.Count.{count}
 use Rattle.theory.proofs.Count.{meet}
 use Rattle.theory.specs.Log.{_∈_, _⊑_, here, more}
 use Rattle.theory.proofs.Log.{⊑-trans, mem-up, placed, cons-or}
-use Rattle.eqaso.specs.Message.{Value, of, Message, write, echo, value}
-use Rattle.eqaso.specs.Algorithm.{limit, Operation, update, scan, round0, round1, Nodes, nobody, Wait, idle}
-use Rattle.eqaso.specs.Algorithm.{reading, writing, comparing, borrowing, Node, spent, still, ended, waiting}
-use Rattle.eqaso.specs.Algorithm.{sending, _then_, opening, afterRead, quorum?, readPass}
+use Rattle.history.specs.Message.{Value, of, Message, write, echo, value}
+use Rattle.history.specs.Event.{Operation, update, scan, round0, round1, spent}
+use Rattle.eqaso.specs.Algorithm.{limit, Nodes, nobody, Wait, idle, reading, writing, comparing, borrowing, Node}
+use Rattle.eqaso.specs.Algorithm.{still, ended, waiting, sending, _then_, opening, afterRead, quorum?, readPass}
 use Rattle.eqaso.proofs.Cert.{Log, Logs, value≢write}
 use Rattle.eqaso.proofs.Local.{Past, Under, ValueDue, Settled, Have, ReadBy, Local}
 use Rattle.eqaso.proofs.Grow.{settled-up}

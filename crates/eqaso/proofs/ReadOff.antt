@@ -5,12 +5,13 @@ use mathlib.Core.Bool.{decide}
 use mathlib.Core.List.{[], _∷_}
 use Rattle.theory.specs.Count.{count}
 use Rattle.theory.specs.Update.{upd, upd2}
-use Rattle.eqaso.specs.Message.{absent, same}
-use Rattle.eqaso.specs.Algorithm.{limit, has, within, newest, table, kept, moveOn, round1, done, shown, direct}
-use Rattle.eqaso.specs.Cluster.{entries, sentTo, roomy, event}
+use Rattle.history.specs.Message.{absent, same}
+use Rattle.history.specs.Event.{round1, done, shown, direct, sentTo}
+use Rattle.history.specs.Trace.{updating, scanning, begun, unfinished, ended, firstEnding, fate, tagsSent, ownTags}
+use Rattle.history.specs.Trace.{largest, firstAbove, tagAt}
+use Rattle.eqaso.specs.Algorithm.{limit, has, within, newest, table, kept, moveOn}
+use Rattle.eqaso.specs.Cluster.{entries, roomy, event, traceFrom, trace}
 use Rattle.eqaso.specs.Claims.{sixteen}
-use Rattle.eqaso.specs.Trace.{traceFrom, trace, updating, scanning, begun, unfinished, ended, firstEnding, fate}
-use Rattle.eqaso.specs.Trace.{tagsSent, ownTags, largest, firstAbove, tagAt}
 use Rattle.eqaso.proofs.Runs.{session, cut-but-shown}
 
 -- Document 01's session: the update began at index 0 with report 7, ended at index 10 and has tag 1; the scan began at

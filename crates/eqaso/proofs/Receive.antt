@@ -8,9 +8,9 @@ use mathlib.Core.List.{List, [], _∷_, List·Memᴰ·head, List·Memᴰ·tail}
 use Rattle.theory.proofs.Update.{upd-all, upd-same}
 use Rattle.theory.specs.Log.{_∈_, _⊑_, Each}
 use Rattle.theory.proofs.Log.{⊑-cons, mem-up, placed, push-append, each-at}
-use Rattle.eqaso.specs.Message.{Value, Message, read, readAnswer, write, writeAnswer, echo, value, good}
-use Rattle.eqaso.specs.Algorithm.{Operation, update, scan, round0, Wait, writing, Node, Step, sending, then-by}
-use Rattle.eqaso.specs.Algorithm.{_then_, raise, receive, react}
+use Rattle.history.specs.Message.{Value, Message, read, readAnswer, write, writeAnswer, echo, value, good}
+use Rattle.history.specs.Event.{Operation, update, scan, round0}
+use Rattle.eqaso.specs.Algorithm.{Wait, writing, Node, Step, sending, then-by, _then_, raise, receive, react}
 use Rattle.eqaso.proofs.Cert.{Log, Logs, carry}
 use Rattle.eqaso.proofs.Meant.{Meant}
 use Rattle.eqaso.proofs.Local.{Past, ValueDue, Pending, Due, Olds, Local}

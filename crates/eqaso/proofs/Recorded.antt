@@ -10,10 +10,11 @@ use Rattle.theory.specs.Update.{upd}
 use Rattle.theory.proofs.Update.{upd-all}
 use Rattle.theory.specs.Log.{_∈_, _⊑_, here, push}
 use Rattle.theory.proofs.Log.{push-or, push-up}
-use Rattle.eqaso.specs.Message.{Value, of, Message, value}
-use Rattle.eqaso.specs.Cluster.{Extent, entries, letOut, halted}
-use Rattle.eqaso.specs.Trace.{updating, tagsSent}
-use Rattle.eqaso.specs.Order.{OneTo, EndedBefore}
+use Rattle.history.specs.Message.{Value, of, Message, value}
+use Rattle.history.specs.Event.{Extent}
+use Rattle.history.specs.Trace.{updating, tagsSent}
+use Rattle.history.specs.Order.{OneTo, EndedBefore}
+use Rattle.eqaso.specs.Cluster.{entries, letOut, halted}
 use Rattle.eqaso.proofs.Cert.{Logs, _≼_}
 use Rattle.eqaso.proofs.Meant.{pick-in, pick-of}
 use Rattle.eqaso.proofs.Front.{front, front-is, front-in}

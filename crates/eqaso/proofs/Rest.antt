@@ -7,11 +7,11 @@ use mathlib.Core.Bool.{Bool, true, false}
 use mathlib.Core.List.{[], _∷_}
 use Rattle.theory.specs.Count.{count}
 use Rattle.theory.proofs.Count.{count-none}
-use Rattle.eqaso.specs.Message.{of, View, Message, read, value}
-use Rattle.eqaso.specs.Algorithm.{limit, Operation, update, scan, direct, borrowed, Round, round0, round1, round2}
-use Rattle.eqaso.specs.Algorithm.{round3, nobody, Wait, idle, reading, writing, comparing, borrowing, Node, spent}
-use Rattle.eqaso.specs.Algorithm.{Step, still, sending, ended, _then_, opening, waiting, asking, agrees, quorum?}
-use Rattle.eqaso.specs.Algorithm.{kept, viewUpto, finish, afterRead, afterGood, afterFailed, readPass, writePass}
+use Rattle.history.specs.Message.{of, View, Message, read, value}
+use Rattle.history.specs.Event.{Operation, update, scan, direct, borrowed, Round, round0, round1, round2, round3, spent}
+use Rattle.eqaso.specs.Algorithm.{limit, nobody, Wait, idle, reading, writing, comparing, borrowing, Node, Step}
+use Rattle.eqaso.specs.Algorithm.{still, sending, ended, _then_, opening, waiting, asking, agrees, quorum?, kept}
+use Rattle.eqaso.specs.Algorithm.{viewUpto, finish, afterRead, afterGood, afterFailed, readPass, writePass}
 use Rattle.eqaso.specs.Algorithm.{comparePass, borrowPass, moveOn, react, messageStep, beginStep}
 use Rattle.eqaso.proofs.Cert.{Log}
 use Rattle.eqaso.proofs.Passes.{Leaves, move-leaves, finished, left, reacted}

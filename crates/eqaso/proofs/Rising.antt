@@ -9,9 +9,9 @@ use mathlib.Core.Logic.{_⊎_, inl, inr, _≢_}
 use mathlib.Core.List.{_∷_, List·Memᴰ·head, List·Memᴰ·tail}
 use Rattle.theory.specs.Log.{_∈_, _⊑_, here, more, Each}
 use Rattle.theory.proofs.Log.{mem-up, placed, each-at}
-use Rattle.eqaso.specs.Message.{Value, Message, read, readAnswer, write, writeAnswer, echo, value, good}
-use Rattle.eqaso.specs.Algorithm.{Operation, round0, round1, round2, round3, Wait, idle, reading, writing}
-use Rattle.eqaso.specs.Algorithm.{comparing, borrowing, Node}
+use Rattle.history.specs.Message.{Value, Message, read, readAnswer, write, writeAnswer, echo, value, good}
+use Rattle.history.specs.Event.{Operation, round0, round1, round2, round3}
+use Rattle.eqaso.specs.Algorithm.{Wait, idle, reading, writing, comparing, borrowing, Node}
 use Rattle.eqaso.proofs.Cert.{Log, Logs}
 use Rattle.eqaso.proofs.Local.{Past, Pending, Due, Local}
 use Rattle.eqaso.proofs.Closure.{Dues, pending-own, tag-positive, writer-sent, closed, all-closed}

@@ -7,10 +7,10 @@ use mathlib.Core.Bool.{true}
 use mathlib.Core.List.{[], _∷_, List·Memᴰ·head, List·Memᴰ·tail}
 use Rattle.theory.specs.Update.{upd}
 use Rattle.theory.specs.Log.{_∈_, _⊑_, here, more, push}
-use Rattle.eqaso.specs.Message.{Value, of, Message, read, readAnswer, write, writeAnswer, echo, value, good}
-use Rattle.eqaso.specs.Algorithm.{Operation, update, scan, Round, round0, round1, Nodes, nobody, Wait, idle}
-use Rattle.eqaso.specs.Algorithm.{reading, writing, comparing, borrowing, Node, sending, _then_, react}
-use Rattle.eqaso.specs.Algorithm.{messageStep, beginStep}
+use Rattle.history.specs.Message.{Value, of, Message, read, readAnswer, write, writeAnswer, echo, value, good}
+use Rattle.history.specs.Event.{Operation, update, scan, Round, round0, round1}
+use Rattle.eqaso.specs.Algorithm.{Nodes, nobody, Wait, idle, reading, writing, comparing, borrowing, Node}
+use Rattle.eqaso.specs.Algorithm.{sending, _then_, react, messageStep, beginStep}
 use Rattle.eqaso.proofs.Cert.{Log, Logs, IsValue}
 use Rattle.eqaso.proofs.Local.{Past, Local}
 use Rattle.eqaso.proofs.Closure.{Dues}

@@ -7,9 +7,9 @@ use mathlib.Core.Logic.{_⊎_, ⊎-elim}
 use mathlib.Core.List.{[], _∷_, _++_, Memᴰ·append-left, Memᴰ·append-right, List·Memᴰ·append-cases}
 use lib.ListN.{length, take, drop, take-append-drop}
 use Rattle.theory.specs.Log.{_∈_}
-use Rattle.eqaso.specs.Algorithm.{none}
-use Rattle.eqaso.specs.Trace.{Seen, Trace, Begun, nothing, updating, scanning, begun, endingAt, Fate, unfinished}
-use Rattle.eqaso.specs.Trace.{ended, fateBy, fateAt, fateOf, fate, upToEnd, ownTags, largest, tagAt}
+use Rattle.history.specs.Event.{none}
+use Rattle.history.specs.Trace.{Seen, Trace, Begun, nothing, updating, scanning, begun, endingAt, Fate, unfinished}
+use Rattle.history.specs.Trace.{ended, fateBy, fateAt, fateOf, fate, upToEnd, ownTags, largest, tagAt}
 use Rattle.eqaso.proofs.Book.{Book, tagOf, bookOf, At}
 use Rattle.eqaso.proofs.Tags.{largest-above, first-fits, first-none, first-low, first-keeps, first-next}
 use Rattle.eqaso.proofs.Append.{orElse, own-append}

@@ -9,11 +9,12 @@ use Rattle.theory.specs.Update.{upd, upd2}
 use Rattle.theory.proofs.Update.{upd-self}
 use Rattle.theory.specs.Log.{_∈_}
 use Rattle.theory.proofs.Log.{placed}
-use Rattle.eqaso.specs.Message.{Message}
-use Rattle.eqaso.specs.Algorithm.{Operation, idle, still, beginStep, messageStep}
-use Rattle.eqaso.specs.Cluster.{Extent, cut, Event, stop, Cluster, Result, refuse, commit, start, after, halted}
-use Rattle.eqaso.specs.Cluster.{channels, entries, letOut}
-use Rattle.eqaso.specs.Trace.{Seen, Trace, seen, handler, trace, tagsSent}
+use Rattle.history.specs.Message.{Message}
+use Rattle.history.specs.Event.{Operation, Extent, cut, Event, stop}
+use Rattle.history.specs.Trace.{Seen, Trace, handler, tagsSent}
+use Rattle.eqaso.specs.Algorithm.{idle, still, beginStep, messageStep}
+use Rattle.eqaso.specs.Cluster.{Cluster, Result, refuse, commit, start, after, halted, seen, trace, channels}
+use Rattle.eqaso.specs.Cluster.{entries, letOut}
 use Rattle.eqaso.proofs.Cert.{Logs}
 use Rattle.eqaso.proofs.Between.{handed-at}
 use Rattle.eqaso.proofs.Happened.{Handles, Happened, refusal, began, delivered, ceased, outcome}

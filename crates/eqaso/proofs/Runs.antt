@@ -8,13 +8,13 @@ use mathlib.Core.List.{List, [], _∷_, _++_}
 use lib.ListN.{replicate, length}
 use Rattle.theory.specs.Count.{count}
 use Rattle.theory.specs.Update.{upd, upd2}
-use Rattle.eqaso.specs.Message.{Entry, absent, same}
-use Rattle.eqaso.specs.Algorithm.{limit, has, within, newest, table, kept, moveOn, update, scan, round1, none}
-use Rattle.eqaso.specs.Algorithm.{done, shown, spent, direct, borrowed}
-use Rattle.eqaso.specs.Cluster.{Event, begin, deliver, whole, cut, Answer, refused, accepted, Sent, entries}
-use Rattle.eqaso.specs.Cluster.{sentTo, roomy, event}
+use Rattle.history.specs.Message.{Entry, absent, same}
+use Rattle.history.specs.Event.{update, scan, round1, none, done, shown, spent, direct, borrowed, Event, begin, deliver}
+use Rattle.history.specs.Event.{whole, cut, Answer, refused, accepted, Sent, sentTo}
+use Rattle.history.specs.Trace.{Trace}
+use Rattle.eqaso.specs.Algorithm.{limit, has, within, newest, table, kept, moveOn}
+use Rattle.eqaso.specs.Cluster.{entries, roomy, event, traceFrom, trace}
 use Rattle.eqaso.specs.Claims.{sixteen}
-use Rattle.eqaso.specs.Trace.{Trace, traceFrom, trace}
 
 -- What a run tells its clients: the events, counted from 1, that were refused or gave an ending.
 pub record Told : Type 0 where

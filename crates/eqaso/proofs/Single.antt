@@ -4,30 +4,23 @@ use native.Mathlib.Decide.{ℕ-discrete, decLt}
 use native.Mathlib.Omega.{arith}
 use mathlib.Core.Path.{_≡_, refl, sym, _∙_, ap, subst}
 use mathlib.Core.Logic.{_⊎_, inl, inr}
-use mathlib.Core.List.{List}
 use lib.ListN.{length}
 use Rattle.theory.specs.Log.{_∈_}
 use Rattle.order.specs.Sequence.{before}
 use Rattle.order.specs.Line.{update, scan, Line}
 use Rattle.order.proofs.Line.{line, latest}
-use Rattle.order.proofs.Sequence.{before-in, before-within}
-use Rattle.eqaso.specs.Message.{absent}
-use Rattle.eqaso.specs.Algorithm.{none, done, shown, spent}
-use Rattle.eqaso.specs.Trace.{Trace, Begun, nothing, updating, scanning, begun, Fate, unfinished, ended}
-use Rattle.eqaso.specs.Trace.{fate, tagAt, entryAt}
-use Rattle.eqaso.specs.Order.{IsScan, Shows, EndsInKind, PlacedBy, Placed, written, SingleOrder}
-use Rattle.eqaso.specs.Claims.{HasView, viewIn}
+use Rattle.history.specs.Message.{absent}
+use Rattle.history.specs.Event.{none, done, shown, spent}
+use Rattle.history.specs.Trace.{Trace, Begun, nothing, updating, scanning, begun, Fate, unfinished, ended, fate, tagAt}
+use Rattle.history.specs.Trace.{entryAt}
+use Rattle.history.specs.Order.{IsScan, Shows, EndsInKind, PlacedBy, Placed, written, SingleOrder}
+use Rattle.history.specs.Views.{HasView, viewIn}
+use Rattle.history.proofs.Written.{UpdateOf, written-none, written-last}
 use Rattle.eqaso.proofs.Book.{tagOf, plain, bookOf, At}
 use Rattle.eqaso.proofs.Facts.{Fit, Facts, Place}
 use Rattle.eqaso.proofs.Items.{kindOf, view, tag, Scan, update-at, scan-at, all, placed-of, all-of, holds-to}
 use Rattle.eqaso.proofs.Items.{holds-of, items, Precedes, sound}
-use Rattle.eqaso.proofs.Written.{UpdateOf, written-none, written-last}
 use Rattle.eqaso.proofs.Kept.{Kept}
-
--- Standing before is transitive.
-pub before-trans : {a u : ℕ} (s : ℕ) (l : List ℕ) → a ∈ before ℕ-discrete u l → u ∈ before ℕ-discrete s l
-    → a ∈ before ℕ-discrete s l
-before-trans {a} {u} s l m n = before-in ℕ-discrete u (before ℕ-discrete s l) (before-within ℕ-discrete s l n m)
 
 scan-kind : (b : Begun) → IsScan b → kindOf b ≡ scan
 scan-kind (scanning c) h = refl

@@ -4,9 +4,9 @@ use mathlib.Core.Logic.{_⊎_}
 use mathlib.Core.List.{[], _∷_}
 use Rattle.theory.specs.Update.{upd}
 use Rattle.theory.specs.Log.{_∈_, _⊑_, push}
-use Rattle.eqaso.specs.Message.{Message}
-use Rattle.eqaso.specs.Algorithm.{Operation, scan, nobody, reading, Node, fresh, asking, react, messageStep}
-use Rattle.eqaso.specs.Algorithm.{beginStep}
+use Rattle.history.specs.Message.{Message}
+use Rattle.history.specs.Event.{Operation, scan}
+use Rattle.eqaso.specs.Algorithm.{nobody, reading, Node, fresh, asking, react, messageStep, beginStep}
 use Rattle.eqaso.proofs.Cert.{Log, Logs}
 use Rattle.eqaso.proofs.Local.{Past}
 use Rattle.eqaso.proofs.Meant.{Meant, Others}

@@ -6,10 +6,10 @@ use mathlib.Core.Path.{_≡_, refl, sym}
 use mathlib.Core.Logic.{_≢_}
 use mathlib.Core.Bool.{Bool, true, false, cond, decide, _||_, or-false, or-assoc}
 use mathlib.Core.List.{List, [], _∷_, _++_, append-nil, append-assoc}
-use Rattle.eqaso.specs.Message.{Message}
-use Rattle.eqaso.specs.Cluster.{Event, sentTo, Cluster, event, after}
-use Rattle.eqaso.specs.Trace.{Seen, Trace, handler, stopsBy, stopped, letOutTo, handedIn}
-use Rattle.eqaso.specs.Trace.{handedOver}
+use Rattle.history.specs.Message.{Message}
+use Rattle.history.specs.Event.{Event, sentTo}
+use Rattle.history.specs.Trace.{Seen, Trace, handler, stopsBy, stopped, letOutTo, handedIn, handedOver}
+use Rattle.eqaso.specs.Cluster.{Cluster, event, after}
 
 pub stopped-snoc : (tr : Trace) (o : Seen) (c : ℕ)
     → stopped (tr ++ (o ∷ [])) c ≡ (stopped tr c || stopsBy (o .event) (o .answer) c)

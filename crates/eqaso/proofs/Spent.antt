@@ -5,10 +5,11 @@ use mathlib.Core.Path.{_≡_, refl, sym, _∙_, ap, subst}
 use mathlib.Core.Logic.{_⊎_, inl, inr, if-pos}
 use mathlib.Core.List.{[], append-nil}
 use Rattle.theory.specs.Log.{push}
-use Rattle.eqaso.specs.Message.{View, Message}
-use Rattle.eqaso.specs.Algorithm.{limit, Operation, update, scan, Wait, idle, reading, Node, Rule, Ending, none}
-use Rattle.eqaso.specs.Algorithm.{done, shown, spent, Step, sending, ended, then-by, _then_, waiting, quorum?}
-use Rattle.eqaso.specs.Algorithm.{finish, readPass, writePass, comparePass, borrowPass, moveOn, react, messageStep}
+use Rattle.history.specs.Message.{View, Message}
+use Rattle.history.specs.Event.{Operation, update, scan, Rule, Ending, none, done, shown, spent}
+use Rattle.eqaso.specs.Algorithm.{limit, Wait, idle, reading, Node, Step, sending, ended, then-by, _then_}
+use Rattle.eqaso.specs.Algorithm.{waiting, quorum?, finish, readPass, writePass, comparePass, borrowPass, moveOn}
+use Rattle.eqaso.specs.Algorithm.{react, messageStep}
 use Rattle.eqaso.specs.Claims.{ReadLast, SpentLast}
 use Rattle.eqaso.proofs.Passes.{Claim, Final, On, react-open}
 use Rattle.eqaso.proofs.MoveOn.{Moves, message-leaves}

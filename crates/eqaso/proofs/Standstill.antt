@@ -8,9 +8,9 @@ use mathlib.Core.Bool.{Bool, true, decide}
 use Rattle.theory.specs.Count.{count}
 use Rattle.theory.proofs.Count.{count-mono}
 use Rattle.theory.specs.Log.{_∈_}
-use Rattle.eqaso.specs.Message.{Value, View, Message, read, readAnswer, write, writeAnswer, value, good}
+use Rattle.history.specs.Message.{Value, View, Message, read, readAnswer, write, writeAnswer, value, good}
+use Rattle.history.specs.Order.{OneTo}
 use Rattle.eqaso.specs.Algorithm.{Wait, idle, reading, writing, comparing, borrowing, Node, waiting, agrees}
-use Rattle.eqaso.specs.Order.{OneTo}
 use Rattle.eqaso.proofs.Cert.{Logs}
 use Rattle.eqaso.proofs.Local.{Took}
 use Rattle.eqaso.proofs.Meant.{Meant}

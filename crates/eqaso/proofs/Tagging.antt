@@ -11,12 +11,12 @@ use Rattle.theory.specs.Update.{upd}
 use Rattle.theory.proofs.Update.{upd-same, upd-other}
 use Rattle.theory.specs.Log.{_∈_}
 use Rattle.theory.proofs.Log.{push-new, placed}
-use Rattle.eqaso.specs.Message.{Value, of, Message, value}
-use Rattle.eqaso.specs.Algorithm.{Operation, update, Round, round3, Wait, reading, writing, comparing, borrowing}
-use Rattle.eqaso.specs.Algorithm.{none}
-use Rattle.eqaso.specs.Cluster.{Extent, whole, cut, halted, given}
-use Rattle.eqaso.specs.Trace.{Trace, Begun, nothing, updating, scanning}
-use Rattle.eqaso.specs.Order.{EndedBefore}
+use Rattle.history.specs.Message.{Value, of, Message, value}
+use Rattle.history.specs.Event.{Operation, update, Round, round3, none, Extent, whole, cut}
+use Rattle.history.specs.Trace.{Trace, Begun, nothing, updating, scanning}
+use Rattle.history.specs.Order.{EndedBefore}
+use Rattle.eqaso.specs.Algorithm.{Wait, reading, writing, comparing, borrowing}
+use Rattle.eqaso.specs.Cluster.{halted, given}
 use Rattle.eqaso.proofs.Cert.{Log, Logs}
 use Rattle.eqaso.proofs.Local.{Past, Own, Pending, Settled, Stage, Phase}
 use Rattle.eqaso.proofs.Front.{front, front-in}

@@ -5,10 +5,11 @@ use mathlib.Core.List.{List, [], _∷_, _++_, append-nil}
 use Rattle.theory.specs.Update.{upd}
 use Rattle.theory.proofs.Update.{upd-all}
 use Rattle.theory.specs.Log.{_∈_, push}
-use Rattle.eqaso.specs.Message.{Message}
-use Rattle.eqaso.specs.Cluster.{Extent, entries, letOut}
-use Rattle.eqaso.specs.Trace.{Seen, Trace, handler, letOutTo}
-use Rattle.eqaso.specs.Order.{OneTo}
+use Rattle.history.specs.Message.{Message}
+use Rattle.history.specs.Event.{Extent}
+use Rattle.history.specs.Trace.{Seen, Trace, handler, letOutTo}
+use Rattle.history.specs.Order.{OneTo}
+use Rattle.eqaso.specs.Cluster.{entries, letOut}
 use Rattle.eqaso.proofs.Cert.{Logs}
 use Rattle.eqaso.proofs.Meant.{Meant}
 use Rattle.eqaso.proofs.Between.{Between, nothing-between, between-more, between-in}

@@ -8,8 +8,9 @@ use Rattle.theory.specs.Update.{upd}
 use Rattle.theory.proofs.Update.{upd-all}
 use Rattle.theory.specs.Log.{_∈_, _⊑_, here, Each}
 use Rattle.theory.proofs.Log.{⊑-trans, mem-up}
-use Rattle.eqaso.specs.Message.{Value, Message, read, readAnswer, write, writeAnswer, echo, value, good}
-use Rattle.eqaso.specs.Algorithm.{Operation, Round, Wait, idle, reading, writing, comparing, borrowing, Node}
+use Rattle.history.specs.Message.{Value, Message, read, readAnswer, write, writeAnswer, echo, value, good}
+use Rattle.history.specs.Event.{Operation, Round}
+use Rattle.eqaso.specs.Algorithm.{Wait, idle, reading, writing, comparing, borrowing, Node}
 use Rattle.eqaso.proofs.Cert.{Log, Logs, _≼_}
 use Rattle.eqaso.proofs.Meant.{Others}
 use Rattle.eqaso.proofs.Local.{Past, Under, Took, Due, Have, Stage, WroteBy, Phase, Local}

@@ -11,11 +11,12 @@ use Rattle.theory.specs.Count.{count}
 use Rattle.theory.proofs.Count.{meet}
 use Rattle.theory.specs.Log.{_∈_, _⊑_, Each}
 use Rattle.theory.proofs.Log.{⊑-trans, ⊑-cons, mem-up, place, each-at}
-use Rattle.eqaso.specs.Message.{Value, of, absent, View, value}
-use Rattle.eqaso.specs.Algorithm.{Operation, Round, done, shown, spent, newest, table, viewUpto}
-use Rattle.eqaso.specs.Trace.{Begun, nothing, updating, scanning, Fate, unfinished, ended, entryAt}
-use Rattle.eqaso.specs.Order.{OneTo, EndedBefore}
-use Rattle.eqaso.specs.Claims.{HasView, viewIn, Below, Comparable}
+use Rattle.history.specs.Message.{Value, of, absent, View, value}
+use Rattle.history.specs.Event.{Operation, Round, done, shown, spent}
+use Rattle.history.specs.Trace.{Begun, nothing, updating, scanning, Fate, unfinished, ended, entryAt}
+use Rattle.history.specs.Order.{OneTo, EndedBefore}
+use Rattle.history.specs.Views.{HasView, viewIn, Below, Comparable}
+use Rattle.eqaso.specs.Algorithm.{newest, table, viewUpto}
 use Rattle.eqaso.proofs.Cert.{Log, Logs, Inside, Cert, below, same}
 use Rattle.eqaso.proofs.Local.{Past, Settled, Due, Stage}
 use Rattle.eqaso.proofs.Newest.{From, newest-from, newest-above}

@@ -8,10 +8,10 @@ use mathlib.Core.Path.{_≡_, refl, sym, _∙_, ap, subst}
 use mathlib.Core.List.{List, [], _∷_, List·Memᴰ·head, List·Memᴰ·tail}
 use lib.ListN.{take}
 use Rattle.theory.specs.Log.{_∈_}
-use Rattle.eqaso.specs.Trace.{Trace, updating, begun, Fate, ended, fateAt, fateOf, fate, upToEnd, ownTags}
-use Rattle.eqaso.specs.Trace.{largest, tagAt}
-use Rattle.eqaso.specs.Order.{EndedBefore}
-use Rattle.eqaso.specs.Claims.{IsTag, TagsAsWorded}
+use Rattle.history.specs.Trace.{Trace, updating, begun, Fate, ended, fateAt, fateOf, fate, upToEnd, ownTags, largest}
+use Rattle.history.specs.Trace.{tagAt}
+use Rattle.history.specs.Order.{EndedBefore}
+use Rattle.history.specs.Tags.{IsTag, TagsAsWorded}
 use Rattle.eqaso.proofs.Book.{tagOf, bookOf, At}
 use Rattle.eqaso.proofs.Tags.{largest-above, first-fits, first-none}
 use Rattle.eqaso.proofs.Rows.{own-take, own-drop, own-span}

@@ -8,10 +8,11 @@ use Rattle.theory.specs.Update.{upd}
 use Rattle.theory.proofs.Update.{upd-same, upd-other, upd-all, upd-twice}
 use Rattle.theory.specs.Log.{_∈_, _⊑_, here, more, push}
 use Rattle.theory.proofs.Log.{⊑-cons, place, placed, push-append, push-up, each-at}
-use Rattle.eqaso.specs.Message.{Message, read, readAnswer, write, writeAnswer, echo, value, good}
-use Rattle.eqaso.specs.Algorithm.{Operation, update, scan, nobody, Wait, idle, reading, Node, Ending, none, done}
-use Rattle.eqaso.specs.Algorithm.{shown, spent, Step, sending, then-by, _then_, waiting, asking, readPass}
-use Rattle.eqaso.specs.Algorithm.{writePass, comparePass, borrowPass, react, moveOn, messageStep, beginStep}
+use Rattle.history.specs.Message.{Message, read, readAnswer, write, writeAnswer, echo, value, good}
+use Rattle.history.specs.Event.{Operation, update, scan, Ending, none, done, shown, spent}
+use Rattle.eqaso.specs.Algorithm.{nobody, Wait, idle, reading, Node, Step, sending, then-by, _then_, waiting}
+use Rattle.eqaso.specs.Algorithm.{asking, readPass, writePass, comparePass, borrowPass, react, moveOn}
+use Rattle.eqaso.specs.Algorithm.{messageStep, beginStep}
 use Rattle.eqaso.proofs.Cert.{Log, Logs, _≼_, carry}
 use Rattle.eqaso.proofs.Local.{Past, Due, Have, Local}
 use Rattle.eqaso.proofs.Grow.{settled-up, local-up}

@@ -8,9 +8,10 @@ use Rattle.theory.specs.Count.{count}
 use Rattle.theory.proofs.Count.{meet}
 use Rattle.theory.specs.Log.{_∈_, here}
 use Rattle.theory.proofs.Log.{mem-up, ⊑-cons}
-use Rattle.eqaso.specs.Message.{Value, value}
-use Rattle.eqaso.specs.Algorithm.{Operation, update, Round, round0, Nodes, Wait, idle, reading, writing}
-use Rattle.eqaso.specs.Algorithm.{comparing, borrowing, Node, still, waiting, quorum?, writePass}
+use Rattle.history.specs.Message.{Value, value}
+use Rattle.history.specs.Event.{Operation, update, Round, round0}
+use Rattle.eqaso.specs.Algorithm.{Nodes, Wait, idle, reading, writing, comparing, borrowing, Node, still, waiting}
+use Rattle.eqaso.specs.Algorithm.{quorum?, writePass}
 use Rattle.eqaso.proofs.Cert.{Log, Logs}
 use Rattle.eqaso.proofs.Local.{Past, Own, Held, Pending, Writes, Local}
 use Rattle.eqaso.proofs.Grow.{held-up}

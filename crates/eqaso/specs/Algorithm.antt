@@ -7,28 +7,17 @@ use mathlib.Core.Logic.{ite}
 use mathlib.Core.Bool.{true, cond}
 use mathlib.Core.List.{List, [], _∷_, _++_}
 use Rattle.theory.specs.Update.{upd}
-use Rattle.eqaso.specs.Message.{Value, View, Message, read, readAnswer, write, writeAnswer, echo, value, good}
-pub use Rattle.eqaso.specs.Node.{Operation, update, scan, Round, round0, round1, round2, round3, Nodes, nobody}
-pub use Rattle.eqaso.specs.Node.{Wait, idle, reading, writing, comparing, borrowing, Good, Node, fresh, turned}
-pub use Rattle.eqaso.specs.Node.{topping, holding, keep, waiting, asking, latest, viewUpto, agrees, quorum?}
+use Rattle.history.specs.Message.{Value, View, Message, read, readAnswer, write, writeAnswer, echo, value, good}
+use Rattle.history.specs.Event.{Operation, update, scan, Round, round0, round1, round2, round3, Rule, direct, borrowed}
+use Rattle.history.specs.Event.{Ending, none, done, shown, spent}
+pub use Rattle.eqaso.specs.Node.{Nodes, nobody, Wait, idle, reading, writing, comparing, borrowing, Good, Node}
+pub use Rattle.eqaso.specs.Node.{fresh, turned, topping, holding, keep, waiting, asking, latest, viewUpto, agrees}
+pub use Rattle.eqaso.specs.Node.{quorum?}
 unfoldable pub use Rattle.eqaso.specs.Node.{has, within, newest, highest, table, kept}
 
 -- The largest tag, and the largest request number.
 unfoldable pub limit : ℕ
 limit = 9_223_372_036_854_775_807
-
--- How an operation came by its view: a good round of its own, or one that another node lent.
-pub data Rule : Type 0 where
-  direct : Round → Rule
-  borrowed : Rule
-
--- What a step tells the client: nothing, that its update is done, what its scan shows, or that no tag was left. An
--- update has a view too (line 9), which the client is not given.
-pub data Ending : Type 0 where
-  none : Ending
-  done : Rule → View → Ending
-  shown : Rule → View → Ending
-  spent : Ending
 
 -- A step: the node after it, the messages in the order produced, and the ending.
 pub record Step : Type 0 where

@@ -5,11 +5,12 @@ use mathlib.Core.Path.{_≡_}
 use mathlib.Core.Bool.{Bool, false}
 use mathlib.Core.List.{List, _∷_, _++_}
 use Rattle.theory.specs.Log.{_∈_}
-use Rattle.eqaso.specs.Message.{Value, Message, read, readAnswer, write, writeAnswer, echo, value, good}
-use Rattle.eqaso.specs.Algorithm.{Operation, Round, comparing, Node, messageStep}
-use Rattle.eqaso.specs.Cluster.{Event, start, after}
-use Rattle.eqaso.specs.Trace.{Trace, trace, letOutTo}
-use Rattle.eqaso.specs.Order.{OneTo}
+use Rattle.history.specs.Message.{Value, Message, read, readAnswer, write, writeAnswer, echo, value, good}
+use Rattle.history.specs.Event.{Operation, Round, Event}
+use Rattle.history.specs.Trace.{Trace, letOutTo}
+use Rattle.history.specs.Order.{OneTo}
+use Rattle.eqaso.specs.Algorithm.{comparing, Node, messageStep}
+use Rattle.eqaso.specs.Cluster.{start, after, trace}
 
 -- u is an earlier value of the writer of v, or v itself.
 abbrev pub UpTo : Value → Value → Type 0

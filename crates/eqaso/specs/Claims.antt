@@ -1,25 +1,25 @@
--- What is claimed of every run of the algorithm: demand 3 for the sizes of document 01, and what else a reader may want
--- to know of views and of the sets of a node.
+-- What is claimed of every run of the algorithm: demand 3, also for the sizes of document 01; and when an update is
+-- spent.
 use Prim.Native.Nat.{ℕ, suc, _+_, _-_, _≤_, _<_, max}
 use mathlib.Core.Path.{_≡_}
-use mathlib.Core.Logic.{_⊎_, _↔_}
+use mathlib.Core.Logic.{_↔_}
 use mathlib.Core.Bool.{Bool}
-use mathlib.Core.List.{[]}
-use lib.ListN.{take}
+use mathlib.Core.List.{List}
 use Rattle.theory.specs.Count.{count}
-use Rattle.theory.specs.Log.{_∈_}
-use Rattle.eqaso.specs.Message.{absent, View, Message, good}
-use Rattle.eqaso.specs.Algorithm.{limit, Operation, update, scan, Wait, idle, reading, writing, comparing}
-use Rattle.eqaso.specs.Algorithm.{borrowing, Node, none, done, shown, spent, react, messageStep, beginStep}
-use Rattle.eqaso.specs.Cluster.{atMost, unlimited}
-use Rattle.eqaso.specs.Trace.{Trace, updating, begun, Fate, unfinished, ended, fate, tagAt, viewOf, entryAt}
-use Rattle.eqaso.specs.Trace.{letOutTo}
-use Rattle.eqaso.specs.Trace.{fateAt, upToEnd, ownTags}
-use Rattle.eqaso.specs.Order.{OneTo, Finished, IsScan, EndedBefore, Demand3}
+use Rattle.history.specs.Message.{Message}
+use Rattle.history.specs.Event.{Operation, update, scan, none, spent, Event}
+use Rattle.history.specs.Order.{OneTo, SingleOrder, Quiet}
+use Rattle.eqaso.specs.Algorithm.{limit, Wait, idle, reading, writing, comparing, borrowing, Node, react}
+use Rattle.eqaso.specs.Algorithm.{messageStep, beginStep}
+use Rattle.eqaso.specs.Cluster.{atMost, unlimited, trace}
 
 -- f is the largest number with 2f < n.
 abbrev pub Faults : ℕ → ℕ → Type 0
 Faults n f = (f + f < n) × (n ≤ suc f + suc f)
+
+-- Demand 3: of every list of events, with any numbers, on channels with a given room.
+abbrev pub Demand3 : (n f : ℕ) (room : ℕ → Bool) → Type 0
+Demand3 n f room = (es : List Event) → SingleOrder n (trace n f room es) × Quiet n (trace n f room es)
 
 -- Document 01's channels hold at most sixteen messages.
 abbrev pub sixteen : ℕ → Bool
@@ -32,21 +32,6 @@ Claim3 = (n f : ℕ) → OneTo 16 n → Faults n f → Demand3 n f sixteen
 -- Demand 3 on links without a limit, where no channel is ever full.
 abbrev pub OnLinks : Type 0
 OnLinks = (n f : ℕ) → f + f < n → Demand3 n f unlimited
-
--- Document 01's words for the tag s of the update of node c that began at index t: it is among its own tags let out from
--- its begin to its ending, and above all of them let out before.
-pub record IsTag (tr : Trace) (t c s : ℕ) : Type 0 where
-  pub sent : s ∈ ownTags c (upToEnd t (fateAt tr t c) tr)
-  pub above : (x : ℕ) → x ∈ ownTags c (take t tr) → x < s
-
--- The words fit one number at most, which is the tag; where they fit none, the tag is 0; and the tags of a node rise from
--- one of its updates to the next.
-pub record TagsAsWorded (tr : Trace) : Type 0 where
-  pub only : (t c p s : ℕ) → begun tr t ≡ updating c p → IsTag tr t c s → s ≡ tagAt tr t c
-  pub fits : (t c : ℕ) → 0 < tagAt tr t c → IsTag tr t c (tagAt tr t c)
-  pub none : (t c : ℕ) → ((s : ℕ) → ¬ IsTag tr t c s) → tagAt tr t c ≡ 0
-  pub rise : (t u c p q : ℕ) → begun tr t ≡ updating c p → begun tr u ≡ updating c q → t < u → 0 < tagAt tr u c
-      → tagAt tr t c < tagAt tr u c
 
 -- An update has read: a quorum has answered, and the tag that it uses (amendment 3) is the largest.
 abbrev pub ReadLast : (n f : ℕ) → Node → Wait → Type 0
@@ -68,41 +53,3 @@ pub record SpentLast (n f : ℕ) : Type 0 where
 -- No operation ends in its begin step.
 abbrev pub BeginsOpen : (n f : ℕ) → Type 0
 BeginsOpen n f = (i : ℕ) (op : Operation) (ν : Node) → beginStep n f i op ν .ending ≡ none
-
--- The first view has of no node a larger tag than the second.
-abbrev pub Below : ℕ → View → View → Type 0
-Below n v x = (w : ℕ) → OneTo n w → entryAt v w .tag ≤ entryAt x w .tag
-
--- Of each two views one is below the other.
-abbrev pub Comparable : ℕ → View → View → Type 0
-Comparable n v x = Below n v x ⊎ Below n x v
-
--- The views of any two good rounds are comparable.
-abbrev pub RoundsComparable : ℕ → Trace → Type 0
-RoundsComparable n tr = (a b c d t u : ℕ) (v x : View) → good t v ∈ letOutTo tr a b → good u x ∈ letOutTo tr c d
-    → Comparable n v x
-
--- Where no update was begun, every scan shows no report of any node.
-abbrev pub ShowsAbsence : ℕ → Trace → Type 0
-ShowsAbsence n tr = ((u c p : ℕ) → ¬ (begun tr u ≡ updating c p)) → (s : ℕ) → IsScan (begun tr s) → Finished (fate tr s)
-    → (w : ℕ) → OneTo n w → entryAt (viewOf (fate tr s)) w ≡ absent
-
--- The operation ended with a view, an update or a scan, and the view; the empty one for all else.
-abbrev pub HasView : Fate → Type 0
-HasView unfinished = ⊥
-HasView (ended k none) = ⊥
-HasView (ended k (done r v)) = Unit {0}
-HasView (ended k (shown r v)) = Unit {0}
-HasView (ended k spent) = ⊥
-
-abbrev pub viewIn : Fate → View
-viewIn unfinished = []
-viewIn (ended k none) = []
-viewIn (ended k (done r v)) = v
-viewIn (ended k (shown r v)) = v
-viewIn (ended k spent) = []
-
--- The view of an operation has every update that ended before it began.
-abbrev pub HasEarlier : Trace → Type 0
-HasEarlier tr = (u c p t : ℕ) → begun tr u ≡ updating c p → 0 < tagAt tr u c → EndedBefore (fate tr u) t
-    → HasView (fate tr t) → tagAt tr u c ≤ entryAt (viewIn (fate tr t)) c .tag

@@ -10,30 +10,12 @@ use mathlib.Core.List.{List, [], _∷_, _++_}
 use lib.ListN.{length, take}
 use Rattle.theory.specs.Count.{count}
 use Rattle.theory.specs.Update.{upd, upd2}
-use Rattle.eqaso.specs.Message.{Message, read, readAnswer, write, writeAnswer, echo, value, good}
-use Rattle.eqaso.specs.Algorithm.{limit, table, Operation, Wait, idle, reading, writing, comparing, borrowing}
-use Rattle.eqaso.specs.Algorithm.{Node, fresh, Ending, none, Step, still, beginStep, messageStep}
-
--- How much of a step's list an event lets out: all of it, or its first m entries, after which the node stops.
-pub data Extent : Type 0 where
-  whole : Extent
-  cut : ℕ → Extent
-
--- What may happen, with any numbers.
-pub data Event : Type 0 where
-  begin : (node : ℕ) → Operation → Extent → Event
-  deliver : (sender receiver : ℕ) → Extent → Event
-  stop : (node : ℕ) → Event
-
--- A refusal by its number in document 01, or the ending that the event gives.
-pub data Answer : Type 0 where
-  refused : ℕ → Answer
-  accepted : Ending → Answer
-
--- A message let out to one node.
-pub record Sent : Type 0 where
-  pub to : ℕ
-  pub message : Message
+use Rattle.history.specs.Message.{Message, read, readAnswer, write, writeAnswer, echo, value, good}
+use Rattle.history.specs.Event.{Operation, Extent, whole, cut, Event, begin, deliver, stop, Ending, none, Answer}
+use Rattle.history.specs.Event.{refused, accepted, Sent, sentTo}
+use Rattle.history.specs.Trace.{Seen, Trace}
+use Rattle.eqaso.specs.Algorithm.{limit, table, Wait, idle, reading, writing, comparing, borrowing, Node, fresh}
+use Rattle.eqaso.specs.Algorithm.{Step, still, beginStep, messageStep}
 
 pub record Cluster : Type 0 where
   pub nodes : ℕ → Node
@@ -87,11 +69,6 @@ entries n (m ∷ ms) = addressed n m ++ entries n ms
 abbrev pub letOut : Extent → List Sent → List Sent
 letOut whole l = l
 letOut (cut m) l = take m l
-
--- The messages among the entries that go to node b.
-unfoldable pub sentTo : ℕ → List Sent → List Message
-sentTo b [] = []
-sentTo b (s ∷ l) = cond (decide (ℕ-discrete (s .to) b)) (s .message ∷ sentTo b l) (sentTo b l)
 
 -- Who has stopped after an event that node c handles.
 abbrev pub halted : Extent → ℕ → (ℕ → Bool) → ℕ → Bool
@@ -209,3 +186,15 @@ event n f room (stop c) σ = stopEvent n f c σ
 unfoldable pub after : (n f : ℕ) (room : ℕ → Bool) → Cluster → List Event → Cluster
 after n f room σ [] = σ
 after n f room σ (e ∷ es) = after n f room (event n f room e σ .cluster) es
+
+-- An event as it is seen from outside.
+abbrev pub seen : Event → Result → Seen
+seen e r = record { event = e; answer = r .answer; sent = r .sent }
+
+-- The trace of a list of events, each of which gets the cluster as the one before it left it.
+unfoldable pub traceFrom : (n f : ℕ) (room : ℕ → Bool) → Cluster → List Event → Trace
+traceFrom n f room σ [] = []
+traceFrom n f room σ (e ∷ es) = seen e (event n f room e σ) ∷ traceFrom n f room (event n f room e σ .cluster) es
+
+abbrev pub trace : (n f : ℕ) (room : ℕ → Bool) → List Event → Trace
+trace n f room es = traceFrom n f room start es

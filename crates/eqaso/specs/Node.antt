@@ -7,16 +7,8 @@ use mathlib.Core.Bool.{Bool, true, false, cond, decide, _&&_, _||_}
 use mathlib.Core.List.{List, [], _∷_, _++_}
 use lib.ListN.{replicate}
 use Rattle.theory.specs.Count.{count}
-use Rattle.eqaso.specs.Message.{Value, same, Entry, absent, View}
-
--- What a client asks for. Document 01's look is a scan.
-pub data Operation : Type 0 where
-  update : (report : ℕ) → Operation
-  scan : Operation
-
--- The lattice operations of an operation: phase 0 of an update, then the three of the renewal.
-pub data Round : Type 0 where
-  round0 round1 round2 round3 : Round
+use Rattle.history.specs.Message.{Value, same, Entry, absent, View}
+use Rattle.history.specs.Event.{Operation, Round}
 
 -- Who has answered the current request.
 abbrev pub Nodes : Type 0

@@ -13,7 +13,8 @@ use Rattle.view.specs.declared.View.{View}
 use Rattle.wire.specs.declared.Message.{Message}
 use Rattle.wire.specs.declared.Message.the-variants.{Read, ReadAnswer, Write, WriteAnswer, Echo, Value, Good}
 use Rattle.entries.specs.Entries.{Entry, entry, addressed, entriesOf, goTo}
-use Rattle.eqaso.specs.Message as M
+use Rattle.history.specs.Message as M
+use Rattle.history.specs.Event as H
 use Rattle.eqaso.specs.Algorithm as A
 use Rattle.eqaso.specs.Cluster as K
 use Rattle.refine.specs.Meaning.{messageOf}
@@ -22,15 +23,15 @@ use Rattle.mirror.specs.Mirrors.{mail}
 abbrev pub Channel : Type 0
 Channel = ℕ → ℕ → List M.Message
 
-module _ (s : ℕ → Bool) (c : ℕ) (l : List K.Sent) (q : Channel) (a d : ℕ) where
+module _ (s : ℕ → Bool) (c : ℕ) (l : List H.Sent) (q : Channel) (a d : ℕ) where
   pub channel-stopped : s d ≡ true → K.channels s c l q a d ≡ []
   channel-stopped e = rw e refl
 
-  pub channel-own : s d ≡ false → a ≡ c → K.channels s c l q a d ≡ q a d ++ K.sentTo d l
+  pub channel-own : s d ≡ false → a ≡ c → K.channels s c l q a d ≡ q a d ++ H.sentTo d l
   unfolding decide
   channel-own e h = rw e (go (ℕ-discrete a c))
     where
-      go : (x : Dec (a ≡ c)) → cond (decide x) (q a d ++ K.sentTo d l) (q a d) ≡ q a d ++ K.sentTo d l
+      go : (x : Dec (a ≡ c)) → cond (decide x) (q a d ++ H.sentTo d l) (q a d) ≡ q a d ++ H.sentTo d l
       go (yes p) = refl
       go (no p) = absurd (p h)
 
@@ -38,42 +39,42 @@ module _ (s : ℕ → Bool) (c : ℕ) (l : List K.Sent) (q : Channel) (a d : ℕ
   unfolding decide
   channel-other e h = rw e (go (ℕ-discrete a c))
     where
-      go : (x : Dec (a ≡ c)) → cond (decide x) (q a d ++ K.sentTo d l) (q a d) ≡ q a d
+      go : (x : Dec (a ≡ c)) → cond (decide x) (q a d ++ H.sentTo d l) (q a d) ≡ q a d
       go (yes p) = absurd (h p)
       go (no p) = refl
 
 -- What one entry more brings to a node.
-module _ (d : ℕ) (e : K.Sent) (l : List K.Sent) where
-  pub sent-here : e .to ≡ d → K.sentTo d (e ∷ l) ≡ e .message ∷ K.sentTo d l
-  unfolding K.sentTo decide
+module _ (d : ℕ) (e : H.Sent) (l : List H.Sent) where
+  pub sent-here : e .to ≡ d → H.sentTo d (e ∷ l) ≡ e .message ∷ H.sentTo d l
+  unfolding H.sentTo decide
   sent-here h = go (ℕ-discrete (e .to) d)
     where
-      go : (x : Dec (e .to ≡ d)) → cond (decide x) (e .message ∷ K.sentTo d l) (K.sentTo d l)
-          ≡ e .message ∷ K.sentTo d l
+      go : (x : Dec (e .to ≡ d)) → cond (decide x) (e .message ∷ H.sentTo d l) (H.sentTo d l)
+          ≡ e .message ∷ H.sentTo d l
       go (yes p) = refl
       go (no p) = absurd (p h)
 
-  pub sent-elsewhere : e .to ≢ d → K.sentTo d (e ∷ l) ≡ K.sentTo d l
-  unfolding K.sentTo decide
+  pub sent-elsewhere : e .to ≢ d → H.sentTo d (e ∷ l) ≡ H.sentTo d l
+  unfolding H.sentTo decide
   sent-elsewhere h = go (ℕ-discrete (e .to) d)
     where
-      go : (x : Dec (e .to ≡ d)) → cond (decide x) (e .message ∷ K.sentTo d l) (K.sentTo d l) ≡ K.sentTo d l
+      go : (x : Dec (e .to ≡ d)) → cond (decide x) (e .message ∷ H.sentTo d l) (H.sentTo d l) ≡ H.sentTo d l
       go (yes p) = absurd (h p)
       go (no p) = refl
 
-pub sent-none : (d : ℕ) → K.sentTo d [] ≡ []
-unfolding K.sentTo
+pub sent-none : (d : ℕ) → H.sentTo d [] ≡ []
+unfolding H.sentTo
 sent-none d = refl
 
-pub sent-first : (d : ℕ) (e : K.Sent) (l : List K.Sent) → K.sentTo d (e ∷ l) ≡ K.sentTo d (e ∷ []) ++ K.sentTo d l
+pub sent-first : (d : ℕ) (e : H.Sent) (l : List H.Sent) → H.sentTo d (e ∷ l) ≡ H.sentTo d (e ∷ []) ++ H.sentTo d l
 sent-first d e l = elim (ℕ-discrete (e .to) d) [
-  | yes h ↦ sent-here d e l h ∙ sym (ap (λ x. x ++ K.sentTo d l)
+  | yes h ↦ sent-here d e l h ∙ sym (ap (λ x. x ++ H.sentTo d l)
       (sent-here d e [] h ∙ ap (λ x. e .message ∷ x) (sent-none d)))
-  | no h ↦ sent-elsewhere d e l h ∙ sym (ap (λ x. x ++ K.sentTo d l) (sent-elsewhere d e [] h ∙ sent-none d))
+  | no h ↦ sent-elsewhere d e l h ∙ sym (ap (λ x. x ++ H.sentTo d l) (sent-elsewhere d e [] h ∙ sent-none d))
 ]
 
 -- One entry after another, as one list.
-pub channels-more : (s : ℕ → Bool) (c : ℕ) (e : K.Sent) (l : List K.Sent) (q : Channel) (a d : ℕ)
+pub channels-more : (s : ℕ → Bool) (c : ℕ) (e : H.Sent) (l : List H.Sent) (q : Channel) (a d : ℕ)
     → K.channels s c l (K.channels s c (e ∷ []) q) a d ≡ K.channels s c (e ∷ l) q a d
 channels-more s c e l q a d = go (s d) refl (ℕ-discrete a c)
   where
@@ -82,14 +83,14 @@ channels-more s c e l q a d = go (s d) refl (ℕ-discrete a c)
 
     go : (y : Bool) → s d ≡ y → Dec (a ≡ c) → K.channels s c l q₁ a d ≡ K.channels s c (e ∷ l) q a d
     go true p h = channel-stopped s c l q₁ a d p ∙ sym (channel-stopped s c (e ∷ l) q a d p)
-    go false p (yes h) = channel-own s c l q₁ a d p h ∙ ap (λ x. x ++ K.sentTo d l) (channel-own s c (e ∷ []) q a d p h)
-        ∙ append-assoc (q a d) (K.sentTo d (e ∷ [])) (K.sentTo d l) ∙ ap (λ x. q a d ++ x) (sym (sent-first d e l))
+    go false p (yes h) = channel-own s c l q₁ a d p h ∙ ap (λ x. x ++ H.sentTo d l) (channel-own s c (e ∷ []) q a d p h)
+        ∙ append-assoc (q a d) (H.sentTo d (e ∷ [])) (H.sentTo d l) ∙ ap (λ x. q a d ++ x) (sym (sent-first d e l))
         ∙ sym (channel-own s c (e ∷ l) q a d p h)
     go false p (no h) = channel-other s c l q₁ a d p h ∙ channel-other s c (e ∷ []) q a d p h
         ∙ sym (channel-other s c (e ∷ l) q a d p h)
 
 -- How many entries go to a node.
-pub same-goTo : (n d : ℕ) (l : List Entry) → goTo d l ≡ length (K.sentTo d (map (mail n) l))
+pub same-goTo : (n d : ℕ) (l : List Entry) → goTo d l ≡ length (H.sentTo d (map (mail n) l))
 unfolding goTo
 same-goTo n d [] = ap length (sym (sent-none d))
 same-goTo n d (e ∷ l) = elim (ℕ-discrete (e .to) d) [
@@ -141,13 +142,13 @@ channels-none s c q gone a d = go (s d) refl (ℕ-discrete a c)
 abbrev pub emptied : (ℕ → Bool) → Channel → Channel
 emptied s q a d = cond (s d) [] (q a d)
 
-pub channels-emptied : (s : ℕ → Bool) (c : ℕ) (l : List K.Sent) (q : Channel)
+pub channels-emptied : (s : ℕ → Bool) (c : ℕ) (l : List H.Sent) (q : Channel)
     → K.channels s c l (emptied s q) ≡ K.channels s c l q
 channels-emptied s c l q = fun-ext (λ a. fun-ext (λ d. go a d (s d) refl (ℕ-discrete a c)))
   where
     go : (a d : ℕ) (y : Bool) → s d ≡ y → Dec (a ≡ c) → K.channels s c l (emptied s q) a d ≡ K.channels s c l q a d
     go a d true e h = channel-stopped s c l (emptied s q) a d e ∙ sym (channel-stopped s c l q a d e)
-    go a d false e (yes h) = channel-own s c l (emptied s q) a d e h ∙ ap (λ y. cond y [] (q a d) ++ K.sentTo d l) e
+    go a d false e (yes h) = channel-own s c l (emptied s q) a d e h ∙ ap (λ y. cond y [] (q a d) ++ H.sentTo d l) e
         ∙ sym (channel-own s c l q a d e h)
     go a d false e (no h) = channel-other s c l (emptied s q) a d e h ∙ ap (λ y. cond y [] (q a d)) e
         ∙ sym (channel-other s c l q a d e h)

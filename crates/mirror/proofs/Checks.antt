@@ -20,8 +20,8 @@ use Rattle.region.specs.Record.{codesKnown, recordOf}
 use Rattle.block.specs.Block.{waitingIn, recordIn, nodeIn, blockSound}
 use Rattle.layout.specs.Layout.{clusterSize, block, stopped, fits, sound}
 use Rattle.cluster.specs.Event as E
+use Rattle.history.specs.Order.{OneTo}
 use Rattle.eqaso.specs.Cluster as K
-use Rattle.eqaso.specs.Order.{OneTo}
 use Rattle.refine.proofs.Quorums.{same-count}
 use Rattle.mirror.specs.Mirrors.{Mirrors}
 use Rattle.mirror.proofs.Says.{says-count}

@@ -12,9 +12,9 @@ use Rattle.layout.specs.Layout.{clusterSize, stated, stopped}
 use Rattle.cluster.specs.Event as E
 use Rattle.cluster.proofs.Shown.{begin-absent, deliver-absent}
 use Rattle.halting.proofs.Told.{stop-absent}
+use Rattle.history.specs.Trace as T
+use Rattle.history.specs.Order.{OneTo}
 use Rattle.eqaso.specs.Cluster as K
-use Rattle.eqaso.specs.Order.{OneTo}
-use Rattle.eqaso.specs.Trace as T
 use Rattle.eqaso.proofs.Linked.{linked, waits-is}
 use Rattle.mirror.specs.Mirrors.{channelRoom}
 use Rattle.mirror.specs.Encodes.{EachEncodes}

@@ -4,7 +4,7 @@ use native.Mathlib.Omega.{arith}
 use mathlib.Core.Path.{sym, subst}
 use mathlib.Core.List.{map}
 use Rattle.table.specs.Quorum.{faults}
-use Rattle.eqaso.specs.Order.{SingleOrder, Quiet}
+use Rattle.history.specs.Order.{SingleOrder, Quiet}
 use Rattle.eqaso.proofs.Demand3.{demand3 as over-sets}
 use Rattle.mirror.specs.Mirrors.{channelRoom}
 use Rattle.mirror.specs.Run.{meaning}

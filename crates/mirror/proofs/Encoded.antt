@@ -12,9 +12,9 @@ use Rattle.wire.specs.declared.Message.{Message}
 use Rattle.wire.proofs.RoundTrip.{front-only}
 use Rattle.region.specs.Channel.{slotSize, countOf, oldest, slotAt, waiting}
 use Rattle.layout.specs.Layout.{channel}
-use Rattle.eqaso.specs.Message as M
+use Rattle.history.specs.Message as M
+use Rattle.history.specs.Order.{OneTo}
 use Rattle.eqaso.specs.Cluster as K
-use Rattle.eqaso.specs.Order.{OneTo}
 use Rattle.mirror.specs.Mirrors.{meantBy, meant, Mirrors}
 use Rattle.mirror.specs.Encodes.{Encodes, EachEncodes}
 use Rattle.mirror.proofs.Delivers.{IsResult}

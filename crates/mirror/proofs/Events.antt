@@ -20,9 +20,9 @@ use Rattle.layout.specs.Layout.{stated, stopped, node, isNode}
 use Rattle.cluster.specs.Event as E
 use Rattle.cluster.specs.declared.Extent.{Extent}
 use Rattle.cluster.specs.declared.Extent.the-variants.{Whole, Cut}
+use Rattle.history.specs.Order.{OneTo}
 use Rattle.eqaso.specs.Algorithm as A
 use Rattle.eqaso.specs.Cluster as K
-use Rattle.eqaso.specs.Order.{OneTo}
 use Rattle.eqaso.proofs.Sets.{and-both}
 use Rattle.eqaso.specs.Bounded.{BoundedNode}
 use Rattle.refine.specs.Meaning.{operationOf}

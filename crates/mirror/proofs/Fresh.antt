@@ -19,9 +19,9 @@ use Rattle.region.specs.Channel.{slotSize, channelSize, countOf, oldest, slotAt
 use Rattle.block.specs.Block.{blockSize, channelPlace, hasStopped, channelIn, keep}
 use Rattle.layout.specs.Layout.{clusterSize, blockPlace, stated, block, onBlock}
 use Rattle.cluster.specs.Event as E
+use Rattle.history.specs.Order.{OneTo}
 use Rattle.eqaso.specs.Algorithm as A
 use Rattle.eqaso.specs.Cluster as K
-use Rattle.eqaso.specs.Order.{OneTo}
 use Rattle.refine.proofs.Turned.{follows-fresh}
 use Rattle.mirror.specs.Mirrors.{meant, Says, Mirrors}
 use Rattle.layout.proofs.Blocks.{length-block, length-onBlock, stated-onBlock, block-same, block-other}

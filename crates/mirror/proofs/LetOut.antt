@@ -17,10 +17,11 @@ use Rattle.region.specs.Channel.{capacity}
 use Rattle.entries.specs.Entries.{Entry, goTo}
 use Rattle.entries.proofs.Laws.{goTo-append}
 use Rattle.cluster.specs.Event.{letOut, roomAt, roomy}
-use Rattle.eqaso.specs.Message as M
+use Rattle.history.specs.Message as M
+use Rattle.history.specs.Event as H
+use Rattle.history.specs.Order.{OneTo}
 use Rattle.eqaso.specs.Algorithm as A
 use Rattle.eqaso.specs.Cluster as K
-use Rattle.eqaso.specs.Order.{OneTo}
 use Rattle.eqaso.proofs.Sets.{and-both}
 use Rattle.mirror.specs.Mirrors.{channelRoom, mail, Shows}
 use Rattle.mirror.proofs.Says.{says-count}
@@ -41,7 +42,7 @@ module _ {n : ℕ} (small : n ≤ 16) (sized : isSize n ≡ true) (c : ℕ)
       (λ a d p o. channels-more s c (mail n e) (map (mail n) l) q a d)
     where
       -- This entry and those after it.
-      split : (d : ℕ) → goTo d (e ∷ l) ≡ length (K.sentTo d (mail n e ∷ [])) + goTo d l
+      split : (d : ℕ) → goTo d (e ∷ l) ≡ length (H.sentTo d (mail n e ∷ [])) + goTo d l
       split d = goTo-append d (e ∷ []) l ∙ ap (λ k. k + goTo d l) (same-goTo n d (e ∷ []))
 
       now : s (e .to) ≡ false → length (q c (e .to)) < capacity
@@ -57,7 +58,7 @@ module _ {n : ℕ} (small : n ≤ 16) (sized : isSize n ≡ true) (c : ℕ)
       later d o h = rw (
         channel-own s c (mail n e ∷ []) q c d h refl,
         length-append (q c d)
-            (K.sentTo d (mail n e ∷ [])),
+            (H.sentTo d (mail n e ∷ [])),
       )
           (omega (arith, room d o h, split d))
 
@@ -106,9 +107,9 @@ module _ {n : ℕ} (small : n ≤ 16) {b : List ℕ} {ν : ℕ → A.Node} {s : 
       go true e = rw (S .says d o .stop ∙ e) (sym (decide-iff (decLe (length (later c d)) capacity) .1
           (rw (channel-stopped s c (map (mail n) l) q c d e) (omega arith))))
       go false e = rw (S .says d o .stop ∙ e, says-count small (S .says d o) c node, same-goTo n d l)
-          (leb-decides (length (q c d) + length (K.sentTo d (map (mail n) l))) capacity
+          (leb-decides (length (q c d) + length (H.sentTo d (map (mail n) l))) capacity
           ∙ ap channelRoom (sym (ap length (channel-own s c (map (mail n) l) q c d e refl)
-          ∙ length-append (q c d) (K.sentTo d (map (mail n) l)))))
+          ∙ length-append (q c d) (H.sentTo d (map (mail n) l)))))
 
   -- Refusal 11 is given alike.
   pub same-roomy : roomy n c l b ≡ K.roomy channelRoom c n later
@@ -121,5 +122,5 @@ module _ {n : ℕ} (small : n ≤ 16) {b : List ℕ} {ν : ℕ → A.Node} {s : 
     roomy-at c later n e d o,
     same-goTo n d l,
     ap length (channel-own s c (map (mail n) l) q c d f refl),
-    length-append (q c d) (K.sentTo d (map (mail n) l)),
+    length-append (q c d) (H.sentTo d (map (mail n) l)),
   )

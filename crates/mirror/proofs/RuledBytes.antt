@@ -26,11 +26,13 @@ use Rattle.block.proofs.Changes.{channel-length, channel-same, keep-length, kee
 use Rattle.layout.specs.Layout.{clusterSize, block, node, onBlock}
 use Rattle.layout.proofs.Blocks.{block-same}
 use Rattle.cluster.specs.declared.Extent.the-variants.{Whole}
-use Rattle.eqaso.specs.Message as M
-use Rattle.eqaso.specs.Algorithm.{limit, table, has, newest, highest, latest, fresh, moveOn}
+use Rattle.history.specs.Message as M
+use Rattle.history.specs.Event as H
+use Rattle.history.specs.Trace.{stopped, letOutTo, handedOver, waits}
+use Rattle.history.specs.Order.{OneTo}
 use Rattle.eqaso.specs.Cluster as K
-use Rattle.eqaso.specs.Order.{OneTo}
-use Rattle.eqaso.specs.Trace.{traceFrom, trace, stopped, letOutTo, handedOver, waits}
+use Rattle.eqaso.specs.Cluster.{traceFrom, trace}
+use Rattle.eqaso.specs.Algorithm.{limit, table, has, newest, highest, latest, fresh, moveOn}
 use Rattle.refine.proofs.Turned.{follows-fresh}
 use Rattle.mirror.specs.Mirrors.{channelRoom}
 use Rattle.mirror.specs.Encodes.{EachEncodes}
@@ -64,11 +66,11 @@ abbrev scanning : List Event
 scanning = begin 1 Scan Whole ∷ []
 
 read-waits : waits (trace 1 0 channelRoom (map meaning scanning)) 1 1 ≡ M.read 1 ∷ []
-unfolding traceFrom K.event K.roomy K.sentTo K.entries moveOn table limit upd upd2 count ℕ-discrete decLe decLt decide letOutTo handedOver
+unfolding traceFrom K.event K.roomy H.sentTo K.entries moveOn table limit upd upd2 count ℕ-discrete decLe decLt decide letOutTo handedOver
 read-waits = refl
 
 none-stops : stopped (trace 1 0 channelRoom (map meaning scanning)) 1 ≡ false
-unfolding traceFrom stopped K.event K.roomy K.sentTo K.entries moveOn table limit upd upd2 count ℕ-discrete decLe decLt decide
+unfolding traceFrom stopped K.event K.roomy H.sentTo K.entries moveOn table limit upd upd2 count ℕ-discrete decLe decLt decide
 none-stops = refl
 
 -- One node updates and gets its own value: that is its last report then, with tag 1, and there was none before.
@@ -76,7 +78,7 @@ abbrev posting : List Event
 posting = begin 1 (Update noReport) Whole ∷ deliver 1 1 Whole ∷ deliver 1 1 Whole ∷ deliver 1 1 Whole ∷ []
 
 last-tag : latest 1 (K.after 1 0 channelRoom K.start (map meaning posting) .nodes 1 .all) .tag ≡ 1
-unfolding K.after K.event K.roomy K.sentTo K.entries moveOn table limit newest highest has M.same upd upd2 count ℕ-discrete decLe decLt decide
+unfolding K.after K.event K.roomy H.sentTo K.entries moveOn table limit newest highest has M.same upd upd2 count ℕ-discrete decLe decLt decide
 last-tag = refl
 
 no-last : latest 1 (fresh .all) .tag ≡ 0
@@ -153,11 +155,11 @@ counted t = set t 0 1
 abbrev left : List ℕ → List ℕ
 left k = pick (hasStopped k) (onChannel 1 counted k) k
 
-two-stops : K.after 3 1 channelRoom K.start (K.stop 2 ∷ []) .stopped 2 ≡ true
+two-stops : K.after 3 1 channelRoom K.start (H.stop 2 ∷ []) .stopped 2 ≡ true
 unfolding K.after K.event upd count ℕ-discrete decLe decLt decide
 two-stops = refl
 
-two-stopped : stopped (trace 3 1 channelRoom (K.stop 2 ∷ [])) 2 ≡ true
+two-stopped : stopped (trace 3 1 channelRoom (H.stop 2 ∷ [])) 2 ≡ true
 unfolding traceFrom stopped K.event upd count ℕ-discrete decLe decLt decide
 two-stopped = refl
 

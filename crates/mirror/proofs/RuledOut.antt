@@ -13,8 +13,10 @@ use Rattle.view.specs.declared.View.{View}
 use Rattle.layout.specs.Layout.{clusterSize}
 use Rattle.cluster.specs.Event.{Result, refuse}
 use Rattle.cluster.specs.declared.Extent.the-variants.{Whole}
+use Rattle.history.specs.Event as H
+use Rattle.history.specs.Trace.{Seen, at}
 use Rattle.eqaso.specs.Cluster as K
-use Rattle.eqaso.specs.Trace.{Seen, traceFrom, trace, at}
+use Rattle.eqaso.specs.Cluster.{traceFrom, trace}
 use Rattle.mirror.specs.Mirrors.{channelRoom}
 use Rattle.mirror.specs.Run.{deliver, stop}
 use Rattle.mirror.specs.Demand2.{House, houseOf, Demand2Of}
@@ -51,13 +53,13 @@ absent-past-out h d =
     omega (arith, wrong)
 
 -- A trace tells every refusal as 3, which may come up; what waits does not depend on a refusal's number.
-abbrev toldAs3 : K.Answer → K.Answer
-toldAs3 (K.refused k) = K.refused 3
-toldAs3 (K.accepted e) = K.accepted e
+abbrev toldAs3 : H.Answer → H.Answer
+toldAs3 (H.refused k) = H.refused 3
+toldAs3 (H.accepted e) = H.accepted e
 
-abbrev number : K.Answer → ℕ
-number (K.refused k) = k
-number (K.accepted e) = 0
+abbrev number : H.Answer → ℕ
+number (H.refused k) = k
+number (H.accepted e) = 0
 
 abbrev mumbled : Seen → Seen
 mumbled o = record { event = o .event; answer = toldAs3 (o .answer); sent = o .sent }
@@ -65,8 +67,8 @@ mumbled o = record { event = o .event; answer = toldAs3 (o .answer); sent = o .s
 abbrev mumbling : House → House
 mumbling h = record { opened = h .opened; bytes = h .bytes; next = h .next; seen = λ es. map mumbled (h .seen es) }
 
-nothing-waits : trace 1 0 channelRoom (K.deliver 1 1 K.whole ∷ [])
-    ≡ record { event = K.deliver 1 1 K.whole; answer = K.refused 8; sent = [] } ∷ []
+nothing-waits : trace 1 0 channelRoom (H.deliver 1 1 H.whole ∷ [])
+    ≡ record { event = H.deliver 1 1 H.whole; answer = H.refused 8; sent = [] } ∷ []
 unfolding traceFrom K.event ℕ-discrete decLe decLt decide
 nothing-waits = refl
 

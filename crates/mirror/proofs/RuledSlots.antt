@@ -11,7 +11,7 @@ use Rattle.view.specs.declared.View.{View}
 use Rattle.wire.specs.Layout.{encode, allowed}
 use Rattle.wire.specs.declared.Message.{Message}
 use Rattle.wire.specs.declared.Message.the-variants.{Read, ReadAnswer, Write, WriteAnswer, Echo, Value, Good}
-use Rattle.eqaso.specs.Message as M
+use Rattle.history.specs.Message as M
 use Rattle.refine.specs.Meaning.{messageOf}
 use Rattle.mirror.specs.Encodes.{Encodes}
 use Rattle.mirror.proofs.Encoded.{IsNil}

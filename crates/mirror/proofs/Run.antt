@@ -13,9 +13,9 @@ use Rattle.step.specs.declared.Ending.the-variants.{None}
 use Rattle.region.specs.Channel.{waiting}
 use Rattle.layout.specs.Layout.{clusterSize, channel}
 use Rattle.cluster.specs.Event as E
+use Rattle.history.specs.Event as H
+use Rattle.history.specs.Order.{OneTo}
 use Rattle.eqaso.specs.Cluster as K
-use Rattle.eqaso.specs.Trace as T
-use Rattle.eqaso.specs.Order.{OneTo}
 use Rattle.eqaso.proofs.Snoc.{after-snoc}
 use Rattle.eqaso.proofs.BoundedRun.{run-bounded, run-expected}
 use Rattle.mirror.specs.Mirrors.{channelRoom, Mirrors}
@@ -34,15 +34,15 @@ module _ (n : ℕ) (low : 1 ≤ n) (small : n ≤ 16) where
   half = omega arith
 
   -- The algorithm's cluster after events.
-  abbrev reached : List K.Event → K.Cluster
+  abbrev reached : List H.Event → K.Cluster
   reached ks = K.after n (faults n) channelRoom K.start ks
 
-  one-more : (ks : List K.Event) (e : K.Event)
+  one-more : (ks : List H.Event) (e : H.Event)
       → reached (ks ++ (e ∷ [])) ≡ K.event n (faults n) channelRoom e (reached ks) .cluster
   one-more = after-snoc n (faults n) channelRoom K.start
 
   -- One event, after any events of the algorithm's cluster.
-  same-event : {b : List ℕ} (ks : List K.Event) → Mirrors n b (reached ks) → (e : Event)
+  same-event : {b : List ℕ} (ks : List H.Event) → Mirrors n b (reached ks) → (e : Event)
       → SameResult n (event e b) (K.event n (faults n) channelRoom (meaning e) (reached ks))
   unfolding K.event
   same-event ks mirror (begin c o x) = begins low small mirror (run-bounded n (faults n) channelRoom half ks) c o x
@@ -51,12 +51,12 @@ module _ (n : ℕ) (low : 1 ≤ n) (small : n ≤ 16) where
   same-event ks mirror (stop c) = ceases low small mirror c
 
   -- The events so far, and one more.
-  next : {b : List ℕ} (ks : List K.Event) → Mirrors n b (reached ks) → (e : Event)
+  next : {b : List ℕ} (ks : List H.Event) → Mirrors n b (reached ks) → (e : Event)
       → Mirrors n (event e b .bytes) (reached (ks ++ (meaning e ∷ [])))
   next {b} ks mirror e = subst (Mirrors n (event e b .bytes)) (sym (one-more ks (meaning e)))
       (same-event ks mirror e .mirrors)
 
-  same-run : {b : List ℕ} (ks : List K.Event) → Mirrors n b (reached ks) → (es : List Event)
+  same-run : {b : List ℕ} (ks : List H.Event) → Mirrors n b (reached ks) → (es : List Event)
       → Mirrors n (after b es) (K.after n (faults n) channelRoom (reached ks) (map meaning es))
   unfolding after K.after
   same-run ks mirror [] = mirror
@@ -64,15 +64,15 @@ module _ (n : ℕ) (low : 1 ≤ n) (small : n ≤ 16) where
       (λ σ. Mirrors n (after (event e b .bytes) es) (K.after n (faults n) channelRoom σ (map meaning es)))
       (one-more ks (meaning e)) (same-run (ks ++ (meaning e ∷ [])) (next ks mirror e) es)
 
-  same-trace : {b : List ℕ} (ks : List K.Event) → Mirrors n b (reached ks) → (es : List Event)
-      → traceFrom n b es ≡ T.traceFrom n (faults n) channelRoom (reached ks) (map meaning es)
-  unfolding traceFrom T.traceFrom
+  same-trace : {b : List ℕ} (ks : List H.Event) → Mirrors n b (reached ks) → (es : List Event)
+      → traceFrom n b es ≡ K.traceFrom n (faults n) channelRoom (reached ks) (map meaning es)
+  unfolding traceFrom K.traceFrom
   same-trace ks mirror [] = refl
   same-trace {b} ks mirror (e ∷ es) =
       let r = same-event ks mirror e in
       ap₂ (λ x l. x ∷ l) (ap₂ (λ x l. record { event = meaning e; answer = x; sent = l }) (r .answer) (r .sent))
       (same-trace (ks ++ (meaning e ∷ [])) (next ks mirror e) es
-      ∙ ap (λ σ. T.traceFrom n (faults n) channelRoom σ (map meaning es)) (one-more ks (meaning e)))
+      ∙ ap (λ σ. K.traceFrom n (faults n) channelRoom σ (map meaning es)) (one-more ks (meaning e)))
 
   module _ (b : List ℕ) (long : length b ≡ clusterSize n) where
     -- Fresh is accepted.
@@ -104,7 +104,7 @@ module _ (n : ℕ) (low : 1 ≤ n) (small : n ≤ 16) where
     lockstep es e = same-event (map meaning es) (run-mirrors es) e
 
     -- What is seen of the whole run is the same.
-    pub run-trace : (es : List Event) → traceOf n b es ≡ T.trace n (faults n) channelRoom (map meaning es)
+    pub run-trace : (es : List Event) → traceOf n b es ≡ K.trace n (faults n) channelRoom (map meaning es)
     unfolding K.after
     run-trace es = same-trace [] fresh-start es
 

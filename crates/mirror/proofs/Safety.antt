@@ -12,8 +12,8 @@ use Rattle.step.specs.Claims.{Long, AllLawful}
 use Rattle.step.specs.Move.{messageStep, beginStep}
 use Rattle.step.specs.Step.{messages}
 use Rattle.step.proofs.Theorems.{message-usable, message-lawful, begin-usable, begin-lawful}
+use Rattle.history.specs.Order.{OneTo}
 use Rattle.eqaso.specs.Algorithm as A
-use Rattle.eqaso.specs.Order.{OneTo}
 use Rattle.refine.specs.Follows.{Follows}
 use Rattle.mirror.proofs.Lawful.{each-allowed}
 use Rattle.mirror.proofs.Settle.{Safe}

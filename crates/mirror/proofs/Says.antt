@@ -18,9 +18,9 @@ use Rattle.region.specs.Channel.{capacity, channelSize, slotSize, countOf, firs
 use Rattle.region.specs.Record.{recordOf, recordBytes}
 use Rattle.region.proofs.Waiting.{waiting-push, waiting-pop, length-waiting, length-push, length-pop}
 use Rattle.block.specs.Block.{blockSize, hasStopped, channelIn, recordSound, onChannel, keep, takeOff, receive, halt}
-use Rattle.eqaso.specs.Message as M
+use Rattle.history.specs.Message as M
+use Rattle.history.specs.Order.{OneTo}
 use Rattle.eqaso.specs.Algorithm as A
-use Rattle.eqaso.specs.Order.{OneTo}
 use Rattle.refine.specs.Follows.{Follows, Sized as SizedView}
 use Rattle.mirror.specs.Mirrors.{meant, Says}
 use Rattle.block.proofs.Changes.{channel-length, channel-flag, channel-record, channel-same, channel-other}

@@ -26,10 +26,11 @@ use Rattle.entries.specs.Entries.{Entry, entries}
 use Rattle.cluster.specs.Event as E
 use Rattle.cluster.specs.declared.Extent.{Extent}
 use Rattle.cluster.specs.declared.Extent.the-variants.{Whole, Cut}
-use Rattle.eqaso.specs.Message as M
+use Rattle.history.specs.Message as M
+use Rattle.history.specs.Event as H
+use Rattle.history.specs.Order.{OneTo}
 use Rattle.eqaso.specs.Algorithm as A
 use Rattle.eqaso.specs.Cluster as K
-use Rattle.eqaso.specs.Order.{OneTo}
 use Rattle.refine.specs.Meaning.{messageOf}
 use Rattle.refine.specs.Lockstep.{SameStep}
 use Rattle.refine.proofs.Choice.{Tells, same-side}
@@ -113,13 +114,13 @@ module _ {n : ℕ} (small : n ≤ 16) (sized : isSize n ≡ true) (a c : ℕ) (f
     };
   }
     where
-      l : List K.Sent
+      l : List H.Sent
       l = K.letOut (extentOf x) (K.entries n (t .sent))
 
       answers : (x : Extent) → answerOf n (pick (E.isCut x) noView (s .view))
           (result (pick (E.isCut x) None (s .ending)))
-          ≡ K.accepted (K.given (extentOf x) (t .ending))
-      answers Whole = ap K.accepted (same .ending)
+          ≡ H.accepted (K.given (extentOf x) (t .ending))
+      answers Whole = ap H.accepted (same .ending)
       answers (Cut m) = refl
 
       fits : (a d : ℕ) → OneTo n a → OneTo n d → (y : Bool) → stopped d ≡ y → Dec (a ≡ c) → length (end a d) ≤ capacity

@@ -22,10 +22,10 @@ use Rattle.layout.specs.Layout.{clusterSize, block, onBlock}
 use Rattle.cluster.specs.Event.{stepped, send}
 use Rattle.cluster.specs.declared.Extent.{Extent}
 use Rattle.cluster.specs.declared.Extent.the-variants.{Whole, Cut}
-use Rattle.eqaso.specs.Message as M
+use Rattle.history.specs.Message as M
+use Rattle.history.specs.Order.{OneTo}
 use Rattle.eqaso.specs.Algorithm as A
 use Rattle.eqaso.specs.Cluster as K
-use Rattle.eqaso.specs.Order.{OneTo}
 use Rattle.refine.specs.Meaning.{messageOf}
 use Rattle.refine.specs.Follows.{Follows}
 use Rattle.mirror.specs.Mirrors.{mail, extentOf, Says, Shows}

@@ -23,8 +23,8 @@ use Rattle.wire.proofs.Numbers.{length-encode}
 use Rattle.wire.proofs.RoundTrip.{front-back, view-place}
 use Rattle.region.specs.Channel.{slotSize}
 use Rattle.entries.specs.Entries.{slot}
-use Rattle.eqaso.specs.Message as M
-use Rattle.eqaso.specs.Order.{OneTo}
+use Rattle.history.specs.Message as M
+use Rattle.history.specs.Order.{OneTo}
 use Rattle.refine.specs.Meaning as R
 use Rattle.refine.proofs.Tables.{same-table}
 use Rattle.mirror.specs.Mirrors.{meant}

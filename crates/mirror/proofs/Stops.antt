@@ -13,17 +13,18 @@ use Rattle.table.specs.Quorum.{faults}
 use Rattle.region.specs.Channel.{capacity}
 use Rattle.block.specs.Block.{halt}
 use Rattle.layout.specs.Layout.{onBlock}
-use Rattle.eqaso.specs.Message as M
+use Rattle.history.specs.Message as M
+use Rattle.history.specs.Event as H
+use Rattle.history.specs.Order.{OneTo}
 use Rattle.eqaso.specs.Algorithm as A
 use Rattle.eqaso.specs.Cluster as K
-use Rattle.eqaso.specs.Order.{OneTo}
 use Rattle.mirror.specs.Mirrors.{Shows, Mirrors}
 use Rattle.mirror.proofs.Channels.{channel-stopped, channels-none, emptied, emptied-gone, channels-emptied}
 use Rattle.mirror.proofs.Shows.{shows-halt}
 
 pub stop-mirrors : {n : ℕ} → n ≤ 16 → {b : List ℕ} {σ : K.Cluster} → Mirrors n b σ → (c : ℕ) → OneTo n c
     → C.count (σ .stopped) n < faults n
-    → Mirrors n (onBlock c (halt n) b) (K.commit c (K.cut 0) (A.still (σ .nodes c)) [] (σ .channel) σ .cluster)
+    → Mirrors n (onBlock c (halt n) b) (K.commit c (H.cut 0) (A.still (σ .nodes c)) [] (σ .channel) σ .cluster)
 stop-mirrors {n} small {b} {σ} mirror c o may = record {
   shows = subst (λ ν. Shows n (onBlock c (halt n) b) ν stopped end) (sym (upd-self (σ .nodes) c))
       (subst (Shows n (onBlock c (halt n) b) (σ .nodes) stopped) same

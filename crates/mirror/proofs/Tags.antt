@@ -2,7 +2,7 @@
 use mathlib.Core.Path.{sym, subst}
 use mathlib.Core.List.{map}
 use Rattle.table.specs.Quorum.{faults}
-use Rattle.eqaso.specs.Claims.{TagsAsWorded}
+use Rattle.history.specs.Tags.{TagsAsWorded}
 use Rattle.eqaso.proofs.Claims.{tags-as-worded}
 use Rattle.mirror.specs.Mirrors.{channelRoom}
 use Rattle.mirror.specs.Run.{meaning}

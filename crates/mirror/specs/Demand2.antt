@@ -13,10 +13,11 @@ use Rattle.step.specs.declared.Ending.the-variants.{None}
 use Rattle.region.specs.Channel.{waiting}
 use Rattle.layout.specs.Layout.{channel, stopped, node}
 use Rattle.cluster.specs.Event.{Result, fresh}
+use Rattle.history.specs.Trace as T
+use Rattle.history.specs.Trace.{Trace, waits}
+use Rattle.history.specs.Order.{OneTo}
 use Rattle.eqaso.specs.Cluster as K
-use Rattle.eqaso.specs.Order.{OneTo}
-use Rattle.eqaso.specs.Trace as T
-use Rattle.eqaso.specs.Trace.{Trace, trace, waits}
+use Rattle.eqaso.specs.Cluster.{trace}
 use Rattle.refine.specs.Follows.{Follows}
 use Rattle.mirror.specs.Mirrors.{channelRoom}
 use Rattle.mirror.specs.Encodes.{EachEncodes}

@@ -7,7 +7,7 @@ use mathlib.Core.Path.{_≡_}
 use mathlib.Core.List.{List}
 use lib.ListN.{length}
 use Rattle.layout.specs.Layout.{clusterSize}
-use Rattle.eqaso.specs.Order.{OneTo, SingleOrder, Quiet}
+use Rattle.history.specs.Order.{OneTo, SingleOrder, Quiet}
 use Rattle.mirror.specs.Run.{Event, traceOf}
 
 abbrev pub Demand3 : Type 0

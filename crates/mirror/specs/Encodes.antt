@@ -7,7 +7,7 @@ use lib.ListN.{length, take}
 use Rattle.view.specs.View.{viewOf}
 use Rattle.wire.specs.Layout.{encode, allowed}
 use Rattle.wire.specs.declared.Message.{Message}
-use Rattle.eqaso.specs.Message as M
+use Rattle.history.specs.Message as M
 use Rattle.refine.specs.Meaning.{messageOf}
 
 -- Slot s of a channel to node c holds message m: `said`, with the bytes of its view, is allowed and means m.

@@ -17,11 +17,13 @@ use Rattle.entries.specs.Entries.{Entry}
 use Rattle.layout.specs.Layout.{clusterSize, stated, block}
 use Rattle.cluster.specs.declared.Extent.{Extent}
 use Rattle.cluster.specs.declared.Extent.the-variants.{Whole, Cut}
-use Rattle.eqaso.specs.Message as M
+use Rattle.history.specs.Message as M
+use Rattle.history.specs.Event as H
+use Rattle.history.specs.Event.{Sent}
+use Rattle.history.specs.Order.{OneTo}
 use Rattle.eqaso.specs.Algorithm as A
 use Rattle.eqaso.specs.Cluster as K
-use Rattle.eqaso.specs.Cluster.{Cluster, Sent}
-use Rattle.eqaso.specs.Order.{OneTo}
+use Rattle.eqaso.specs.Cluster.{Cluster}
 use Rattle.refine.specs.Meaning.{messageOf}
 use Rattle.refine.specs.Follows.{Follows}
 
@@ -42,9 +44,9 @@ abbrev pub channelRoom : ℕ → Bool
 channelRoom = K.atMost capacity
 
 -- How much is let out.
-abbrev pub extentOf : Extent → K.Extent
-extentOf Whole = K.whole
-extentOf (Cut m) = K.cut m
+abbrev pub extentOf : Extent → H.Extent
+extentOf Whole = H.whole
+extentOf (Cut m) = H.cut m
 
 -- The block of node c: its sets, whether it has stopped, and what waits on its channel from each node, oldest first.
 pub record Says (n c : ℕ) (k : List ℕ) (ν : A.Node) (stopped : Bool) (channel : ℕ → List M.Message) : Type 0 where

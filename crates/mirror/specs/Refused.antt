@@ -5,7 +5,7 @@ use mathlib.Core.Path.{_≡_}
 use mathlib.Core.List.{List, [], _∷_}
 use Rattle.octets.specs.Answer.{refused}
 use Rattle.view.specs.View.{noView}
-use Rattle.eqaso.specs.Cluster as K
+use Rattle.history.specs.Event as H
 use Rattle.mirror.specs.Run.{Event, event, meaning, traceFrom}
 
 pub record DoesNothing (e : Event) (b : List ℕ) (k : ℕ) : Type 0 where
@@ -13,7 +13,7 @@ pub record DoesNothing (e : Event) (b : List ℕ) (k : ℕ) : Type 0 where
   pub view : event e b .view ≡ noView
   pub sent : event e b .sent ≡ []
   pub seen : (n : ℕ) (es : List Event) → traceFrom n b (e ∷ es)
-      ≡ record { event = meaning e; answer = K.refused k; sent = [] } ∷ traceFrom n b es
+      ≡ record { event = meaning e; answer = H.refused k; sent = [] } ∷ traceFrom n b es
 
 abbrev pub RefusedDoesNothing : Type 0
 RefusedDoesNothing = (e : Event) (b : List ℕ) (k : ℕ) → event e b .answer ≡ refused k → DoesNothing e b k

@@ -12,8 +12,8 @@ use Rattle.step.specs.declared.Ending.{Ending}
 use Rattle.cluster.specs.Event as E
 use Rattle.halting.specs.Stop as S
 use Rattle.cluster.specs.declared.Extent.{Extent}
-use Rattle.eqaso.specs.Cluster as K
-use Rattle.eqaso.specs.Trace.{Seen, Trace}
+use Rattle.history.specs.Event as H
+use Rattle.history.specs.Trace.{Seen, Trace}
 use Rattle.refine.specs.Meaning.{operationOf}
 use Rattle.mirror.specs.Mirrors.{mail, extentOf}
 use Rattle.mirror.specs.SameResult.{answerOf}
@@ -33,10 +33,10 @@ after b [] = b
 after b (e ∷ es) = after (event e b .bytes) es
 
 -- The same event of the algorithm's cluster.
-abbrev pub meaning : Event → K.Event
-meaning (begin c o x) = K.begin c (operationOf o) (extentOf x)
-meaning (deliver a c x) = K.deliver a c (extentOf x)
-meaning (stop c) = K.stop c
+abbrev pub meaning : Event → H.Event
+meaning (begin c o x) = H.begin c (operationOf o) (extentOf x)
+meaning (deliver a c x) = H.deliver a c (extentOf x)
+meaning (stop c) = H.stop c
 
 -- What is seen of a run from outside, in the algorithm's terms: of each event its answer and the entries let out.
 abbrev pub seen : ℕ → Event → E.Result → Seen

@@ -7,13 +7,14 @@ use Rattle.octets.specs.Answer.{Answer, result, refused}
 use Rattle.view.specs.declared.View.{View}
 use Rattle.step.specs.declared.Ending.{Ending}
 use Rattle.cluster.specs.Event.{Result}
+use Rattle.history.specs.Event as H
 use Rattle.eqaso.specs.Cluster as K
 use Rattle.refine.specs.Meaning.{endingOf}
 use Rattle.mirror.specs.Mirrors.{mail, Mirrors}
 
-abbrev pub answerOf : ℕ → View → Answer Ending → K.Answer
-answerOf n v (result e) = K.accepted (endingOf n v e)
-answerOf n v (refused k) = K.refused k
+abbrev pub answerOf : ℕ → View → Answer Ending → H.Answer
+answerOf n v (result e) = H.accepted (endingOf n v e)
+answerOf n v (refused k) = H.refused k
 
 pub record SameResult (n : ℕ) (r : Result) (t : K.Result) : Type 0 where
   pub answer : answerOf n (r .view) (r .answer) ≡ t .answer

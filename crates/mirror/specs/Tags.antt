@@ -5,8 +5,8 @@ use mathlib.Core.Path.{_≡_}
 use mathlib.Core.List.{List}
 use lib.ListN.{length}
 use Rattle.layout.specs.Layout.{clusterSize}
-use Rattle.eqaso.specs.Order.{OneTo}
-use Rattle.eqaso.specs.Claims.{TagsAsWorded}
+use Rattle.history.specs.Order.{OneTo}
+use Rattle.history.specs.Tags.{TagsAsWorded}
 use Rattle.mirror.specs.Run.{Event, traceOf}
 
 abbrev pub TagsOfCode : Type 0

@@ -54,6 +54,10 @@ module _ {A : Type 0} (same : Discrete A) where
           → a ∈ before same u (ite d [] (y ∷ before same s l))
       go (no d) rest p q = under (same y u) rest p q
 
+  -- Standing before is transitive.
+  pub before-trans : {a u : A} (s : A) (l : List A) → a ∈ before same u l → u ∈ before same s l → a ∈ before same s l
+  before-trans {a} {u} s l m n = before-in u (before same s l) (before-within s l n m)
+
   -- An item that all others of its kind stand before is the last of them.
   pub last-of : {P : A → Type 0} {u : A} (l : List A) → u ∈ l → P u → Once l
       → ((v : A) → v ∈ l → P v → (v ≡ u) ⊎ (v ∈ before same u l)) → Last P u l

@@ -13,11 +13,12 @@ use Rattle.step.specs.declared.Ending.the-variants.{None}
 use Rattle.layout.specs.Layout.{clusterSize, stated, stopped, node}
 use Rattle.cluster.specs.Event as E
 use Rattle.cluster.specs.declared.Extent.the-variants.{Whole}
-use Rattle.eqaso.specs.Message.{Entry, absent}
+use Rattle.history.specs.Message.{Entry, absent}
+use Rattle.history.specs.Event as H
+use Rattle.history.specs.Trace as T
+use Rattle.history.specs.Order.{OneTo, Finished, IsScan, EndsInKind, SingleOrder, ClosedBy}
 use Rattle.eqaso.specs.Algorithm as A
 use Rattle.eqaso.specs.Cluster as K
-use Rattle.eqaso.specs.Trace as T
-use Rattle.eqaso.specs.Order.{OneTo, Finished, IsScan, EndsInKind, SingleOrder, ClosedBy}
 use Rattle.eqaso.proofs.Corollary.{scan-without-updates}
 use Rattle.refine.specs.Follows.{Follows}
 use Rattle.refine.proofs.Steps.{same-idle, not-full}
@@ -36,13 +37,13 @@ delivers ds = map delivery ds
 
 -- ---- deliveries begin nothing, and whole ones stop nobody
 
-begins-none : (a b : ℕ) (x : K.Extent) (y : K.Answer) → T.begunBy (K.deliver a b x) y ≡ T.nothing
-begins-none a b x (K.refused k) = refl
-begins-none a b x (K.accepted e) = refl
+begins-none : (a b : ℕ) (x : H.Extent) (y : H.Answer) → T.begunBy (H.deliver a b x) y ≡ T.nothing
+begins-none a b x (H.refused k) = refl
+begins-none a b x (H.accepted e) = refl
 
-stops-none : (a b : ℕ) (y : K.Answer) (c : ℕ) → T.stopsBy (K.deliver a b K.whole) y c ≡ false
-stops-none a b (K.refused k) c = refl
-stops-none a b (K.accepted e) c = refl
+stops-none : (a b : ℕ) (y : H.Answer) (c : ℕ) → T.stopsBy (H.deliver a b H.whole) y c ≡ false
+stops-none a b (H.refused k) c = refl
+stops-none a b (H.accepted e) c = refl
 
 abbrev Updates : T.Begun → Type 0
 Updates T.nothing = ⊥
@@ -50,7 +51,7 @@ Updates (T.updating c p) = Unit {0}
 Updates (T.scanning c) = ⊥
 
 module _ (n : ℕ) where
-  abbrev answers : Delivery → List ℕ → K.Answer
+  abbrev answers : Delivery → List ℕ → H.Answer
   answers d b = answerOf n (R.event (delivery d) b .view) (R.event (delivery d) b .answer)
 
   deliveries-begin : (ds : List Delivery) (b : List ℕ) (u : ℕ) → T.begun (R.traceFrom n b (delivers ds)) u ≡ T.nothing
@@ -64,7 +65,7 @@ module _ (n : ℕ) where
   unfolding R.traceFrom T.stopped
   deliveries-stop [] w b c = refl
   deliveries-stop (d ∷ ds) (e, w) b c = ap₂ _||_
-      (ap (λ x. T.stopsBy (K.deliver (d .sender) (d .receiver) (extentOf x)) (answers d b) c) e
+      (ap (λ x. T.stopsBy (H.deliver (d .sender) (d .receiver) (extentOf x)) (answers d b) c) e
       ∙ stops-none (d .sender) (d .receiver) (answers d b) c)
       (deliveries-stop ds w (R.event (delivery d) b .bytes) c)
 
@@ -75,7 +76,7 @@ all-absent (x ∷ v) h = ap₂ (λ y l. y ∷ l) (h 0 (omega arith)) (all-absent
 
 none-shown : (n c : ℕ) (x : T.Fate) → EndsInKind n (T.scanning c) x → Finished x
     → ((w : ℕ) → OneTo n w → T.entryAt (T.viewOf x) w ≡ absent) → T.viewOf x ≡ replicate n absent
-none-shown n c (T.ended k (A.shown r v)) long end each = all-absent v
+none-shown n c (T.ended k (H.shown r v)) long end each = all-absent v
     (λ i h.
     let e : i ≡ suc i - 1 = omega arith in
     ap (λ j. getD v j absent) e ∙ each (suc i) (omega arith, omega arith))
@@ -121,7 +122,7 @@ module _ (n c : ℕ) (size : OneTo 16 n) (at : OneTo n c) (b : List ℕ) (long :
 
     scans : T.begun tr 0 ≡ T.scanning c
     unfolding R.traceFrom
-    scans = ap (λ y. T.begunBy (K.begin c A.scan K.whole) (answerOf n (E.begin c Scan Whole start .view) y)) begins
+    scans = ap (λ y. T.begunBy (H.begin c H.scan H.whole) (answerOf n (E.begin c Scan Whole start .view) y)) begins
 
     no-update : (u d p : ℕ) → ¬ (T.begun tr u ≡ T.updating d p)
     unfolding R.traceFrom
@@ -131,7 +132,7 @@ module _ (n c : ℕ) (size : OneTo 16 n) (at : OneTo n c) (b : List ℕ) (long :
     pub stands : AllWhole ds → T.stopped tr c ≡ false
     unfolding R.traceFrom T.stopped
     stands w = ap₂ _||_
-        (ap (λ y. T.stopsBy (K.begin c A.scan K.whole) (answerOf n (E.begin c Scan Whole start .view) y) c) begins)
+        (ap (λ y. T.stopsBy (H.begin c H.scan H.whole) (answerOf n (E.begin c Scan Whole start .view) y) c) begins)
         (deliveries-stop n ds w later c)
 
     module _ (up : T.stopped tr c ≡ false) (quiet : NothingWaits n tr) where

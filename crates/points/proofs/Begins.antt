@@ -34,7 +34,7 @@ use Rattle.cluster.specs.declared.Extent.the-variants.{Whole, Cut}
 use Rattle.cluster.proofs.Handed.{sound-n}
 use Rattle.cluster.proofs.Settled.{open-settles}
 use Rattle.cluster.proofs.Told.{begin-is, begin-opens}
-use Rattle.eqaso.specs.Order.{OneTo}
+use Rattle.history.specs.Order.{OneTo}
 use Rattle.points.specs.Channels as P
 use Rattle.points.specs.Channels.{MayCut, MayBegin, StandsAfter, Room, Judged, waits}
 use Rattle.points.proofs.Stops.{node-is}

@@ -44,7 +44,7 @@ use Rattle.cluster.specs.declared.Extent.{Extent}
 use Rattle.cluster.specs.declared.Extent.the-variants.{Whole}
 use Rattle.cluster.proofs.Handed.{deliver-hands, hand-settles}
 use Rattle.cluster.proofs.Room.{goneIn}
-use Rattle.eqaso.specs.Order.{OneTo}
+use Rattle.history.specs.Order.{OneTo}
 use Rattle.points.specs.Calls.{code}
 use Rattle.points.specs.Channels.{MayDeliver, Room, Judged, stillWaits, handled, filled, Filled, Channels}
 use Rattle.points.proofs.Filled.{filled-reads, filled-writes}

@@ -31,7 +31,7 @@ use Rattle.entries.specs.Entries.{Entry, entry, isAnswer, addressed, entriesOf,
 use Rattle.layout.specs.Layout.{clusterSize, block, stopped, channel, onBlock}
 use Rattle.layout.proofs.Blocks.{length-block, length-channel, length-onBlock, block-same, block-other}
 use Rattle.cluster.specs.Event.{letOut}
-use Rattle.eqaso.specs.Order.{OneTo}
+use Rattle.history.specs.Order.{OneTo}
 use Rattle.mirror.proofs.Halted.{halted}
 
 -- ---- one channel

@@ -26,10 +26,11 @@ use Rattle.region.specs.Channel.{capacity, countOf, first}
 use Rattle.entries.specs.Entries.{Entry, entry, goTo}
 use Rattle.layout.specs.Layout.{clusterSize, stated, channel}
 use Rattle.cluster.specs.Event.{freshBytes}
+use Rattle.history.specs.Message as M
+use Rattle.history.specs.Event as H
+use Rattle.history.specs.Order.{OneTo}
 use Rattle.eqaso.specs.Algorithm as A
 use Rattle.eqaso.specs.Cluster as K
-use Rattle.eqaso.specs.Message as M
-use Rattle.eqaso.specs.Order.{OneTo}
 use Rattle.refine.specs.Meaning.{messageOf}
 use Rattle.refine.proofs.Steps.{same-idle, not-full}
 use Rattle.mirror.specs.Mirrors.{meantBy, mail, Shows, Mirrors}
@@ -70,7 +71,7 @@ module _ (n : ℕ) (size : OneTo 16 n) (m : Message) (ok : allowed n m (viewByte
   fits-all (suc k) x (List·Memᴰ·head h) = subst (Fit n) (sym h) (record { to = one; layout = ok })
   fits-all (suc k) x (List·Memᴰ·tail i) = fits-all k x i
 
-  sent-all : (k : ℕ) → K.sentTo 1 (map (mail n) (replicate k e)) ≡ replicate k meaning
+  sent-all : (k : ℕ) → H.sentTo 1 (map (mail n) (replicate k e)) ≡ replicate k meaning
   sent-all zero = sent-none 1
   sent-all (suc k) = sent-here 1 (mail n e) (map (mail n) (replicate k e)) refl ∙ ap (λ l. meaning ∷ l) (sent-all k)
 

@@ -11,10 +11,12 @@ use Rattle.theory.specs.Count.{count}
 use Rattle.theory.specs.Update.{upd, upd2}
 use Rattle.layout.specs.Layout.{clusterSize}
 use Rattle.cluster.specs.Event.{Result, fresh}
-use Rattle.eqaso.specs.Message.{same}
+use Rattle.history.specs.Message.{same}
+use Rattle.history.specs.Event.{sentTo}
+use Rattle.history.specs.Trace as T
+use Rattle.eqaso.specs.Cluster as K
+use Rattle.eqaso.specs.Cluster.{entries, roomy, event}
 use Rattle.eqaso.specs.Algorithm.{limit, has, within, newest, table, kept, moveOn}
-use Rattle.eqaso.specs.Cluster.{entries, sentTo, roomy, event}
-use Rattle.eqaso.specs.Trace as T
 use Rattle.mirror.specs.Mirrors.{channelRoom}
 use Rattle.mirror.specs.Run as R
 use Rattle.mirror.proofs.Demand2.{demand2}
@@ -35,8 +37,8 @@ same-trace n b (e ∷ es) = ap (λ (r : Result). R.seen n e r ∷ C.traceFrom C.
     ∙ ap (λ l. R.seen n e (R.event e b) ∷ l) (same-trace n (R.event e b .bytes) es)
 
 -- Computed of the algorithm over sets.
-all-handed : T.waits (T.trace 1 0 channelRoom (map R.meaning (scanThen 1 five))) 1 1 ≡ []
-unfolding T.traceFrom event roomy sentTo entries moveOn kept table newest within has limit same upd upd2 count ℕ-discrete decLe decLt decide T.letOutTo T.handedOver
+all-handed : T.waits (K.trace 1 0 channelRoom (map R.meaning (scanThen 1 five))) 1 1 ≡ []
+unfolding K.traceFrom event roomy sentTo entries moveOn kept table newest within has limit same upd upd2 count ℕ-discrete decLe decLt decide T.letOutTo T.handedOver
 all-handed = refl
 
 nothing-waits : (b : List ℕ) → length b ≡ clusterSize 1 → NothingWaits 1 (R.traceOf 1 b (scanThen 1 five))

@@ -30,7 +30,7 @@ use Rattle.cluster.specs.declared.Extent.{Extent}
 use Rattle.cluster.specs.declared.Extent.the-variants.{Whole, Cut}
 use Rattle.cluster.proofs.Room.{foundIn, goneIn, room-before}
 use Rattle.cluster.proofs.Settled.{settle-full, settle-commits}
-use Rattle.eqaso.specs.Order.{OneTo}
+use Rattle.history.specs.Order.{OneTo}
 use Rattle.points.specs.Channels.{StandsAfter, Room, Accepted, Judged}
 use Rattle.points.proofs.Stops.{node-is}
 use Rattle.points.proofs.Counts.{ToNodes, to-nodes, to-take, count-pop, Held, own, size-of, on-same, on-other}

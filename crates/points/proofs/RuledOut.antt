@@ -25,7 +25,7 @@ use Rattle.endpoint.specs.Entry as N
 use Rattle.endpoint.specs.Outcome.{Outcome}
 use Rattle.layout.specs.Layout.{clusterSize}
 use Rattle.cluster.specs.Event as E
-use Rattle.eqaso.specs.Order.{OneTo}
+use Rattle.history.specs.Order.{OneTo}
 use Rattle.points.specs.Calls.{Calls, code}
 use Rattle.points.specs.Messages.{zeros, readOne}
 use Rattle.points.specs.Points.{PointsOf}

@@ -20,7 +20,7 @@ use Rattle.block.specs.Block.{blockSize, channelPlace, channelIn}
 use Rattle.layout.specs.Layout.{clusterSize, blockPlace, stated, block, channel}
 use Rattle.cluster.specs.Event as E
 use Rattle.cluster.specs.declared.Extent.the-variants.{Whole}
-use Rattle.eqaso.specs.Order.{OneTo}
+use Rattle.history.specs.Order.{OneTo}
 use Rattle.points.specs.Points.{PointsOf}
 use Rattle.points.proofs.Begins.{counts}
 use Rattle.points.proofs.Channels.{own-count, answer-none}

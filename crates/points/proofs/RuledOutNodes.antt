@@ -29,7 +29,7 @@ use Rattle.block.specs.Block.{halt}
 use Rattle.layout.specs.Layout.{stated, stopped, onBlock}
 use Rattle.cluster.specs.Event as E
 use Rattle.halting.specs.Stop.{stop}
-use Rattle.eqaso.specs.Order.{OneTo}
+use Rattle.history.specs.Order.{OneTo}
 use Rattle.points.specs.LastTag.{LastAnswer, spentBy}
 use Rattle.points.specs.Stops.{OneStopped}
 use Rattle.points.proofs.Proved.{points}

@@ -23,11 +23,12 @@ use Rattle.cluster.specs.Event as E
 use Rattle.cluster.specs.Event.{isCut}
 use Rattle.cluster.specs.declared.Extent.{Extent}
 use Rattle.cluster.specs.declared.Extent.the-variants.{Whole, Cut}
+use Rattle.history.specs.Message.{Entry, absent, same, read}
+use Rattle.history.specs.Event as H
+use Rattle.history.specs.Trace as T
+use Rattle.history.specs.Order.{OneTo, Finished}
 use Rattle.eqaso.specs.Algorithm as A
 use Rattle.eqaso.specs.Cluster as K
-use Rattle.eqaso.specs.Message.{Entry, absent, same, read}
-use Rattle.eqaso.specs.Order.{OneTo, Finished}
-use Rattle.eqaso.specs.Trace as T
 use Rattle.mirror.specs.Mirrors.{channelRoom}
 use Rattle.mirror.specs.Run as R
 use Rattle.mirror.proofs.Demand2.{demand2}
@@ -83,7 +84,7 @@ module _ (y : Answer Ending) (v : View) where
   scans = rw fresh-one refl
 
   quiet : (y : Answer Ending) → T.waits (R.seen 1 (R.begin 1 Scan Whole) (silent y v []) ∷ []) 1 1 ≡ []
-  unfolding T.letOutTo T.handedOver K.sentTo ℕ-discrete decide
+  unfolding T.letOutTo T.handedOver H.sentTo ℕ-discrete decide
   quiet (result e) = refl
   quiet (refused k) = refl
 
@@ -121,13 +122,13 @@ loses f a c x b = pick (both (eqb a 0) (f x)) (E.refuse 3 []) (nobody b (E.deliv
 -- The scan of a fresh node begins, and lets out its read: computed of the algorithm over sets.
 abbrev scanned : T.Seen
 scanned = record {
-  event = K.begin 1 A.scan K.whole;
-  answer = K.accepted A.none;
+  event = H.begin 1 H.scan H.whole;
+  answer = H.accepted H.none;
   sent = record { to = 1; message = read 1 } ∷ [];
 }
 
-first-seen : T.at (T.trace 1 0 channelRoom (map R.meaning (scanThen 1 []))) 0 ≡ scanned
-unfolding T.traceFrom K.event K.roomy K.sentTo K.entries A.moveOn A.kept A.table A.newest A.within A.has A.limit same upd upd2 count ℕ-discrete decLe decLt decide
+first-seen : T.at (K.trace 1 0 channelRoom (map R.meaning (scanThen 1 []))) 0 ≡ scanned
+unfolding K.traceFrom K.event K.roomy H.sentTo K.entries A.moveOn A.kept A.table A.newest A.within A.has A.limit same upd upd2 count ℕ-discrete decLe decLt decide
 first-seen = refl
 
 scan-seen : R.seen 1 (R.begin 1 Scan Whole) (E.begin 1 Scan Whole start) ≡ scanned
@@ -151,7 +152,7 @@ module _ (f : Extent → Bool) (x : Extent) (h : f x ≡ true) where
   runs = rw (h, scan-seen) refl
 
   handed : T.waits ran 1 1 ≡ []
-  unfolding T.letOutTo T.handedOver K.sentTo ℕ-discrete decide
+  unfolding T.letOutTo T.handedOver H.sentTo ℕ-discrete decide
   handed = refl
 
   none-waits : NothingWaits 1 lost

@@ -22,9 +22,10 @@ use Rattle.layout.proofs.Check.{sound-few}
 use Rattle.cluster.specs.Event.{Result, refuse, fresh}
 use Rattle.halting.specs.Stop.{stop}
 use Rattle.halting.proofs.Told.{stop-is, stop-stopped, stop-many, stop-halts}
+use Rattle.history.specs.Event as H
+use Rattle.history.specs.Order.{OneTo}
 use Rattle.eqaso.specs.Algorithm as A
 use Rattle.eqaso.specs.Cluster as K
-use Rattle.eqaso.specs.Order.{OneTo}
 use Rattle.mirror.specs.Mirrors.{Mirrors}
 use Rattle.mirror.specs.Run.{after}
 use Rattle.mirror.proofs.Checks.{is-fit, is-sound, same-stopped}
@@ -131,9 +132,9 @@ module _ (b : List ℕ) (long : length b ≡ clusterSize 3) (a : ℕ) (at : OneT
   abbrev left : List ℕ
   left = stop a three .bytes
 
-  one-stopped : Mirrors 3 left (K.commit a (K.cut 0) (A.still A.fresh) [] (λ c d. []) K.start .cluster)
+  one-stopped : Mirrors 3 left (K.commit a (H.cut 0) (A.still A.fresh) [] (λ c d. []) K.start .cluster)
   one-stopped = subst (λ (r : Result). Mirrors 3 (r .bytes)
-      (K.commit a (K.cut 0) (A.still A.fresh) [] (λ c d. []) K.start .cluster)) (sym first-stop)
+      (K.commit a (H.cut 0) (A.still A.fresh) [] (λ c d. []) K.start .cluster)) (sym first-stop)
       (stop-mirrors (size .1) start a at (omega (arith, count-none 3)))
 
   leaves-one : OneStopped left a

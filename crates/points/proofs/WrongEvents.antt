@@ -18,7 +18,7 @@ use Rattle.region.specs.Channel.{countOf}
 use Rattle.layout.specs.Layout.{stated, stopped, channel}
 use Rattle.cluster.specs.Event as E
 use Rattle.cluster.specs.declared.Extent.the-variants.{Whole}
-use Rattle.eqaso.specs.Order.{OneTo}
+use Rattle.history.specs.Order.{OneTo}
 use Rattle.points.specs.Channels.{StandsAfter, Room, waits, stillWaits, begun, handled, filled, Filled}
 use Rattle.points.proofs.Begins.{still-stands, accepts}
 use Rattle.points.proofs.Channels.{own-room, overflows}

@@ -8,10 +8,10 @@ use Rattle.record.specs.declared.Operation.the-variants.{Scan}
 use Rattle.layout.specs.Layout.{clusterSize}
 use Rattle.cluster.specs.declared.Extent.{Extent}
 use Rattle.cluster.specs.declared.Extent.the-variants.{Whole}
-use Rattle.eqaso.specs.Message.{absent}
-use Rattle.eqaso.specs.Trace as T
-use Rattle.eqaso.specs.Order.{OneTo, Finished}
-pub use Rattle.eqaso.specs.Order.{NothingWaits}
+use Rattle.history.specs.Message.{absent}
+use Rattle.history.specs.Trace as T
+pub use Rattle.history.specs.Order.{NothingWaits}
+use Rattle.history.specs.Order.{OneTo, Finished}
 use Rattle.mirror.specs.Run as R
 use Rattle.points.specs.Calls.{Calls, code, traceOf}
 

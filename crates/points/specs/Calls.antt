@@ -18,7 +18,7 @@ use Rattle.layout.specs.Layout.{size}
 use Rattle.cluster.specs.Event as E
 use Rattle.cluster.specs.declared.Extent.{Extent}
 use Rattle.halting.specs.Stop as S
-use Rattle.eqaso.specs.Trace.{Trace}
+use Rattle.history.specs.Trace.{Trace}
 use Rattle.mirror.specs.Run as R
 
 pub record Calls : Type 0 where

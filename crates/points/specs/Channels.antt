@@ -25,7 +25,7 @@ use Rattle.layout.specs.Layout.{clusterSize, stated, stopped, node, channel, fi
 use Rattle.cluster.specs.Event.{Result, refuse, within, isCut, letOut, freshBytes}
 use Rattle.cluster.specs.declared.Extent.{Extent}
 use Rattle.cluster.specs.declared.Extent.the-variants.{Whole}
-use Rattle.eqaso.specs.Order.{OneTo}
+use Rattle.history.specs.Order.{OneTo}
 use Rattle.points.specs.Calls.{Calls}
 
 -- ---- where no refusal before 11 applies

@@ -24,7 +24,7 @@ use Rattle.record.specs.declared.Wait.the-variants.{Idle, Reading}
 use Rattle.step.specs.Move.{opened}
 use Rattle.step.specs.Told as K
 use Rattle.endpoint.specs.Outcome.{Outcome}
-use Rattle.eqaso.specs.Order.{OneTo}
+use Rattle.history.specs.Order.{OneTo}
 use Rattle.points.specs.Calls.{Calls}
 
 -- Node c, whose operation o reads and is one answer short of a quorum, is handed the read answer of one more sender s:

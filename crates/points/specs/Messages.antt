@@ -18,7 +18,7 @@ use Rattle.step.specs.declared.Ending.the-variants.{None}
 use Rattle.step.specs.Told.{nothing}
 use Rattle.endpoint.specs.Entry as N
 use Rattle.cluster.specs.Event.{refuse, freshBytes}
-use Rattle.eqaso.specs.Order.{OneTo}
+use Rattle.history.specs.Order.{OneTo}
 use Rattle.points.specs.Calls.{Calls}
 
 -- ---- n 0 and 17 refused; 1 and 16 taken

@@ -8,7 +8,7 @@ use Rattle.octets.specs.Answer.{result}
 use Rattle.step.specs.declared.Ending.the-variants.{None}
 use Rattle.layout.specs.Layout.{clusterSize, stated, stopped, fits, sound}
 use Rattle.cluster.specs.Event.{Result, refuse}
-use Rattle.eqaso.specs.Order.{OneTo}
+use Rattle.history.specs.Order.{OneTo}
 use Rattle.points.specs.Calls.{Calls}
 
 -- The bytes of a usable cluster of n nodes: refusals 12 and 2 do not apply.

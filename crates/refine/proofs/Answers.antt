@@ -17,6 +17,7 @@ use Rattle.record.specs.declared.Wait.the-variants.{Idle}
 use Rattle.step.specs.declared.Sent.the-variants.{One, Two}
 use Rattle.step.specs.declared.Step.{Step}
 use Rattle.step.specs.Move.{writing, afterRead, readPass, writePass, reads, writes}
+use Rattle.history.specs.Event as H
 use Rattle.eqaso.specs.Algorithm as A
 use Rattle.eqaso.specs.Algorithm.{_then_}
 use Rattle.refine.specs.Meaning.{operationOf}
@@ -33,9 +34,9 @@ answers-tell : {n i : ℕ} {ν : A.Node} {c : Node} → Follows n i ν c → (f 
 answers-tell {n} F f a s same = rw (F .size) (size-tells n f a s same)
 
 module _ {n i k : ℕ} (small : n ≤ 16) (f : ℕ) (s : Step) (t : A.Step) where
-  module _ (T : Together n i k (Handled n) s t) (going : t .ending ≡ A.none) where
+  module _ (T : Together n i k (Handled n) s t) (going : t .ending ≡ H.none) where
     R : Step → A.Step → Type 0
-    R x y = Together n i k (Asked n) x (A.then-by t y A.none)
+    R x y = Together n i k (Asked n) x (A.then-by t y H.none)
 
     -- With the tag u used.
     after-read : (o : Operation) (u : ℕ) → t .node .maxtag ≤ u
@@ -54,7 +55,7 @@ module _ {n i k : ℕ} (small : n ≤ 16) (f : ℕ) (s : Step) (t : A.Step) wher
           sent = asked-more (s .outbox) (Two (Value (u + 1) (s .node .own) p) (writing (s .node) u)) (T .sent)
               (λ v. rw (T .node .own, add-one u, request-next (T .node)) refl);
           ending = T .ending ∙ going;
-          node = follows-opened (T .node) small (T .bounded) (A.update _) A.round0 u high;
+          node = follows-opened (T .node) small (T .bounded) (H.update _) H.round0 u high;
           to = T .to;
           bounded = T .bounded;
           over = tt;
@@ -62,7 +63,7 @@ module _ {n i k : ℕ} (small : n ≤ 16) (f : ℕ) (s : Step) (t : A.Step) wher
     after-read Scan u high = record {
       sent = asked-more (s .outbox) (One (writing (s .node) u)) (T .sent) (λ v. rw (request-next (T .node)) refl);
       ending = T .ending ∙ going;
-      node = follows-opened (T .node) small (T .bounded) A.scan A.round1 u high;
+      node = follows-opened (T .node) small (T .bounded) H.scan H.round1 u high;
       to = T .to;
       bounded = T .bounded;
       over = tt;
@@ -90,9 +91,9 @@ module _ {n i k : ℕ} (small : n ≤ 16) (f : ℕ) (s : Step) (t : A.Step) wher
       rests : (s : Step) → s .node .wait ≡ Idle → reads f s ≡ s
       rests s e = rw e refl
 
-  module _ (T : Together n i k (Asked n) s t) (going : t .ending ≡ A.none) where
+  module _ (T : Together n i k (Asked n) s t) (going : t .ending ≡ H.none) where
     Q : Step → A.Step → Type 0
-    Q x y = Together n i k (Asked n) x (A.then-by t y A.none)
+    Q x y = Together n i k (Asked n) x (A.then-by t y H.none)
 
     write-by : {w : A.Wait} {w′ : Wait} → t .node .wait ≡ w → SameWait n w w′
         → Q (writePass f s (s .node) w′) (A.writePass n f (t .node) w)

@@ -21,7 +21,8 @@ use Rattle.step.specs.declared.Step.{Step}
 use Rattle.step.specs.Step as S
 use Rattle.step.specs.Move.{opened, writing, heldView, lentView, afterGood, afterFailed, comparePass, borrowPass}
 use Rattle.step.specs.Move.{compares, borrows}
-use Rattle.eqaso.specs.Message as M
+use Rattle.history.specs.Message as M
+use Rattle.history.specs.Event as H
 use Rattle.eqaso.specs.Algorithm as A
 use Rattle.eqaso.specs.Algorithm.{_then_}
 use Rattle.eqaso.specs.Bounded.{BoundedNode}
@@ -35,14 +36,14 @@ use Rattle.refine.proofs.Lockstep.{Asked, Whole, Over, Together, asked-
 use Rattle.refine.proofs.Lockstep.{nothing-done}
 
 -- The ending of an operation with its rule and view.
-same-finish : (n : ℕ) (op : A.Operation) (r : Rule) (v : View) {l : M.View} → viewOf n v ≡ l
+same-finish : (n : ℕ) (op : H.Operation) (r : Rule) (v : View) {l : M.View} → viewOf n v ≡ l
     → endingOf n v (S.endingOf (kindOf op) r) ≡ A.finish op (ruleOf r) l
-same-finish n (A.update p) r v e = ap (A.done (ruleOf r)) e
-same-finish n A.scan r v e = ap (A.shown (ruleOf r)) e
+same-finish n (H.update p) r v e = ap (H.done (ruleOf r)) e
+same-finish n H.scan r v e = ap (H.shown (ruleOf r)) e
 
-over-finish : (op : A.Operation) (r : A.Rule) (l : M.View) → Over (A.finish op r l) A.idle
-over-finish (A.update p) r l = refl
-over-finish A.scan r l = refl
+over-finish : (op : H.Operation) (r : H.Rule) (l : M.View) → Over (A.finish op r l) A.idle
+over-finish (H.update p) r l = refl
+over-finish H.scan r l = refl
 
 -- A view that is given out means what the table of the record means.
 given-out : {n m : ℕ} → m ≡ n → (v : View) → viewOf n (firstOf m v) ≡ viewOf n v
@@ -56,16 +57,16 @@ agreement-tells : {n i : ℕ} {ν : A.Node} {c : Node} (F : Follows n i ν c) �
 agreement-tells F b f u held = rw (F .size, F .own) (agreeing-tells F b u held f)
 
 module _ {n i k : ℕ} (small : n ≤ 16) (f : ℕ) (s : Step) (t : A.Step) where
-  module _ (T : Together n i k (Asked n) s t) (going : t .ending ≡ A.none) (op : A.Operation) (u : ℕ) where
+  module _ (T : Together n i k (Asked n) s t) (going : t .ending ≡ H.none) (op : H.Operation) (u : ℕ) where
     R : Step → A.Step → Type 0
-    R x y = Together n i k (Whole n) x (A.then-by t y A.none)
+    R x y = Together n i k (Whole n) x (A.then-by t y H.none)
 
     -- The tag of the round after round 0.
     next-tag : max (u + 1) (s .node .maxtag) ≡ max (suc u) (t .node .maxtag)
     next-tag = rw (add-one u, T .node .maxtag) refl
 
     -- The next round opens with tag x.
-    opens : (r : A.Round) {x y : ℕ} → x ≡ y → t .node .maxtag ≤ y
+    opens : (r : H.Round) {x y : ℕ} → x ≡ y → t .node .maxtag ≤ y
         → R (S.afterComparing s (opened (s .node) (kindOf op) (number r) x) (One (writing (s .node) x)) noView)
         (A.opening op r y (t .node))
     unfolding R
@@ -80,12 +81,12 @@ module _ {n i k : ℕ} (small : n ≤ 16) (f : ℕ) (s : Step) (t : A.Step) wher
           over = tt;
         })
 
-    after-failed : (r : A.Round) → R (afterFailed s (s .node) (kindOf op) (number r) u) (A.afterFailed op r u (t .node))
+    after-failed : (r : H.Round) → R (afterFailed s (s .node) (kindOf op) (number r) u) (A.afterFailed op r u (t .node))
     unfolding R afterFailed
-    after-failed A.round0 = opens A.round1 next-tag (omega arith)
-    after-failed A.round1 = opens A.round2 (T .node .maxtag) (omega arith)
-    after-failed A.round2 = opens A.round3 (T .node .maxtag) (omega arith)
-    after-failed A.round3 = record {
+    after-failed H.round0 = opens H.round1 next-tag (omega arith)
+    after-failed H.round1 = opens H.round2 (T .node .maxtag) (omega arith)
+    after-failed H.round2 = opens H.round3 (T .node .maxtag) (omega arith)
+    after-failed H.round3 = record {
       sent = whole-more (s .outbox) Nothing noView (T .sent) refl;
       ending = T .ending ∙ going;
       node = follows-turned (T .node) (T .node .request) SameWait.borrowing tt sized-absent;
@@ -99,10 +100,10 @@ module _ {n i k : ℕ} (small : n ≤ 16) (f : ℕ) (s : Step) (t : A.Step) wher
       view = given-out (T .node .size) (s .node .atround) ∙ same-view n u (s .node .atround) (t .node .all) held
 
       -- A good round ends the operation.
-      ends : (j : ℕ) (r : A.Round) → ruleOf (Direct j) ≡ A.direct r
+      ends : (j : ℕ) (r : H.Round) → ruleOf (Direct j) ≡ H.direct r
           → R (S.ended (S.afterComparing s (s .node) (One (Good u)) (heldView (s .node))) (closed (s .node) Idle)
           (S.endingOf (kindOf op) (Direct j)) (heldView (s .node)))
-          (A.ended (A.finish op (A.direct r) (A.viewUpto n u (t .node .all)))
+          (A.ended (A.finish op (H.direct r) (A.viewUpto n u (t .node .all)))
           (M.good u (A.viewUpto n u (t .node .all)) ∷ [])
           (A.waiting A.idle (t .node)))
       unfolding R
@@ -113,33 +114,33 @@ module _ {n i k : ℕ} (small : n ≤ 16) (f : ℕ) (s : Step) (t : A.Step) wher
         node = follows-closed (T .node);
         to = T .to;
         bounded = T .bounded;
-        over = over-finish op (A.direct r) (A.viewUpto n u (t .node .all));
+        over = over-finish op (H.direct r) (A.viewUpto n u (t .node .all));
       }
 
-      after-good : (r : A.Round) → R (afterGood s (s .node) (kindOf op) (number r) u)
+      after-good : (r : H.Round) → R (afterGood s (s .node) (kindOf op) (number r) u)
           (A.afterGood op r u (A.viewUpto n u (t .node .all)) (t .node))
       unfolding R afterGood
-      after-good A.round0 = subst (λ z. R
+      after-good H.round0 = subst (λ z. R
           (S.afterComparing s (opened (s .node) (kindOf op) 1 z) (Two (Good u) (writing (s .node) z))
           (heldView (s .node)))
-          (A.afterGood op A.round0 u (A.viewUpto n u (t .node .all)) (t .node))) (sym next-tag) (record {
+          (A.afterGood op H.round0 u (A.viewUpto n u (t .node .all)) (t .node))) (sym next-tag) (record {
             sent = whole-more (s .outbox) (Two (Good u) (writing (s .node) (max (suc u) (t .node .maxtag))))
                 (heldView (s .node)) (T .sent)
                 (ap₂ (λ l q. M.good u l ∷ M.write q (max (suc u) (t .node .maxtag)) ∷ []) view
                 (request-next (T .node)));
             ending = T .ending ∙ going;
-            node = follows-opened (T .node) small (T .bounded) op A.round1 _ (omega arith);
+            node = follows-opened (T .node) small (T .bounded) op H.round1 _ (omega arith);
             to = T .to;
             bounded = T .bounded;
             over = tt;
           })
-      after-good A.round1 = ends 1 A.round1 refl
-      after-good A.round2 = ends 2 A.round2 refl
-      after-good A.round3 = ends 3 A.round3 refl
+      after-good H.round1 = ends 1 H.round1 refl
+      after-good H.round2 = ends 2 H.round2 refl
+      after-good H.round3 = ends 3 H.round3 refl
 
-  module _ (T : Together n i k (Asked n) s t) (going : t .ending ≡ A.none) where
+  module _ (T : Together n i k (Asked n) s t) (going : t .ending ≡ H.none) where
     compare-by : {w : A.Wait} {w′ : Wait} → t .node .wait ≡ w → SameWait n w w′
-        → Together n i k (Whole n) (comparePass f s (s .node) w′) (A.then-by t (A.comparePass n f i (t .node) w) A.none)
+        → Together n i k (Whole n) (comparePass f s (s .node) w′) (A.then-by t (A.comparePass n f i (t .node) w) H.none)
     unfolding comparePass R
     compare-by e (SameWait.comparing {op} {r} {t = u}) =
         let held : Holds n (s .node .atround) u (t .node .all) =
@@ -165,11 +166,11 @@ module _ {n i k : ℕ} (small : n ≤ 16) (f : ℕ) (s : Step) (t : A.Step) wher
 
 -- The kept view is borrowed.
 module _ {n i k : ℕ} (s : Step) (t : A.Step) where
-  borrow-by : Together n i k (Whole n) s t → t .ending ≡ A.none → {w : A.Wait} {w′ : Wait} → SameWait n w w′
-      → Together n i k (Whole n) (borrowPass s (s .node) w′) (A.then-by t (A.borrowPass n (t .node) w) A.none)
+  borrow-by : Together n i k (Whole n) s t → t .ending ≡ H.none → {w : A.Wait} {w′ : Wait} → SameWait n w w′
+      → Together n i k (Whole n) (borrowPass s (s .node) w′) (A.then-by t (A.borrowPass n (t .node) w) H.none)
   unfolding borrowPass
   borrow-by T going (SameWait.borrowing {op} {t = u}) =
-      same-side (λ x y. Together n i k (Whole n) x (A.then-by t y A.none)) (decLe u (A.kept n (t .node .goods) .tag))
+      same-side (λ x y. Together n i k (Whole n) x (A.then-by t y H.none)) (decLe u (A.kept n (t .node .goods) .tag))
       (le-tells-as refl (T .node .kept))
       (λ h. record {
         sent = rw (append-nil (t .sent)) (T .sent);
@@ -178,7 +179,7 @@ module _ {n i k : ℕ} (s : Step) (t : A.Step) where
         node = follows-closed (T .node);
         to = T .to;
         bounded = T .bounded;
-        over = over-finish op A.borrowed (A.kept n (t .node .goods) .view);
+        over = over-finish op H.borrowed (A.kept n (t .node .goods) .view);
       })
       (λ h. nothing-done (λ o l h. h) T going)
   borrow-by T going SameWait.idle = nothing-done (λ o l h. h) T going

@@ -12,7 +12,8 @@ use Rattle.step.specs.declared.Sent.the-variants.{Nothing}
 use Rattle.step.specs.declared.Outbox.{Outbox}
 use Rattle.step.specs.declared.Step.{Step}
 use Rattle.step.specs.Step.{listed}
-use Rattle.eqaso.specs.Message as M
+use Rattle.history.specs.Message as M
+use Rattle.history.specs.Event as H
 use Rattle.eqaso.specs.Algorithm as A
 use Rattle.eqaso.specs.Algorithm.{_then_}
 use Rattle.eqaso.specs.Bounded.{BoundedNode}
@@ -38,11 +39,11 @@ abbrev pub Whole : ℕ → Outbox → List M.Message → Type 0
 Whole n o l = sentOf n o ≡ l
 
 -- An operation that has ended is no longer open.
-abbrev pub Over : A.Ending → A.Wait → Type 0
-Over A.none w = Unit {0}
-Over (A.done r v) w = w ≡ A.idle
-Over (A.shown r v) w = w ≡ A.idle
-Over A.spent w = w ≡ A.idle
+abbrev pub Over : H.Ending → A.Wait → Type 0
+Over H.none w = Unit {0}
+Over (H.done r v) w = w ≡ A.idle
+Over (H.shown r v) w = w ≡ A.idle
+Over H.spent w = w ≡ A.idle
 
 -- The two steps after a part; S says what the code's outbox has to do with the messages sent.
 pub record Together (n i k : ℕ) (S : Outbox → List M.Message → Type 0) (s : Step) (t : A.Step) : Type 0 where
@@ -94,8 +95,8 @@ idle-only SameWait.idle = refl
 module _ {n i k : ℕ} {S S′ : Outbox → List M.Message → Type 0}
     (weaken : (o : Outbox) (l : List M.Message) → S o l → S′ o l) where
   -- It does nothing on either side.
-  pub nothing-done : {s : Step} {t : A.Step} → Together n i k S s t → t .ending ≡ A.none
-      → Together n i k S′ s (A.then-by t (A.still (t .node)) A.none)
+  pub nothing-done : {s : Step} {t : A.Step} → Together n i k S s t → t .ending ≡ H.none
+      → Together n i k S′ s (A.then-by t (A.still (t .node)) H.none)
   nothing-done {s} {t} T e = record {
     sent = rw (append-nil (t .sent)) (weaken (s .outbox) (t .sent) (T .sent));
     to = T .to;
@@ -108,7 +109,7 @@ module _ {n i k : ℕ} {S S′ : Outbox → List M.Message → Type 0}
   -- The code does nothing where no operation is open, so that only the going step is left to look at.
   pub follow-pass : (pass : Step → Step) (part : A.Node → A.Step) → ((s : Step) → s .node .wait ≡ Idle → pass s ≡ s)
       → (s : Step) (t : A.Step) → Together n i k S s t
-      → (t .ending ≡ A.none → Together n i k S′ (pass s) (A.then-by t (part (t .node)) A.none))
+      → (t .ending ≡ H.none → Together n i k S′ (pass s) (A.then-by t (part (t .node)) H.none))
       → Together n i k S′ (pass s) (t then part)
   follow-pass pass part rests s t T more = go (t .ending) refl
     where
@@ -122,8 +123,8 @@ module _ {n i k : ℕ} {S S′ : Outbox → List M.Message → Type 0}
         over = T .over;
       })
 
-      go : (e : A.Ending) → t .ending ≡ e → Together n i k S′ (pass s) (A.then-by t (part (t .node)) e)
-      go A.none e = more e
-      go (A.done r v) e = stays (subst (λ x. Over x (t .node .wait)) e (T .over))
-      go (A.shown r v) e = stays (subst (λ x. Over x (t .node .wait)) e (T .over))
-      go A.spent e = stays (subst (λ x. Over x (t .node .wait)) e (T .over))
+      go : (e : H.Ending) → t .ending ≡ e → Together n i k S′ (pass s) (A.then-by t (part (t .node)) e)
+      go H.none e = more e
+      go (H.done r v) e = stays (subst (λ x. Over x (t .node .wait)) e (T .over))
+      go (H.shown r v) e = stays (subst (λ x. Over x (t .node .wait)) e (T .over))
+      go H.spent e = stays (subst (λ x. Over x (t .node .wait)) e (T .over))

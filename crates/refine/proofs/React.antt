@@ -20,10 +20,10 @@ use Rattle.step.specs.declared.Sent.{Sent}
 use Rattle.step.specs.declared.Sent.the-variants.{Nothing, One, Two}
 use Rattle.step.specs.Step.{started}
 use Rattle.step.specs.React.{react, raised, isNew, received}
-use Rattle.eqaso.specs.Message as M
+use Rattle.history.specs.Message as M
+use Rattle.history.specs.Order.{OneTo}
 use Rattle.eqaso.specs.Algorithm as A
 use Rattle.eqaso.specs.Algorithm.{_then_}
-use Rattle.eqaso.specs.Order.{OneTo}
 use Rattle.eqaso.specs.Node.{topping, holding}
 use Rattle.eqaso.proofs.Sets.{has-to, has-of}
 use Rattle.eqaso.specs.Bounded.{BoundedNode}

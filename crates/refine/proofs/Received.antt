@@ -20,9 +20,9 @@ use Rattle.record.specs.declared.Node.{Node}
 use Rattle.record.specs.declared.Wait.{Wait}
 use Rattle.record.specs.Usable.{stale}
 use Rattle.step.specs.React.{received, isNew, roundHolds}
-use Rattle.eqaso.specs.Message as M
+use Rattle.history.specs.Message as M
+use Rattle.history.specs.Order.{OneTo}
 use Rattle.eqaso.specs.Algorithm as A
-use Rattle.eqaso.specs.Order.{OneTo}
 use Rattle.eqaso.specs.Node.{holding}
 use Rattle.eqaso.specs.Node.{latest}
 use Rattle.eqaso.proofs.Newest.{newest-other, latest-other}

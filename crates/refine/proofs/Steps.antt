@@ -14,10 +14,10 @@ use Rattle.record.specs.declared.Wait.{Wait}
 use Rattle.record.specs.Usable.{isOpen, full, stale}
 use Rattle.step.specs.declared.Step.{Step}
 use Rattle.step.specs.Move.{moveOn, messageStep, begun, beginStep}
-use Rattle.eqaso.specs.Message as M
+use Rattle.history.specs.Message as M
+use Rattle.history.specs.Order.{OneTo}
 use Rattle.eqaso.specs.Algorithm as A
 use Rattle.eqaso.specs.Cluster.{isIdle}
-use Rattle.eqaso.specs.Order.{OneTo}
 use Rattle.eqaso.specs.Bounded.{BoundedNode}
 use Rattle.eqaso.specs.Bounded.{Expected}
 use Rattle.refine.specs.Meaning.{messageOf, operationOf}

@@ -16,9 +16,9 @@ use Rattle.view.proofs.First.{first-tag, first-report}
 use Rattle.table.specs.Table.{tagOf, put, newest, newestTag, newestReport, cell, heardOf}
 use Rattle.table.proofs.Laws.{length-tab}
 use Rattle.table.proofs.Entries.{newest-tag, newest-report, put-tag, put-report, put-tag-other, put-report-other}
-use Rattle.eqaso.specs.Message as M
+use Rattle.history.specs.Message as M
+use Rattle.history.specs.Order.{OneTo}
 use Rattle.eqaso.specs.Algorithm as A
-use Rattle.eqaso.specs.Order.{OneTo}
 use Rattle.refine.specs.Meaning.{code, entryOf, viewOf}
 use Rattle.refine.specs.Follows.{Sized, Holds}
 

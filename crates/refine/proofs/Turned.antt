@@ -12,7 +12,8 @@ use Rattle.record.specs.declared.Node.{Node}
 use Rattle.record.specs.declared.Wait.{Wait}
 use Rattle.record.specs.declared.Wait.the-variants.{Idle}
 use Rattle.step.specs.Move.{opened}
-use Rattle.eqaso.specs.Message as M
+use Rattle.history.specs.Message as M
+use Rattle.history.specs.Event as H
 use Rattle.eqaso.specs.Algorithm as A
 use Rattle.eqaso.proofs.Bounded.{BoundedNode, newest-by-two}
 use Rattle.refine.specs.Meaning.{entryOf, kindOf, number}
@@ -86,7 +87,7 @@ module _ {n i : ℕ} {ν : A.Node} {c : Node} (F : Follows n i ν c) where
   request-next = rw (add-one (c .request)) (ap suc (F .request))
 
   -- A round opens.
-  pub follows-opened : n ≤ 16 → BoundedNode n ν → (op : A.Operation) (r : A.Round) (t : ℕ) → ν .maxtag ≤ t
+  pub follows-opened : n ≤ 16 → BoundedNode n ν → (op : H.Operation) (r : H.Round) (t : ℕ) → ν .maxtag ≤ t
       → Follows n i (A.asking (A.writing op r t A.nobody) ν) (opened c (kindOf op) (number r) t)
   unfolding opened
   follows-opened small b op r t high = follows-turned request-next (SameWait.writing (same-nobody n))

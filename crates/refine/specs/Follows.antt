@@ -12,9 +12,10 @@ use Rattle.record.specs.declared.Node.{Node}
 use Rattle.record.specs.declared.Operation.{Operation}
 use Rattle.record.specs.declared.Wait.{Wait}
 use Rattle.record.specs.declared.Wait.the-variants.{Idle, Reading, Writing, Comparing, Borrowing}
-use Rattle.eqaso.specs.Message as M
+use Rattle.history.specs.Message as M
+use Rattle.history.specs.Event as H
+use Rattle.history.specs.Order.{OneTo}
 use Rattle.eqaso.specs.Algorithm as A
-use Rattle.eqaso.specs.Order.{OneTo}
 use Rattle.eqaso.specs.Node.{latest}
 use Rattle.refine.specs.Meaning.{entryOf, viewOf, operationOf, kindOf, number}
 
@@ -27,11 +28,11 @@ pub data SameWait (n : ℕ) : A.Wait → Wait → Type 0 where
   idle : SameWait n A.idle Idle
   reading : {o : Operation} {s : A.Nodes} {a u : ℕ} → SameNodes n s a
       → SameWait n (A.reading (operationOf o) s u) (Reading o a u)
-  writing : {op : A.Operation} {r : A.Round} {t a : ℕ} {s : A.Nodes} → SameNodes n s a
+  writing : {op : H.Operation} {r : H.Round} {t a : ℕ} {s : A.Nodes} → SameNodes n s a
       → SameWait n (A.writing op r t s) (Writing (kindOf op) (number r) t a)
-  comparing : {op : A.Operation} {r : A.Round} {t : ℕ}
+  comparing : {op : H.Operation} {r : H.Round} {t : ℕ}
       → SameWait n (A.comparing op r t) (Comparing (kindOf op) (number r) t)
-  borrowing : {op : A.Operation} {t : ℕ} → SameWait n (A.borrowing op t) (Borrowing (kindOf op) t)
+  borrowing : {op : H.Operation} {t : ℕ} → SameWait n (A.borrowing op t) (Borrowing (kindOf op) t)
 
 -- The tables have their sizes.
 pub record Sized (v : View) : Type 0 where

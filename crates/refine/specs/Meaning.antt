@@ -18,7 +18,8 @@ use Rattle.step.specs.declared.Rule.the-variants.{Direct, Borrowed}
 use Rattle.step.specs.declared.Ending.{Ending}
 use Rattle.step.specs.declared.Ending.the-variants.{None, Done, Scan as Scanned, Spent}
 use Rattle.step.specs.Step.{messages}
-use Rattle.eqaso.specs.Message as M
+use Rattle.history.specs.Message as M
+use Rattle.history.specs.Event as H
 use Rattle.eqaso.specs.Algorithm as A
 
 abbrev pub code : Report → ℕ
@@ -45,34 +46,34 @@ messageOf n to v (Good t) = M.good t (viewOf n v)
 abbrev pub sentOf : ℕ → Outbox → List M.Message
 sentOf n o = map (messageOf n (o .to) (o .view)) (messages o)
 
-abbrev pub operationOf : Operation → A.Operation
-operationOf (Update p) = A.update (code p)
-operationOf Scan = A.scan
+abbrev pub operationOf : Operation → H.Operation
+operationOf (Update p) = H.update (code p)
+operationOf Scan = H.scan
 
-abbrev pub kindOf : A.Operation → Kind
-kindOf (A.update p) = UpdateKind
-kindOf A.scan = ScanKind
+abbrev pub kindOf : H.Operation → Kind
+kindOf (H.update p) = UpdateKind
+kindOf H.scan = ScanKind
 
 -- The number of a round.
-abbrev pub number : A.Round → ℕ
-number A.round0 = 0
-number A.round1 = 1
-number A.round2 = 2
-number A.round3 = 3
+abbrev pub number : H.Round → ℕ
+number H.round0 = 0
+number H.round1 = 1
+number H.round2 = 2
+number H.round3 = 3
 
-abbrev pub roundOf : ℕ → A.Round
-roundOf zero = A.round0
-roundOf (suc zero) = A.round1
-roundOf (suc (suc zero)) = A.round2
-roundOf (suc (suc (suc i))) = A.round3
+abbrev pub roundOf : ℕ → H.Round
+roundOf zero = H.round0
+roundOf (suc zero) = H.round1
+roundOf (suc (suc zero)) = H.round2
+roundOf (suc (suc (suc i))) = H.round3
 
-abbrev pub ruleOf : Rule → A.Rule
-ruleOf (Direct i) = A.direct (roundOf i)
-ruleOf Borrowed = A.borrowed
+abbrev pub ruleOf : Rule → H.Rule
+ruleOf (Direct i) = H.direct (roundOf i)
+ruleOf Borrowed = H.borrowed
 
 -- An ending beside its view.
-abbrev pub endingOf : ℕ → View → Ending → A.Ending
-endingOf n v None = A.none
-endingOf n v (Done r) = A.done (ruleOf r) (viewOf n v)
-endingOf n v (Scanned r) = A.shown (ruleOf r) (viewOf n v)
-endingOf n v Spent = A.spent
+abbrev pub endingOf : ℕ → View → Ending → H.Ending
+endingOf n v None = H.none
+endingOf n v (Done r) = H.done (ruleOf r) (viewOf n v)
+endingOf n v (Scanned r) = H.shown (ruleOf r) (viewOf n v)
+endingOf n v Spent = H.spent

@@ -5,13 +5,13 @@ use mathlib.Core.List.{List, [], _∷_, _++_}
 use native.Mathlib.Omega.{arith}
 use lib.ListN.{length}
 use Rattle.lines.specs.declared.Line.{Line}
-use Rattle.eqaso.specs.Cluster as K
-use Rattle.eqaso.specs.Trace.{Trace}
+use Rattle.history.specs.Event as H
+use Rattle.history.specs.Trace.{Trace}
 use Rattle.mirror.specs.Run.{Event}
 use Rattle.script.specs.Progress.{badLine}
 use Rattle.texts.specs.Lines.{Shows, silence, done, scan, spent, refusal, Lines, none, bad, event, Determined}
 
-shown-one : {e c : ℕ} {a : K.Answer} {u v : List ℕ} → Shows e c a u → Shows e c a v → u ≡ v
+shown-one : {e c : ℕ} {a : H.Answer} {u v : List ℕ} → Shows e c a u → Shows e c a v → u ≡ v
 shown-one silence silence = refl
 shown-one (done r w) (done _ _) = refl
 shown-one (scan r w) (scan _ _) = refl

@@ -13,7 +13,7 @@ use Rattle.layout.specs.Layout.{stated}
 use Rattle.lines.specs.declared.Line.{Line}
 use Rattle.lines.specs.declared.Line.the-variants.{Update, Scan, Deliver, Stop, Bad}
 use Rattle.answers.specs.Answer.{entryAt, entries, line}
-use Rattle.eqaso.specs.Message as M
+use Rattle.history.specs.Message as M
 use Rattle.eqaso.specs.Algorithm as A
 use Rattle.refine.specs.Meaning.{entryOf, ruleOf, viewOf}
 use Rattle.mirror.specs.SameResult.{answerOf}

@@ -25,8 +25,10 @@ use Rattle.lines.specs.declared.Extent.the-variants as Written
 use Rattle.input.specs.Input.{linesFrom, restFrom, joined}
 use Rattle.answers.specs.Answer.{line}
 use Rattle.eqaso.specs.Algorithm.{limit, table, moveOn}
+use Rattle.history.specs.Event as H
+use Rattle.history.specs.Trace.{Trace}
 use Rattle.eqaso.specs.Cluster as K
-use Rattle.eqaso.specs.Trace.{Trace, trace}
+use Rattle.eqaso.specs.Cluster.{trace}
 use Rattle.mirror.specs.Mirrors.{channelRoom}
 use Rattle.mirror.specs.Run as R
 use Rattle.mirror.proofs.Demand2.{demand2}
@@ -151,7 +153,7 @@ module _ (es : List R.Event) where
       (demand2 1 (omega arith, omega arith) lent long .same es)
 
 asked : K.after 1 0 channelRoom K.start (map R.meaning scanning) .nodes 1 .request ≡ 1
-unfolding K.after K.event K.roomy K.sentTo K.entries moveOn table limit upd upd2 count ℕ-discrete decLe decLt decide
+unfolding K.after K.event K.roomy H.sentTo K.entries moveOn table limit upd upd2 count ℕ-discrete decLe decLt decide
 asked = refl
 
 -- the scan changes the cluster

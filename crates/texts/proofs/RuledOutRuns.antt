@@ -18,12 +18,15 @@ use Rattle.digits.specs.Decimal.{allDigits, value}
 use Rattle.digits.specs.Hex.{allHex, hexValue, hexBytes}
 use Rattle.lines.specs.Grammar.{numberOf, reportIn, placeOf, fieldLength, word, after, tailOf, eventOf, nodesOf}
 use Rattle.input.specs.Input.{linesFrom, restFrom}
-use Rattle.eqaso.specs.Message.{same}
-use Rattle.eqaso.specs.Algorithm.{none, done, shown, spent, limit, table, moveOn, has, within, newest, kept}
+use Rattle.history.specs.Message.{same}
+use Rattle.history.specs.Event as H
+use Rattle.history.specs.Event.{none, done, shown, spent}
+use Rattle.history.specs.Trace.{Seen, firstEnding}
+use Rattle.history.specs.Order.{SingleOrder, Quiet}
+use Rattle.history.proofs.RuledOutOpen.{open-scan-out}
+use Rattle.eqaso.specs.Algorithm.{limit, table, moveOn, has, within, newest, kept}
 use Rattle.eqaso.specs.Cluster as K
-use Rattle.eqaso.specs.Order.{SingleOrder, Quiet}
-use Rattle.eqaso.specs.Trace.{Seen, traceFrom, trace, firstEnding}
-use Rattle.eqaso.proofs.RuledOutOpen.{open-scan-out}
+use Rattle.eqaso.specs.Cluster.{traceFrom, trace}
 use Rattle.mirror.specs.Mirrors.{channelRoom}
 use Rattle.mirror.specs.Run as R
 use Rattle.script.specs.Text.{nodesIn, freshOf}
@@ -31,12 +34,12 @@ use Rattle.texts.specs.Session.{eventsFrom, traceIn, SessionsOf}
 use Rattle.texts.proofs.RuledOut.{text, asks, some-asks, scanning, traced, seeing}
 
 -- The view that a done update came by is not seen. It is not printed.
-abbrev viewless : K.Answer → K.Answer
-viewless (K.refused k) = K.refused k
-viewless (K.accepted none) = K.accepted none
-viewless (K.accepted (done r v)) = K.accepted (done r [])
-viewless (K.accepted (shown r v)) = K.accepted (shown r v)
-viewless (K.accepted spent) = K.accepted spent
+abbrev viewless : H.Answer → H.Answer
+viewless (H.refused k) = H.refused k
+viewless (H.accepted none) = H.accepted none
+viewless (H.accepted (done r v)) = H.accepted (done r [])
+viewless (H.accepted (shown r v)) = H.accepted (shown r v)
+viewless (H.accepted spent) = H.accepted spent
 
 abbrev blurred : Seen → Seen
 blurred o = record { event = o .event; answer = viewless (o .answer); sent = o .sent }
@@ -54,7 +57,7 @@ read = (refl, refl)
 
 -- computed of the algorithm over sets
 unviewed : SingleOrder 1 (map blurred (trace 1 0 channelRoom (map R.meaning updating))) → ⊥
-unfolding traceFrom K.event K.roomy K.sentTo K.entries moveOn kept table newest within has limit same upd upd2 count ℕ-discrete decLe decLt decide firstEnding
+unfolding traceFrom K.event K.roomy H.sentTo K.entries moveOn kept table newest within has limit same upd upd2 count ℕ-discrete decLe decLt decide firstEnding
 unviewed o = let wrong : _≡_ {A = ℕ} 0 1 = o .kinds 0 in omega (arith, wrong)
 
 pub order-out : ¬ SessionsOf (seeing (λ t. map blurred (traceIn t)))
@@ -64,16 +67,16 @@ order-out s = unviewed (subst (λ tr. SingleOrder 1 (map blurred tr))
     (s .order updates λ e. omega (arith, e, read .0)))
 
 -- What a begin lets out is not seen.
-abbrev kept-back : K.Event → List K.Sent → List K.Sent
-kept-back (K.begin c op x) l = []
-kept-back (K.deliver a c x) l = l
-kept-back (K.stop c) l = l
+abbrev kept-back : H.Event → List H.Sent → List H.Sent
+kept-back (H.begin c op x) l = []
+kept-back (H.deliver a c x) l = l
+kept-back (H.stop c) l = l
 
 abbrev hushed : Seen → Seen
 hushed o = record { event = o .event; answer = o .answer; sent = kept-back (o .event) (o .sent) }
 
 open-still : Quiet 1 (map hushed (trace 1 0 channelRoom (map R.meaning scanning))) → ⊥
-unfolding traceFrom K.event K.roomy K.sentTo K.entries moveOn table limit upd upd2 count ℕ-discrete decLe decLt decide
+unfolding traceFrom K.event K.roomy H.sentTo K.entries moveOn table limit upd upd2 count ℕ-discrete decLe decLt decide
 open-still = open-scan-out
 
 pub quiet-out : ¬ SessionsOf (seeing (λ t. map hushed (traceIn t)))

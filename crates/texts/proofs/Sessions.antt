@@ -17,7 +17,7 @@ use Rattle.input.specs.Input.{linesFrom, linesOf, restOf}
 use Rattle.input.specs.Carry.{carryOf}
 use Rattle.input.proofs.Pieces.{lines-append}
 use Rattle.answers.specs.Answer.{line}
-use Rattle.eqaso.specs.Order.{SingleOrder, Quiet}
+use Rattle.history.specs.Order.{SingleOrder, Quiet}
 use Rattle.mirror.specs.Run.{traceFrom}
 use Rattle.mirror.proofs.Demand3.{demand3}
 use Rattle.script.specs.Act.{printed}

@@ -7,10 +7,9 @@ use Rattle.record.specs.declared.Operation.the-variants.{Update as UpdateOf, Sc
 use Rattle.lines.specs.declared.Line.{Line}
 use Rattle.lines.specs.declared.Line.the-variants.{Update, Scan, Deliver, Stop, Bad}
 use Rattle.answers.specs.Answer.{doneIs, scanIs, spentIs, noIs, start, entry, feed}
-use Rattle.eqaso.specs.Message as M
-use Rattle.eqaso.specs.Algorithm as A
-use Rattle.eqaso.specs.Cluster as K
-use Rattle.eqaso.specs.Trace.{Seen, Trace}
+use Rattle.history.specs.Message as M
+use Rattle.history.specs.Event as H
+use Rattle.history.specs.Trace.{Seen, Trace}
 use Rattle.mirror.specs.Run.{Event, begin, deliver, stop, meaning}
 use Rattle.script.specs.Act.{extentOf, handler}
 use Rattle.script.specs.Progress.{next, badLine}
@@ -34,12 +33,12 @@ reports (x ∷ w) = printedOf x ++ reports w
 
 -- An ending at node c prints event, `done` or `scan` or `spent`, c, and for a scan the reports of its view; a refusal
 -- prints event, `no`, number.
-pub data Shows (e c : ℕ) : K.Answer → List ℕ → Type 0 where
-  silence : Shows e c (K.accepted A.none) []
-  done : (r : A.Rule) (w : M.View) → Shows e c (K.accepted (A.done r w)) (start e doneIs c ++ feed)
-  scan : (r : A.Rule) (w : M.View) → Shows e c (K.accepted (A.shown r w)) (start e scanIs c ++ reports w ++ feed)
-  spent : Shows e c (K.accepted A.spent) (start e spentIs c ++ feed)
-  refusal : (k : ℕ) → Shows e c (K.refused k) (start e noIs k ++ feed)
+pub data Shows (e c : ℕ) : H.Answer → List ℕ → Type 0 where
+  silence : Shows e c (H.accepted H.none) []
+  done : (r : H.Rule) (w : M.View) → Shows e c (H.accepted (H.done r w)) (start e doneIs c ++ feed)
+  scan : (r : H.Rule) (w : M.View) → Shows e c (H.accepted (H.shown r w)) (start e scanIs c ++ reports w ++ feed)
+  spent : Shows e c (H.accepted H.spent) (start e spentIs c ++ feed)
+  refusal : (k : ℕ) → Shows e c (H.refused k) (start e noIs k ++ feed)
 
 -- Lines, the first of them event e; what is seen of those that are events; and what is printed.
 pub data Lines : (e : ℕ) → List Line → Trace → List ℕ → Type 0 where

@@ -5,8 +5,8 @@ use Prim.Native.Nat.{ℕ}
 use mathlib.Core.Path.{_≡_}
 use mathlib.Core.Bool.{Bool, true}
 use mathlib.Core.List.{List, _++_}
-use Rattle.eqaso.specs.Order.{SingleOrder, Quiet}
-use Rattle.eqaso.specs.Trace.{Trace}
+use Rattle.history.specs.Trace.{Trace}
+use Rattle.history.specs.Order.{SingleOrder, Quiet}
 use Rattle.mirror.specs.Run.{Event, after, traceFrom}
 use Rattle.script.specs.Progress.{cluster, finished, isOver}
 use Rattle.script.specs.declared.Progress.{Progress}
