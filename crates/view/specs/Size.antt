@@ -1,5 +1,5 @@
 -- The limits and sizes of document 01 that messages, views and nodes share.
-use Prim.Native.Nat.{ℕ}
+use Prim.Native.Nat.{ℕ, _+_, _*_}
 use mathlib.Core.Bool.{Bool}
 use lib.Dec.{leb}
 use Rattle.octets.specs.Test.{both}
@@ -12,12 +12,18 @@ nodes = 16
 abbrev pub limit : ℕ
 limit = 9223372036854775807
 
--- the bytes of a report, and of a view's entry, which is a tag and a report
+-- the bytes of a tag, of a report, of a view's entry, which is a tag and a report, and of a view of n nodes
+abbrev pub tagSize : ℕ
+tagSize = 8
+
 abbrev pub reportSize : ℕ
 reportSize = 8
 
 abbrev pub entrySize : ℕ
-entrySize = 16
+entrySize = tagSize + reportSize
+
+abbrev pub viewSize : ℕ → ℕ
+viewSize n = entrySize * n
 
 -- n nodes
 abbrev pub isSize : ℕ → Bool
