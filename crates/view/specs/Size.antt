@@ -3,6 +3,7 @@ use Prim.Native.Nat.{ℕ, _+_, _*_}
 use mathlib.Core.Bool.{Bool}
 use lib.Dec.{leb}
 use Rattle.octets.specs.Test.{both}
+use Rattle.octets.specs.Word.{wordSize}
 
 -- the most nodes (cabinets)
 abbrev pub nodes : ℕ
@@ -14,7 +15,7 @@ limit = 9223372036854775807
 
 -- the bytes of a tag, of a report, of a view's entry, which is a tag and a report, and of a view of n nodes
 abbrev pub tagSize : ℕ
-tagSize = 8
+tagSize = wordSize
 
 abbrev pub reportSize : ℕ
 reportSize = 8

@@ -1,4 +1,5 @@
 // A node's report, and a view: a tag and a report for each of up to sixteen nodes. Both by value and in bytes.
+use octets::WORD;
 ghost use mathlib.Core.Path.{_≡_};
 ghost use Prim.Native.Nat.{_≤_};
 ghost use lib.ListN.{length};
@@ -13,7 +14,7 @@ pub const NODES: usize = 16;
 pub const LIMIT: u64 = 9223372036854775807;
 
 // The bytes of a tag, of a report, of a view's entry, which is a tag and a report, and of a whole view.
-pub const TAG: usize = 8;
+pub const TAG: usize = WORD;
 
 pub const REPORT: usize = 8;
 
