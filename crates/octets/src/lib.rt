@@ -5,7 +5,10 @@ ghost use Prim.Native.Nat.{_+_, _-_, _*_, _<_, _≤_, min};
 ghost use lib.ListN.{length, replicate};
 ghost use Rattle.octets.specs.Test.{both};
 ghost use Rattle.octets.specs.Bytes.{num, be, put};
-ghost use Rattle.octets.specs.Word.{word, wordBytes};
+ghost use Rattle.octets.specs.Word.{wordSize, word, wordBytes};
+
+// The bytes of a word.
+pub const WORD: usize = 8;
 
 // A byte as a wide number.
 pub fn wide(x: u8) -> u64
@@ -99,17 +102,17 @@ pub fn fill(b: &mut [u8], x: u8)
 
 // The word at a place.
 pub fn get_word(b: &[u8], at: usize) -> u64
-    requires { ⌜ at + 8 ≤ length (now b) ⌝ }
+    requires { ⌜ at + wordSize ≤ length (now b) ⌝ }
     ensures { λ r. ⌜ r ≡ word (now (b .entry)) at ⌝ }
 {
-    let end = at + 8;
+    let end = at + WORD;
     number8(&b[at..end])
 }
 
 // Writes a word at a place.
 pub fn put_word(b: &mut [u8], at: usize, x: u64)
-    requires { ⌜ at + 8 ≤ length (now b) ⌝ }
-    ensures { λ _. ⌜ now (b .exit) ≡ put (now (b .entry)) at (be 8 x) ⌝ }
+    requires { ⌜ at + wordSize ≤ length (now b) ⌝ }
+    ensures { λ _. ⌜ now (b .exit) ≡ put (now (b .entry)) at (be wordSize x) ⌝ }
 {
     let d = digits8(x);
     put_bytes(b, at, &d);
@@ -117,19 +120,19 @@ pub fn put_word(b: &mut [u8], at: usize, x: u64)
 
 // Writes the words of t into b, from a place on.
 pub fn put_words(b: &mut [u8], at: usize, t: &[u64])
-    requires { ⌜ at + 8 * length (now t) ≤ length (now b) ⌝ }
+    requires { ⌜ at + wordSize * length (now t) ≤ length (now b) ⌝ }
     ensures { λ _. ⌜ now (b .exit) ≡ put (now (b .entry)) at (wordBytes (now (t .entry))) ⌝ }
 {
     let mut i = 0;
     while i < t.len() {
-        put_word(b, at + 8 * i, t[i]);
+        put_word(b, at + WORD * i, t[i]);
         i += 1;
     }
 }
 
 // A table of 256 words: an array that is a field of a struct is lent whole.
 pub fn put_table256(b: &mut [u8], at: usize, t: &[u64; 256])
-    requires { ⌜ at + 2048 ≤ length (now b) ⌝ }
+    requires { ⌜ at + wordSize * 256 ≤ length (now b) ⌝ }
     ensures { λ _. ⌜ now (b .exit) ≡ put (now (b .entry)) at (wordBytes (now (t .entry))) ⌝ }
 {
     put_words(b, at, t);

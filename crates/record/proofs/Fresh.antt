@@ -5,18 +5,18 @@ use Prim.Native.Nat.{ℕ, _≤_}
 use native.Mathlib.Omega.{arith}
 use lib.ListN.{replicate}
 use Rattle.table.specs.Loop.{all}
-use Rattle.table.specs.Table.{heardWithin}
+use Rattle.table.specs.Table.{heardWithin, cells}
 use Rattle.table.proofs.Entries.{within-absent}
-use Rattle.view.specs.Size.{limit}
+use Rattle.view.specs.Size.{limit, nodes}
 use Rattle.record.specs.Record.{blank}
 use Rattle.record.specs.Usable.{usable}
 use Rattle.record.proofs.Parts.{usable-of}
 
-none-heard : heardWithin (replicate 256 0) ≡ true
+none-heard : heardWithin (replicate cells 0) ≡ true
 unfolding heardWithin all
 none-heard = refl
 
-pub fresh-usable : (n own : ℕ) → 1 ≤ n → n ≤ 16 → 1 ≤ own → own ≤ n → usable (blank n own) ≡ true
+pub fresh-usable : (n own : ℕ) → 1 ≤ n → n ≤ nodes → 1 ≤ own → own ≤ n → usable (blank n own) ≡ true
 fresh-usable n own a b d e =
     usable-of (blank n own)
     (record {

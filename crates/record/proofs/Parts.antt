@@ -9,7 +9,7 @@ use lib.Dec.{leb, ltb}
 use borrow.Author.Tests.{leb-true, le-leb, ltb-true, lt-ltb}
 use Rattle.octets.proofs.Test.{both-left, both-right, both-true}
 use Rattle.octets.specs.Test.{both}
-use Rattle.view.specs.Size.{limit}
+use Rattle.view.specs.Size.{limit, nodes}
 use Rattle.table.specs.Loop.{either}
 use Rattle.table.specs.Quorum.{only}
 use Rattle.table.specs.Table.{within, heardWithin}
@@ -21,7 +21,7 @@ use Rattle.record.specs.Usable.{stillUses, roundTag, roundOk, waitOk, si
 
 pub record Parts (c : Node) : Type 0 where
   pub n-low : 1 ≤ c .n
-  pub n-high : c .n ≤ 16
+  pub n-high : c .n ≤ nodes
   pub own-low : 1 ≤ c .own
   pub own-high : c .own ≤ c .n
   pub max-high : c .maxtag ≤ limit
@@ -42,7 +42,7 @@ halves a b h f = f (both-left a b h) (both-right a b h)
 -- the tests of usable, group by group
 module _ (c : Node) where
   abbrev nT : Bool
-  nT = both (leb 1 (c .n)) (leb (c .n) 16)
+  nT = both (leb 1 (c .n)) (leb (c .n) nodes)
 
   abbrev ownT : Bool
   ownT = both (leb 1 (c .own)) (leb (c .own) (c .n))
@@ -65,8 +65,8 @@ module _ (c : Node) where
   abbrev restT : Bool
   restT = both heldT (within (c .kept) (c .keptview))
 
-pub sizes-most : (c : Node) → sizesOk c ≡ true → c .n ≤ 16
-sizes-most c h = halves (nT c) (ownT c) h (λ p q. leb-true (c .n) 16 (both-right (leb 1 (c .n)) (leb (c .n) 16) p))
+pub sizes-most : (c : Node) → sizesOk c ≡ true → c .n ≤ nodes
+sizes-most c h = halves (nT c) (ownT c) h (λ p q. leb-true (c .n) nodes (both-right (leb 1 (c .n)) (leb (c .n) nodes) p))
 
 pub parts : (c : Node) → usable c ≡ true → Parts c
 unfolding usable numbersOk tablesOk
@@ -74,7 +74,7 @@ parts c h =
     halves (sizesOk c) (both (both (maxT c) (leftT c)) (both (firstT c) (restT c))) h (λ s r.
     halves (both (maxT c) (leftT c)) (both (firstT c) (restT c)) r (λ p t.
     halves (nT c) (ownT c) s (λ s₁ s₂.
-    halves (leb 1 (c .n)) (leb (c .n) 16) s₁ (λ nl nh.
+    halves (leb 1 (c .n)) (leb (c .n) nodes) s₁ (λ nl nh.
     halves (leb 1 (c .own)) (leb (c .own) (c .n)) s₂ (λ ol oh.
     halves (maxT c) (leftT c) p (λ p₁ p₂.
     halves (leb (c .maxtag) limit) (numT c) p₁ (λ mx rk.
@@ -86,7 +86,7 @@ parts c h =
     halves (within (c .maxtag) (c .atmax)) (within (roundTag (c .wait)) (c .atround)) t₃ (λ am ar.
     record {
       n-low = leb-true 1 (c .n) nl;
-      n-high = leb-true (c .n) 16 nh;
+      n-high = leb-true (c .n) nodes nh;
       own-low = leb-true 1 (c .own) ol;
       own-high = leb-true (c .own) (c .n) oh;
       max-high = leb-true (c .maxtag) limit mx;
@@ -104,7 +104,7 @@ parts c h =
 pub usable-of : (c : Node) → Parts c → usable c ≡ true
 unfolding usable numbersOk tablesOk
 usable-of c p =
-    both-true (both-true (both-true (le-leb 1 (c .n) (p .n-low)) (le-leb (c .n) 16 (p .n-high)))
+    both-true (both-true (both-true (le-leb 1 (c .n) (p .n-low)) (le-leb (c .n) nodes (p .n-high)))
     (both-true (le-leb 1 (c .own) (p .own-low)) (le-leb (c .own) (c .n) (p .own-high))))
     (both-true (both-true (both-true (le-leb (c .maxtag) limit (p .max-high))
     (both-true (le-leb (c .request) limit (p .request-high)) (le-leb (c .kept) limit (p .kept-high))))

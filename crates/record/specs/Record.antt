@@ -6,6 +6,7 @@ use mathlib.Core.List.{List}
 use lib.ListN.{replicate}
 use Rattle.view.specs.declared.View.{View}
 use Rattle.view.specs.View.{noView}
+use Rattle.table.specs.Table.{cells}
 use Rattle.record.specs.declared.Node.{Node}
 use Rattle.record.specs.declared.Wait.{Wait}
 use Rattle.record.specs.declared.Wait.the-variants.{Idle}
@@ -19,7 +20,7 @@ blank n own =
       maxtag = 0;
       request = 0;
       wait = Idle;
-      heard = replicate 256 0;
+      heard = replicate cells 0;
       last = noView;
       atmax = noView;
       atround = noView;

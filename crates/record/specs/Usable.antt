@@ -1,11 +1,11 @@
 -- Which records are usable, in the order of document 01's refusal 2, and the conditions of refusals 5, 6 and 9.
--- All sixteen places of a table are judged, whatever n is.
+-- All places of a table are judged, whatever n is.
 -- Assumes nothing.
 use mathlib.Core.Bool.{Bool, true, false}
 use Prim.Native.Nat.{ℕ, _-_}
 use lib.Dec.{leb, ltb}
 use Rattle.octets.specs.Test.{both}
-use Rattle.view.specs.Size.{limit}
+use Rattle.view.specs.Size.{limit, nodes}
 use Rattle.table.specs.Loop.{either}
 use Rattle.table.specs.Table.{tagOf, within, heardOf, heardWithin}
 use Rattle.table.specs.Quorum.{only}
@@ -45,7 +45,7 @@ waitOk n (Borrowing k r) = leb r limit
 
 -- n and the own number
 abbrev pub sizesOk : Node → Bool
-sizesOk c = both (both (leb 1 (c .n)) (leb (c .n) 16)) (both (leb 1 (c .own)) (leb (c .own) (c .n)))
+sizesOk c = both (both (leb 1 (c .n)) (leb (c .n) nodes)) (both (leb 1 (c .own)) (leb (c .own) (c .n)))
 
 -- the numbers and the wait keep their limits, and enough request numbers are left
 abbrev pub numbersWithin : (n maxtag request kept : ℕ) → Wait → Bool

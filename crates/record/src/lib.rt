@@ -4,6 +4,7 @@
 pub mod changes;
 pub mod usable;
 
+use table::CELLS;
 use view::Report;
 use view::View;
 use view::absent;
@@ -59,7 +60,7 @@ pub struct Node {
     pub maxtag: u64,
     pub request: u64,
     pub wait: Wait,
-    pub heard: [u64; 256],
+    pub heard: [u64; CELLS],
     pub last: View,
     pub atmax: View,
     pub atround: View,
@@ -77,7 +78,7 @@ pub fn blank_node(n: usize, own: usize) -> Node
         maxtag: 0,
         request: 0,
         wait: Wait::Idle,
-        heard: [0; 256],
+        heard: [0; CELLS],
         last: absent(),
         atmax: absent(),
         atround: absent(),

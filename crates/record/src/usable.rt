@@ -10,8 +10,10 @@ use table::views::heard_within;
 use table::views::tag_of;
 use table::views::view_within;
 use view::LIMIT;
+use view::NODES;
 ghost use mathlib.Core.Path.{_≡_};
 ghost use Prim.Native.Nat.{_≤_};
+ghost use Rattle.view.specs.Size.{nodes};
 ghost use Rattle.record.specs.Usable.{stillUses, roundTag, roundOk, waitOk, sizesOk, numbersWithin, numbersOk, tablesOk, usable, isOpen, full, staleTag, stale};
 
 // The request numbers that the open operation may still use.
@@ -76,7 +78,7 @@ fn round_ok(round: u64, tag: u64) -> bool
 }
 
 fn wait_ok(n: usize, wait: Wait) -> bool
-    requires { ⌜ n ≤ 16 ⌝ }
+    requires { ⌜ n ≤ nodes ⌝ }
     ensures { λ r. ⌜ r ≡ waitOk n wait ⌝ }
 {
     match wait {
@@ -104,12 +106,12 @@ fn wait_ok(n: usize, wait: Wait) -> bool
 fn sizes_ok(c: Node) -> bool
     ensures { λ r. ⌜ r ≡ sizesOk c ⌝ }
 {
-    and(and(1 <= c.n, c.n <= 16), and(1 <= c.own, c.own <= c.n))
+    and(and(1 <= c.n, c.n <= NODES), and(1 <= c.own, c.own <= c.n))
 }
 
 // Whether the numbers of a record keep their limits.
 pub fn numbers_within(n: usize, maxtag: u64, request: u64, kept: u64, wait: Wait) -> bool
-    requires { ⌜ n ≤ 16 ⌝ }
+    requires { ⌜ n ≤ nodes ⌝ }
     ensures { λ r. ⌜ r ≡ numbersWithin n maxtag request kept wait ⌝ }
 {
     and(
@@ -119,7 +121,7 @@ pub fn numbers_within(n: usize, maxtag: u64, request: u64, kept: u64, wait: Wait
 }
 
 fn numbers_ok(c: Node) -> bool
-    requires { ⌜ c .n ≤ 16 ⌝ }
+    requires { ⌜ c .n ≤ nodes ⌝ }
     ensures { λ r. ⌜ r ≡ numbersOk c ⌝ }
 {
     let wait = c.wait;
@@ -195,12 +197,12 @@ pub fn is_stale_tag(heard: u64, last: u64, maxtag: u64, t: u64) -> bool
 
 // The same of a value of writer w from sender s, at a record.
 pub fn is_stale(c: Node, s: usize, w: usize, t: u64) -> bool
-    requires { ⌜ (1 ≤ s) × (s ≤ 16) × (1 ≤ w) × (w ≤ 16) ⌝ }
+    requires { ⌜ (1 ≤ s) × (s ≤ nodes) × (1 ≤ w) × (w ≤ nodes) ⌝ }
     ensures { λ r. ⌜ r ≡ stale c s w t ⌝ }
 {
     let heard = c.heard;
     is_stale_tag(
-        heard[(s - 1) * 16 + (w - 1)],
+        heard[(s - 1) * NODES + (w - 1)],
         tag_of(c.last, w),
         c.maxtag,
         t,

@@ -1,50 +1,56 @@
--- A record that is written in bytes is read back.
-use Prim.Native.Nat.{ℕ, _+_, _*_, _<_, _≤_}
+-- A record that is written in bytes is read back, and a head that is saved is loaded.
+use Prim.Native.Nat.{ℕ, _+_, _-_, _*_, _<_, _≤_}
 use native.Mathlib.Omega.{arith}
-use mathlib.Core.Path.{_≡_, refl, sym, ap, _∙_}
+use mathlib.Core.Path.{_≡_, refl, sym, ap, _∙_, subst}
 use mathlib.Core.Bool.{true}
 use mathlib.Core.List.{List, [], _++_, append-assoc, append-nil}
-use lib.ListN.{length, getD, length-append, List·getD-eq-default}
+use lib.ListN.{length, getD, drop, length-append, List·getD-eq-default}
 use lib.Dec.{eqb, leb}
 use Rattle.octets.specs.Test.{pick, both}
-use Rattle.octets.specs.Bytes.{num, be, part}
+use Rattle.octets.specs.Bytes.{num, be, part, put}
 use Rattle.octets.specs.Loop.{tab}
-use Rattle.octets.specs.Word.{word, words, wordBytes}
+use Rattle.octets.specs.Word.{wordSize, word, words, wordBytes}
 use Rattle.octets.proofs.Number.{num-be-suc}
 use Rattle.octets.proofs.Put.{part-seam}
 use Rattle.octets.proofs.Table.{part-join, tab-ext, tab-of}
 use Rattle.octets.proofs.Word.{length-wordBytes, word-of, words-of}
+use Rattle.view.specs.Size.{nodes, reportSize, viewSize}
 use Rattle.view.specs.Report.{noReport, reportBytes}
 use Rattle.view.specs.View.{viewBytes, viewOf}
 use Rattle.view.specs.declared.View.{View}
 use Rattle.view.proofs.ReportBytes.{report-back}
 use Rattle.view.proofs.ViewBytes.{length-viewBytes, view-back}
+use Rattle.table.specs.Table.{cells}
 use Rattle.record.specs.declared.Node.{Node}
 use Rattle.record.specs.declared.Operation.the-variants.{Update, Scan}
 use Rattle.record.specs.declared.Kind.{Kind}
 use Rattle.record.specs.declared.Kind.the-variants.{Update as Updating, Scan as Scanning}
 use Rattle.record.specs.declared.Wait.{Wait}
 use Rattle.record.specs.declared.Wait.the-variants.{Idle, Reading, Writing, Comparing, Borrowing}
-use Rattle.region.specs.Record.{heardPlace, waitIn, recordBytes, recordOf, waitWords, waitReport, numbers}
-use Rattle.region.specs.Record.{waitOf, kindOf, kindCode, codesKnown}
-use Rattle.region.proofs.Saved.{six-words}
+use Rattle.region.specs.Record.{nPlace, codePlace, reportPlace, heardPlace, heardSize, viewPlace}
+use Rattle.region.specs.Record.{lastIn, atmaxIn, atroundIn, keptIn, waitIn, waitOf, waitWords, waitReport, kindOf}
+use Rattle.region.specs.Record.{kindCode, codesKnown, headOf, headIn, headBytes, numbers, recordBytes, recordOf, viewIn}
+use Rattle.region.specs.declared.stored.Head.{Head}
+use Rattle.region.proofs.Saved.{six-words, head-end}
 
 -- A view whose lists have their sizes.
 pub record Sized (v : View) : Type 0 where
-  pub tags : length (v .tags) ≡ 16
-  pub reports : length (v .reports) ≡ 16
+  pub tags : length (v .tags) ≡ nodes
+  pub reports : length (v .reports) ≡ nodes
 
 -- Word i of a table's bytes.
-word-at : (t : List ℕ) (i : ℕ) → i < length t → word (wordBytes t) (8 * i) ≡ getD t i 0
-word-at t i l = ap num (part-join (length t) 8 (λ j. be 8 (getD t j 0)) i (λ j. refl) l) ∙ num-be-suc 7 (getD t i 0)
+word-at : (t : List ℕ) (i : ℕ) → i < length t → word (wordBytes t) (wordSize * i) ≡ getD t i 0
+word-at t i l =
+    ap num (part-join (length t) wordSize (λ j. be wordSize (getD t j 0)) i (λ j. refl) l) ∙ num-be-suc 7 (getD t i 0)
 
 words-at : (t : List ℕ) (k : ℕ) → length t ≡ k → words k (wordBytes t) 0 ≡ t
-words-at t k e = tab-ext k (λ i. word (wordBytes t) (0 + 8 * i)) (λ i. getD t i 0)
-    (λ i l. let z : 0 + 8 * i ≡ 8 * i = omega arith in ap (word (wordBytes t)) z ∙ word-at t i (omega arith))
+words-at t k e = tab-ext k (λ i. word (wordBytes t) (0 + wordSize * i)) (λ i. getD t i 0)
+    (λ i l. let z : 0 + wordSize * i ≡ wordSize * i = omega arith in ap (word (wordBytes t)) z
+    ∙ word-at t i (omega arith))
     ∙ ap (λ j. tab j (λ i. getD t i 0)) (sym e) ∙ tab-of t 0
 
-view-at : (v : View) → Sized v → viewOf 16 (viewBytes 16 v) ≡ v
-view-at v z = ap (viewOf 16) (sym (append-nil (viewBytes 16 v))) ∙ view-back 16 v [] (record {
+view-at : (v : View) → Sized v → viewOf nodes (viewBytes nodes v) ≡ v
+view-at v z = ap (viewOf nodes) (sym (append-nil (viewBytes nodes v))) ∙ view-back nodes v [] (record {
   size = omega arith;
   tags-length = z .tags;
   reports-length = z .reports;
@@ -69,98 +75,69 @@ wait-back (Borrowing k r) = ap (λ x. Borrowing x r) (kind-back k)
 
 -- A record whose tables have their sizes.
 pub record SizedNode (c : Node) : Type 0 where
-  pub heard : length (c .heard) ≡ 256
+  pub heard : length (c .heard) ≡ cells
   pub last : Sized (c .last)
   pub atmax : Sized (c .atmax)
   pub atround : Sized (c .atround)
   pub keptview : Sized (c .keptview)
 
--- The eight runs of a record's bytes, each in its place.
-module _ (N W R H A B C D : List ℕ) (n : length N ≡ 40) (w : length W ≡ 48) (r : length R ≡ 8) (h : length H ≡ 2048)
-    (a : length A ≡ 256) (b : length B ≡ 256) (c : length C ≡ 256) (d : length D ≡ 256) where
-  abbrev all : List ℕ
-  all = N ++ (W ++ R) ++ H ++ (A ++ B ++ C ++ D)
+-- ---- the head
 
-  run : (u v x : List ℕ) (i len : ℕ) → all ≡ u ++ v ++ x → length u ≡ i → length v ≡ len → part all i len ≡ v
+-- What stands in bytes that begin with a head.
+record HeadRuns (b : List ℕ) (h : Head) : Type 0 where
+  ofNumbers : part b nPlace codePlace ≡ wordBytes (numbers h)
+  ofWait : part b codePlace (reportPlace - codePlace) ≡ wordBytes (waitWords (h .wait))
+  ofReport : part b reportPlace reportSize ≡ reportBytes (waitReport (h .wait))
+
+module _ (N W R X : List ℕ) (n : length N ≡ codePlace) (w : length W ≡ reportPlace - codePlace)
+    (r : length R ≡ reportSize) where
+  front : List ℕ
+  front = N ++ (W ++ R) ++ X
+
+  run : (u v x : List ℕ) (i len : ℕ) → front ≡ u ++ v ++ x → length u ≡ i → length v ≡ len → part front i len ≡ v
   run u v x i len e k l = ap (λ t. part t i len) e ∙ part-seam u v x i len k l
 
-  run-N : part all 0 40 ≡ N
-  run-N = run [] N (W ++ R ++ H ++ A ++ B ++ C ++ D) 0 40 (simp append-assoc) refl n
+  run-N : part front nPlace codePlace ≡ N
+  unfolding front
+  run-N = run [] N (W ++ R ++ X) nPlace codePlace (simp append-assoc) refl n
 
-  run-W : part all 40 48 ≡ W
-  run-W = run N W (R ++ H ++ A ++ B ++ C ++ D) 40 48 (simp append-assoc) n w
+  run-W : part front codePlace (reportPlace - codePlace) ≡ W
+  unfolding front
+  run-W = run N W (R ++ X) codePlace (reportPlace - codePlace) (simp append-assoc) n w
 
-  run-R : part all 88 8 ≡ R
-  run-R = run (N ++ W) R (H ++ A ++ B ++ C ++ D) 88 8 (simp append-assoc) (simp length-append (omega arith)) r
+  run-R : part front reportPlace reportSize ≡ R
+  unfolding front
+  run-R = run (N ++ W) R X reportPlace reportSize (simp append-assoc) (simp length-append (omega arith)) r
 
-  run-H : part all 96 2048 ≡ H
-  run-H = run (N ++ W ++ R) H (A ++ B ++ C ++ D) 96 2048 (simp append-assoc) (simp length-append (omega arith)) h
-
-  run-A : part all 2144 256 ≡ A
-  run-A = run (N ++ W ++ R ++ H) A (B ++ C ++ D) 2144 256 (simp append-assoc) (simp length-append (omega arith)) a
-
-  run-B : part all 2400 256 ≡ B
-  run-B = run (N ++ W ++ R ++ H ++ A) B (C ++ D) 2400 256 (simp append-assoc) (simp length-append (omega arith)) b
-
-  run-C : part all 2656 256 ≡ C
-  run-C = run (N ++ W ++ R ++ H ++ A ++ B) C D 2656 256 (simp append-assoc) (simp length-append (omega arith)) c
-
-  run-D : part all 2912 256 ≡ D
-  run-D = run (N ++ W ++ R ++ H ++ A ++ B ++ C) D [] 2912 256 (simp (append-assoc, append-nil))
-      (simp length-append (omega arith)) d
-
--- Bytes that have the runs of record c are record c.
-pub record Runs (b : List ℕ) (c : Node) : Type 0 where
-  pub ofNumbers : part b 0 40 ≡ wordBytes (numbers c)
-  pub ofWait : part b 40 48 ≡ wordBytes (waitWords (c .wait))
-  pub ofReport : part b 88 8 ≡ reportBytes (waitReport (c .wait))
-  pub ofHeard : part b 96 2048 ≡ wordBytes (c .heard)
-  pub ofLast : part b 2144 256 ≡ viewBytes 16 (c .last)
-  pub ofAtmax : part b 2400 256 ≡ viewBytes 16 (c .atmax)
-  pub ofAtround : part b 2656 256 ≡ viewBytes 16 (c .atround)
-  pub ofKept : part b 2912 256 ≡ viewBytes 16 (c .keptview)
-
-runs-of : (N W R H A B C D : List ℕ) (c : Node)
-    → N ≡ wordBytes (numbers c) → W ≡ wordBytes (waitWords (c .wait)) → R ≡ reportBytes (waitReport (c .wait))
-    → H ≡ wordBytes (c .heard) → A ≡ viewBytes 16 (c .last) → B ≡ viewBytes 16 (c .atmax)
-    → C ≡ viewBytes 16 (c .atround)
-    → D ≡ viewBytes 16 (c .keptview) → length (c .heard) ≡ 256 → Runs (N ++ (W ++ R) ++ H ++ (A ++ B ++ C ++ D)) c
-runs-of N W R H A B C D c en ew er eh ea eb ec ed z =
-    let n : length N ≡ 40 = ap length en ∙ length-wordBytes (numbers c) in
-    let w : length W ≡ 48 = ap length ew ∙ length-wordBytes (waitWords (c .wait))
-    ∙ ap (λ k. 8 * k) (six-words (c .wait)) in
-    let r : length R ≡ 8 = ap length er in
-    let h : length H ≡ 2048 = ap length eh ∙ length-wordBytes (c .heard) ∙ ap (λ k. 8 * k) z in
-    let a : length A ≡ 256 = ap length ea ∙ length-viewBytes 16 (c .last) in
-    let b : length B ≡ 256 = ap length eb ∙ length-viewBytes 16 (c .atmax) in
-    let l : length C ≡ 256 = ap length ec ∙ length-viewBytes 16 (c .atround) in
-    let d : length D ≡ 256 = ap length ed ∙ length-viewBytes 16 (c .keptview) in
+head-runs : (h : Head) (rest : List ℕ) → HeadRuns (headBytes h ++ rest) h
+unfolding front
+head-runs h rest =
+    let N = wordBytes (numbers h) in
+    let W = wordBytes (waitWords (h .wait)) in
+    let R = reportBytes (waitReport (h .wait)) in
+    let n : length N ≡ codePlace = length-wordBytes (numbers h) in
+    let w : length W ≡ reportPlace - codePlace =
+    length-wordBytes (waitWords (h .wait)) ∙ ap (λ k. wordSize * k) (six-words (h .wait)) in
     record {
-      ofNumbers = run-N N W R H A B C D n w r h a b l d ∙ en;
-      ofWait = run-W N W R H A B C D n w r h a b l d ∙ ew;
-      ofReport = run-R N W R H A B C D n w r h a b l d ∙ er;
-      ofHeard = run-H N W R H A B C D n w r h a b l d ∙ eh;
-      ofLast = run-A N W R H A B C D n w r h a b l d ∙ ea;
-      ofAtmax = run-B N W R H A B C D n w r h a b l d ∙ eb;
-      ofAtround = run-C N W R H A B C D n w r h a b l d ∙ ec;
-      ofKept = run-D N W R H A B C D n w r h a b l d ∙ ed;
+      ofNumbers = run-N N W R rest n w refl;
+      ofWait = run-W N W R rest n w refl;
+      ofReport = run-R N W R rest n w refl;
     }
 
-scalar-of : (b t : List ℕ) (at len i : ℕ) → part b at len ≡ wordBytes t → 8 * i + 8 ≤ len → i < length t
-    → word b (at + 8 * i) ≡ getD t i 0
-scalar-of b t at len i e h l = sym (word-of b at len (8 * i) h) ∙ ap (λ s. word s (8 * i)) e ∙ word-at t i l
+word-in : (b t : List ℕ) (at len i : ℕ) → part b at len ≡ wordBytes t → wordSize * i + wordSize ≤ len → i < length t
+    → word b (at + wordSize * i) ≡ getD t i 0
+word-in b t at len i e h l =
+    sym (word-of b at len (wordSize * i) h) ∙ ap (λ s. word s (wordSize * i)) e ∙ word-at t i l
 
-module _ (b : List ℕ) (c : Node) (z : SizedNode c) (r : Runs b c) where
-  number : (i : ℕ) → i < 5 → word b (0 + 8 * i) ≡ getD (numbers c) i 0
-  number i l = scalar-of b (numbers c) 0 40 i (r .ofNumbers) (omega arith) l
+module _ (b : List ℕ) (h : Head) (r : HeadRuns b h) where
+  number : (i : ℕ) → i < length (numbers h) → word b (nPlace + wordSize * i) ≡ getD (numbers h) i 0
+  number i l = word-in b (numbers h) nPlace codePlace i (r .ofNumbers) (omega arith) l
 
-  of-wait : (i : ℕ) → i < 6 → word b (40 + 8 * i) ≡ getD (waitWords (c .wait)) i 0
-  of-wait i l = scalar-of b (waitWords (c .wait)) 40 48 i (r .ofWait) (omega arith) (omega (arith, six-words (c .wait)))
+  of-wait : (i : ℕ) → i < 6 → word b (codePlace + wordSize * i) ≡ getD (waitWords (h .wait)) i 0
+  of-wait i l = word-in b (waitWords (h .wait)) codePlace (reportPlace - codePlace) i (r .ofWait) (omega arith)
+      (omega (arith, six-words (h .wait)))
 
-  view-of : (v : View) (at : ℕ) → Sized v → part b at 256 ≡ viewBytes 16 v → viewOf 16 (part b at 256) ≡ v
-  view-of v at s e = ap (viewOf 16) e ∙ view-at v s
-
-  wait-of : waitIn b ≡ c .wait
+  wait-of : waitIn b ≡ h .wait
   wait-of = rw (
     of-wait 0 (omega arith),
     of-wait 1 (omega arith),
@@ -169,31 +146,21 @@ module _ (b : List ℕ) (c : Node) (z : SizedNode c) (r : Runs b c) where
     of-wait 4 (omega arith),
     of-wait 5 (omega arith),
     r .ofReport,
-    report-back (waitReport (c .wait)),
-  ) (wait-back (c .wait))
+    report-back (waitReport (h .wait)),
+  ) (wait-back (h .wait))
 
-  heard-of : words 256 b heardPlace ≡ c .heard
-  heard-of = sym (words-of 256 b 96 2048 0 (omega arith)) ∙ ap (λ s. words 256 s 0) (r .ofHeard)
-      ∙ words-at (c .heard) 256 (z .heard)
-
-  read-back : recordOf b ≡ c
-  unfolding recordOf
-  read-back = rw (
+  head-is : headOf b ≡ h
+  head-is = rw (
     number 0 (omega arith),
     number 1 (omega arith),
     number 2 (omega arith),
     number 3 (omega arith),
     number 4 (omega arith),
     wait-of,
-    heard-of,
-    view-of (c .last) 2144 (z .last) (r .ofLast),
-    view-of (c .atmax) 2400 (z .atmax) (r .ofAtmax),
-    view-of (c .atround) 2656 (z .atround) (r .ofAtround),
-    view-of (c .keptview) 2912 (z .keptview) (r .ofKept),
   ) refl
 
   known : codesKnown b ≡ true
-  known = rw (of-wait 0 (omega arith), of-wait 1 (omega arith)) (codes (c .wait))
+  known = rw (of-wait 0 (omega arith), of-wait 1 (omega arith)) (codes (h .wait))
     where
       kind : (k : Kind) → leb (kindCode k) 1 ≡ true
       kind Updating = refl
@@ -208,16 +175,109 @@ module _ (b : List ℕ) (c : Node) (z : SizedNode c) (r : Runs b c) where
       codes (Comparing k i r) = kind k
       codes (Borrowing k r) = kind k
 
-module _ (c : Node) (z : SizedNode c) where
-  runs : Runs (recordBytes c) c
-  unfolding recordBytes
-  runs = runs-of (wordBytes (numbers c)) (wordBytes (waitWords (c .wait))) (reportBytes (waitReport (c .wait)))
-      (wordBytes (c .heard)) (viewBytes 16 (c .last)) (viewBytes 16 (c .atmax)) (viewBytes 16 (c .atround))
-      (viewBytes 16 (c .keptview))
-      c refl refl refl refl refl refl refl refl (z .heard)
+-- What is saved is loaded.
+pub head-back : (b : List ℕ) (h : Head) → headOf (put b nPlace (headBytes h)) ≡ h
+unfolding put
+head-back b h = let t = drop (nPlace + length (headBytes h)) b in head-is (headBytes h ++ t) h (head-runs h t)
 
+-- ---- the record
+
+-- The runs after a head, each in its place.
+module _ (F H A B C D : List ℕ) (f : length F ≡ heardPlace) (h : length H ≡ heardSize) (a : length A ≡ viewSize nodes)
+    (b : length B ≡ viewSize nodes) (c : length C ≡ viewSize nodes) (d : length D ≡ viewSize nodes) where
+  all : List ℕ
+  all = F ++ H ++ (A ++ B ++ C ++ D)
+
+  run-in : (u v x : List ℕ) (i len : ℕ) → all ≡ u ++ v ++ x → length u ≡ i → length v ≡ len → part all i len ≡ v
+  run-in u v x i len e k l = ap (λ t. part t i len) e ∙ part-seam u v x i len k l
+
+  run-H : part all heardPlace heardSize ≡ H
+  unfolding all
+  run-H = run-in F H (A ++ B ++ C ++ D) heardPlace heardSize refl f h
+
+  run-A : part all (viewPlace lastIn) (viewSize nodes) ≡ A
+  unfolding all
+  run-A = run-in (F ++ H) A (B ++ C ++ D) (viewPlace lastIn) (viewSize nodes) (simp append-assoc)
+      (simp length-append (omega arith)) a
+
+  run-B : part all (viewPlace atmaxIn) (viewSize nodes) ≡ B
+  unfolding all
+  run-B = run-in (F ++ H ++ A) B (C ++ D) (viewPlace atmaxIn) (viewSize nodes) (simp append-assoc)
+      (simp length-append (omega arith)) b
+
+  run-C : part all (viewPlace atroundIn) (viewSize nodes) ≡ C
+  unfolding all
+  run-C = run-in (F ++ H ++ A ++ B) C D (viewPlace atroundIn) (viewSize nodes) (simp append-assoc)
+      (simp length-append (omega arith)) c
+
+  run-D : part all (viewPlace keptIn) (viewSize nodes) ≡ D
+  unfolding all
+  run-D = run-in (F ++ H ++ A ++ B ++ C) D [] (viewPlace keptIn) (viewSize nodes) (simp (append-assoc, append-nil))
+      (simp length-append (omega arith)) d
+
+-- Bytes that have the runs of record c are record c.
+record Runs (b : List ℕ) (c : Node) : Type 0 where
+  ofHead : HeadRuns b (headIn c)
+  ofHeard : part b heardPlace heardSize ≡ wordBytes (c .heard)
+  ofLast : part b (viewPlace lastIn) (viewSize nodes) ≡ viewBytes nodes (c .last)
+  ofAtmax : part b (viewPlace atmaxIn) (viewSize nodes) ≡ viewBytes nodes (c .atmax)
+  ofAtround : part b (viewPlace atroundIn) (viewSize nodes) ≡ viewBytes nodes (c .atround)
+  ofKept : part b (viewPlace keptIn) (viewSize nodes) ≡ viewBytes nodes (c .keptview)
+
+runs : (c : Node) → length (c .heard) ≡ cells → Runs (recordBytes c) c
+unfolding recordBytes all
+runs c z =
+    let F = headBytes (headIn c) in
+    let H = wordBytes (c .heard) in
+    let A = viewBytes nodes (c .last) in
+    let B = viewBytes nodes (c .atmax) in
+    let C = viewBytes nodes (c .atround) in
+    let D = viewBytes nodes (c .keptview) in
+    let f : length F ≡ heardPlace = omega (arith, head-end (headIn c)) in
+    let h : length H ≡ heardSize = length-wordBytes (c .heard) ∙ ap (λ k. wordSize * k) z in
+    let a : length A ≡ viewSize nodes = length-viewBytes nodes (c .last) in
+    let b : length B ≡ viewSize nodes = length-viewBytes nodes (c .atmax) in
+    let l : length C ≡ viewSize nodes = length-viewBytes nodes (c .atround) in
+    let d : length D ≡ viewSize nodes = length-viewBytes nodes (c .keptview) in
+    record {
+      ofHead = subst (λ t. HeadRuns t (headIn c)) (sym (append-assoc F H (A ++ B ++ C ++ D)))
+          (head-runs (headIn c) (H ++ (A ++ B ++ C ++ D)));
+      ofHeard = run-H F H A B C D f h a b l d;
+      ofLast = run-A F H A B C D f h a b l d;
+      ofAtmax = run-B F H A B C D f h a b l d;
+      ofAtround = run-C F H A B C D f h a b l d;
+      ofKept = run-D F H A B C D f h a b l d;
+    }
+
+module _ (b : List ℕ) (c : Node) (z : SizedNode c) (r : Runs b c) where
+  view-of : (v : View) (i : ℕ) → Sized v → part b (viewPlace i) (viewSize nodes) ≡ viewBytes nodes v → viewIn b i ≡ v
+  view-of v i s e = ap (viewOf nodes) e ∙ view-at v s
+
+  heard-of : words cells b heardPlace ≡ c .heard
+  heard-of = sym (words-of cells b heardPlace heardSize 0 (omega arith)) ∙ ap (λ s. words cells s 0) (r .ofHeard)
+      ∙ words-at (c .heard) cells (z .heard)
+
+  read-back : recordOf b ≡ c
+  unfolding recordOf
+  read-back =
+      let n = number b (headIn c) (r .ofHead) in
+      rw (
+        n 0 (omega arith),
+        n 1 (omega arith),
+        n 2 (omega arith),
+        n 3 (omega arith),
+        n 4 (omega arith),
+        wait-of b (headIn c) (r .ofHead),
+        heard-of,
+        view-of (c .last) lastIn (z .last) (r .ofLast),
+        view-of (c .atmax) atmaxIn (z .atmax) (r .ofAtmax),
+        view-of (c .atround) atroundIn (z .atround) (r .ofAtround),
+        view-of (c .keptview) keptIn (z .keptview) (r .ofKept),
+      ) refl
+
+module _ (c : Node) (z : SizedNode c) where
   pub record-back : recordOf (recordBytes c) ≡ c
-  record-back = read-back (recordBytes c) c z runs
+  record-back = read-back (recordBytes c) c z (runs c (z .heard))
 
   pub record-known : codesKnown (recordBytes c) ≡ true
-  record-known = known (recordBytes c) c z runs
+  record-known = known (recordBytes c) (headIn c) (runs c (z .heard) .ofHead)

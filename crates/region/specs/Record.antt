@@ -1,17 +1,19 @@
--- The record of a node in bytes: eleven words, the report of an update that reads, the table of tags heard, and four
--- views of sixteen entries. Every run of bytes of this length is some record; only the codes of the wait and of its
--- kind can be wrong.
+-- The record of a node in bytes: its head, the table of tags heard, and four views of all entries. The head is the
+-- numbers and the wait, eleven words and the report of an update that reads. Every run of bytes of this length is some
+-- record; only the codes of the wait and of its kind can be wrong.
 use Prim.Native.Nat.{ℕ, _+_, _*_}
 use mathlib.Core.Bool.{Bool, true}
 use mathlib.Core.List.{List, [], _∷_, _++_}
 use lib.Dec.{eqb, leb}
 use Rattle.octets.specs.Test.{pick, both}
 use Rattle.octets.specs.Bytes.{part}
-use Rattle.octets.specs.Word.{word, words, wordBytes}
+use Rattle.octets.specs.Word.{wordSize, word, words, wordBytes}
+use Rattle.view.specs.Size.{nodes, reportSize, viewSize}
 use Rattle.view.specs.Report.{noReport, reportBytes, reportOf}
 use Rattle.view.specs.View.{viewBytes, viewOf}
 use Rattle.view.specs.declared.Report.{Report}
 use Rattle.view.specs.declared.View.{View}
+use Rattle.table.specs.Table.{cells}
 use Rattle.record.specs.declared.Node.{Node}
 use Rattle.record.specs.declared.Kind.{Kind}
 use Rattle.record.specs.declared.Kind.the-variants.{Update as Updating, Scan as Scanning}
@@ -19,19 +21,73 @@ use Rattle.record.specs.declared.Operation.{Operation}
 use Rattle.record.specs.declared.Operation.the-variants.{Update, Scan}
 use Rattle.record.specs.declared.Wait.{Wait}
 use Rattle.record.specs.declared.Wait.the-variants.{Idle, Reading, Writing, Comparing, Borrowing}
+use Rattle.region.specs.declared.stored.Head.{Head}
 
-abbrev pub recordSize : ℕ
-recordSize = 3168
+-- Where its parts stand: the numbers, the words of the wait and its report, and the table of tags heard.
+abbrev pub nPlace : ℕ
+nPlace = 0
 
--- Where its parts begin.
+abbrev pub ownPlace : ℕ
+ownPlace = nPlace + wordSize
+
+abbrev pub maxtagPlace : ℕ
+maxtagPlace = ownPlace + wordSize
+
+abbrev pub requestPlace : ℕ
+requestPlace = maxtagPlace + wordSize
+
+abbrev pub keptPlace : ℕ
+keptPlace = requestPlace + wordSize
+
+abbrev pub codePlace : ℕ
+codePlace = keptPlace + wordSize
+
+abbrev pub kindPlace : ℕ
+kindPlace = codePlace + wordSize
+
+abbrev pub roundPlace : ℕ
+roundPlace = kindPlace + wordSize
+
+abbrev pub tagPlace : ℕ
+tagPlace = roundPlace + wordSize
+
+abbrev pub answeredPlace : ℕ
+answeredPlace = tagPlace + wordSize
+
+abbrev pub largestPlace : ℕ
+largestPlace = answeredPlace + wordSize
+
 abbrev pub reportPlace : ℕ
-reportPlace = 88
+reportPlace = largestPlace + wordSize
 
 abbrev pub heardPlace : ℕ
-heardPlace = 96
+heardPlace = reportPlace + reportSize
+
+abbrev pub heardSize : ℕ
+heardSize = wordSize * cells
+
+-- The views by number: of the last reports, of those held for maxtag and for the open round, and the kept one; how many
+-- they are, and where view i stands.
+abbrev pub lastIn : ℕ
+lastIn = 0
+
+abbrev pub atmaxIn : ℕ
+atmaxIn = 1
+
+abbrev pub atroundIn : ℕ
+atroundIn = 2
+
+abbrev pub keptIn : ℕ
+keptIn = 3
+
+abbrev pub views : ℕ
+views = 4
 
 abbrev pub viewPlace : ℕ → ℕ
-viewPlace i = 2144 + 256 * i
+viewPlace i = heardPlace + heardSize + viewSize nodes * i
+
+abbrev pub recordSize : ℕ
+recordSize = viewPlace views
 
 -- The codes of the two kinds of operation. A larger number is read as an update, but no usable record has one.
 abbrev pub kindCode : Kind → ℕ
@@ -70,46 +126,82 @@ waitOf code kind i r a m p =
     (pick (eqb code 4) (Borrowing (kindOf kind) r)
     Idle)))
 
--- The other words of a record.
-abbrev pub numbers : Node → List ℕ
-numbers c = c .n ∷ c .own ∷ c .maxtag ∷ c .request ∷ c .kept ∷ []
-
 abbrev pub waitBytes : Wait → List ℕ
 waitBytes w = wordBytes (waitWords w) ++ reportBytes (waitReport w)
 
-abbrev pub viewsBytes : Node → List ℕ
-viewsBytes c = viewBytes 16 (c .last) ++ viewBytes 16 (c .atmax) ++ viewBytes 16 (c .atround) ++ viewBytes 16 (c .keptview)
-
-unfoldable pub recordBytes : Node → List ℕ
-recordBytes c = wordBytes (numbers c) ++ waitBytes (c .wait) ++ wordBytes (c .heard) ++ viewsBytes c
-
-abbrev pub scalar : List ℕ → ℕ → ℕ
-scalar b i = word b (8 * i)
-
-abbrev pub viewIn : List ℕ → ℕ → View
-viewIn b i = viewOf 16 (part b (viewPlace i) 256)
-
 abbrev pub waitIn : List ℕ → Wait
 waitIn b =
-    waitOf (scalar b 5) (scalar b 6) (scalar b 7) (scalar b 8) (scalar b 9) (scalar b 10) (reportOf (part b reportPlace 8))
+    waitOf (word b codePlace) (word b kindPlace) (word b roundPlace) (word b tagPlace) (word b answeredPlace)
+    (word b largestPlace) (reportOf (part b reportPlace reportSize))
+
+-- The head that bytes begin with, the head of a record by value, the other words of a head, and its bytes.
+abbrev pub headOf : List ℕ → Head
+headOf b =
+    record {
+      n = word b nPlace;
+      own = word b ownPlace;
+      maxtag = word b maxtagPlace;
+      request = word b requestPlace;
+      kept = word b keptPlace;
+      wait = waitIn b;
+    }
+
+abbrev pub headIn : Node → Head
+headIn c =
+    record { n = c .n; own = c .own; maxtag = c .maxtag; request = c .request; kept = c .kept; wait = c .wait }
+
+abbrev pub numbers : Head → List ℕ
+numbers h = h .n ∷ h .own ∷ h .maxtag ∷ h .request ∷ h .kept ∷ []
+
+abbrev pub headBytes : Head → List ℕ
+headBytes h = wordBytes (numbers h) ++ waitBytes (h .wait)
+
+-- A head with another field.
+abbrev pub withMaxtag : Head → ℕ → Head
+withMaxtag h t =
+    record { n = h .n; own = h .own; maxtag = t; request = h .request; kept = h .kept; wait = h .wait }
+
+abbrev pub withRequest : Head → ℕ → Head
+withRequest h q =
+    record { n = h .n; own = h .own; maxtag = h .maxtag; request = q; kept = h .kept; wait = h .wait }
+
+abbrev pub withKept : Head → ℕ → Head
+withKept h t =
+    record { n = h .n; own = h .own; maxtag = h .maxtag; request = h .request; kept = t; wait = h .wait }
+
+abbrev pub withWait : Head → Wait → Head
+withWait h w =
+    record { n = h .n; own = h .own; maxtag = h .maxtag; request = h .request; kept = h .kept; wait = w }
+
+-- The bytes of the views, each of all entries; of a record; and view i that bytes are.
+abbrev pub viewsBytes : Node → List ℕ
+viewsBytes c =
+    viewBytes nodes (c .last) ++ viewBytes nodes (c .atmax) ++ viewBytes nodes (c .atround)
+    ++ viewBytes nodes (c .keptview)
+
+unfoldable pub recordBytes : Node → List ℕ
+recordBytes c = headBytes (headIn c) ++ wordBytes (c .heard) ++ viewsBytes c
+
+abbrev pub viewIn : List ℕ → ℕ → View
+viewIn b i = viewOf nodes (part b (viewPlace i) (viewSize nodes))
 
 -- The record that bytes are.
 unfoldable pub recordOf : List ℕ → Node
 recordOf b =
     record {
-      n = scalar b 0;
-      own = scalar b 1;
-      maxtag = scalar b 2;
-      request = scalar b 3;
-      kept = scalar b 4;
+      n = word b nPlace;
+      own = word b ownPlace;
+      maxtag = word b maxtagPlace;
+      request = word b requestPlace;
+      kept = word b keptPlace;
       wait = waitIn b;
-      heard = words 256 b heardPlace;
-      last = viewIn b 0;
-      atmax = viewIn b 1;
-      atround = viewIn b 2;
-      keptview = viewIn b 3;
+      heard = words cells b heardPlace;
+      last = viewIn b lastIn;
+      atmax = viewIn b atmaxIn;
+      atround = viewIn b atroundIn;
+      keptview = viewIn b keptIn;
     }
 
 -- The code of the wait is one of the five, and the kind of operation is one of the two; an idle wait has no kind.
 abbrev pub codesKnown : List ℕ → Bool
-codesKnown b = pick (eqb (scalar b 5) 0) true (both (leb (scalar b 5) 4) (leb (scalar b 6) 1))
+codesKnown b = pick (eqb (word b codePlace) 0) true (both (leb (word b codePlace) 4) (leb (word b kindPlace) 1))

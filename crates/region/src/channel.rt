@@ -1,8 +1,16 @@
 // One channel (document 01's trunk) in its own run of bytes.
+use crate::places::CAPACITY;
+use crate::places::COUNT_PLACE;
+use crate::places::OLDEST_PLACE;
+use crate::places::SLOT;
+use crate::places::SLOTS_PLACE;
 ghost use mathlib.Core.Path.{_≡_};
 ghost use Prim.Native.Nat.{_≤_};
 ghost use lib.ListN.{length};
 ghost use Rattle.region.specs.Channel.{channelSize, slotSize, first as firstIn, push as pushed, pop as popped, clear as cleared};
+
+// The capacity as a count.
+const FULL: u8 = CAPACITY as u8;
 
 // A byte as an index.
 pub fn index(x: u8) -> usize
@@ -16,12 +24,12 @@ pub fn push(t: &mut [u8], m: &[u8])
     requires { ⌜ (length (now t) ≡ channelSize) × (length (now m) ≤ slotSize) ⌝ }
     ensures { λ _. ⌜ now (t .exit) ≡ pushed (now (m .entry)) (now (t .entry)) ⌝ }
 {
-    let k = t[0];
-    if k < 16 {
-        let h = t[1];
-        let at = 2 + 274 * ((index(h) + index(k)) % 16);
+    let k = t[COUNT_PLACE];
+    if k < FULL {
+        let h = t[OLDEST_PLACE];
+        let at = SLOTS_PLACE + SLOT * ((index(h) + index(k)) % CAPACITY);
         octets::put_bytes(t, at, m);
-        t[0] = k + 1;
+        t[COUNT_PLACE] = k + 1;
     }
 }
 
@@ -30,11 +38,11 @@ pub fn pop(t: &mut [u8])
     requires { ⌜ length (now t) ≡ channelSize ⌝ }
     ensures { λ _. ⌜ now (t .exit) ≡ popped (now (t .entry)) ⌝ }
 {
-    let k = t[0];
+    let k = t[COUNT_PLACE];
     if 0 < k {
-        let h = t[1];
-        t[0] = k - 1;
-        t[1] = ((index(h) + 1) % 16) as u8;
+        let h = t[OLDEST_PLACE];
+        t[COUNT_PLACE] = k - 1;
+        t[OLDEST_PLACE] = ((index(h) + 1) % CAPACITY) as u8;
     }
 }
 
@@ -43,7 +51,7 @@ pub fn clear(t: &mut [u8])
     requires { ⌜ length (now t) ≡ channelSize ⌝ }
     ensures { λ _. ⌜ now (t .exit) ≡ cleared (now (t .entry)) ⌝ }
 {
-    t[0] = 0;
+    t[COUNT_PLACE] = 0;
 }
 
 // The slot of the oldest message.
@@ -51,8 +59,8 @@ pub fn first(t: &[u8]) -> &[u8]
     requires { ⌜ length (now t) ≡ channelSize ⌝ }
     ensures { λ r. ⌜ now r ≡ firstIn (now (t .entry)) ⌝ }
 {
-    let h = t[1];
-    let at = 2 + 274 * (index(h) % 16);
-    let end = at + 274;
+    let h = t[OLDEST_PLACE];
+    let at = SLOTS_PLACE + SLOT * (index(h) % CAPACITY);
+    let end = at + SLOT;
     &t[at..end]
 }

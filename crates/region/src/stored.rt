@@ -1,18 +1,107 @@
 // The record of a node in its own run of bytes.
+use crate::places::ANSWERED_PLACE;
+use crate::places::ATMAX_IN;
+use crate::places::ATROUND_IN;
+use crate::places::CODE_PLACE;
+use crate::places::HEARD_PLACE;
+use crate::places::KEPT_IN;
+use crate::places::KEPT_PLACE;
+use crate::places::KIND_PLACE;
+use crate::places::LARGEST_PLACE;
+use crate::places::LAST_IN;
+use crate::places::MAXTAG_PLACE;
+use crate::places::N_PLACE;
+use crate::places::OWN_PLACE;
+use crate::places::REPORT_PLACE;
+use crate::places::REQUEST_PLACE;
+use crate::places::ROUND_PLACE;
+use crate::places::TAG_PLACE;
+use crate::places::VIEWS_PLACE;
+use octets::get_word;
 use record::Kind;
 use record::Node;
 use record::Operation;
 use record::Wait;
+use view::NODES;
 use view::Report;
+use view::VIEW;
 use view::View;
 ghost use mathlib.Core.Path.{_≡_};
-ghost use Prim.Native.Nat.{_+_, _*_, _≤_};
-ghost use mathlib.Core.List.{[], _∷_, _++_};
+ghost use Prim.Native.Nat.{_<_, _≤_};
 ghost use lib.ListN.{length};
-ghost use Rattle.octets.specs.Bytes.{part, put};
-ghost use Rattle.octets.specs.Word.{wordBytes};
+ghost use Rattle.octets.specs.Bytes.{put};
+ghost use Rattle.view.specs.Size.{nodes};
 ghost use Rattle.view.specs.View.{viewBytes, firstOf};
-ghost use Rattle.region.specs.Record.{recordSize, scalar, kindCode, kindOf, operationOf, waitOf, waitIn, waitWords, waitReport, waitBytes, viewsBytes, viewPlace, viewIn, recordBytes, codesKnown};
+ghost use Rattle.region.specs.Record.{recordSize, nPlace, codePlace, lastIn, views, viewPlace};
+ghost use Rattle.region.specs.Record.{kindCode, kindOf, operationOf, waitOf, waitIn, waitWords, waitReport, waitBytes};
+ghost use Rattle.region.specs.Record.{headOf, headBytes, withMaxtag, withRequest, withKept, withWait};
+ghost use Rattle.region.specs.Record.{viewsBytes, viewIn, recordBytes, codesKnown};
+
+// The numbers and the wait of a record: what stands before its tables.
+pub struct Head {
+    pub n: u64,
+    pub own: u64,
+    pub maxtag: u64,
+    pub request: u64,
+    pub kept: u64,
+    pub wait: Wait,
+}
+
+// A head with another field.
+pub fn with_maxtag(h: Head, t: u64) -> Head
+    ensures { λ r. ⌜ r ≡ withMaxtag h t ⌝ }
+{
+    let wait = h.wait;
+    Head {
+        n: h.n,
+        own: h.own,
+        maxtag: t,
+        request: h.request,
+        kept: h.kept,
+        wait: wait,
+    }
+}
+
+pub fn with_request(h: Head, q: u64) -> Head
+    ensures { λ r. ⌜ r ≡ withRequest h q ⌝ }
+{
+    let wait = h.wait;
+    Head {
+        n: h.n,
+        own: h.own,
+        maxtag: h.maxtag,
+        request: q,
+        kept: h.kept,
+        wait: wait,
+    }
+}
+
+pub fn with_kept(h: Head, t: u64) -> Head
+    ensures { λ r. ⌜ r ≡ withKept h t ⌝ }
+{
+    let wait = h.wait;
+    Head {
+        n: h.n,
+        own: h.own,
+        maxtag: h.maxtag,
+        request: h.request,
+        kept: t,
+        wait: wait,
+    }
+}
+
+pub fn with_wait(h: Head, w: Wait) -> Head
+    ensures { λ r. ⌜ r ≡ withWait h w ⌝ }
+{
+    Head {
+        n: h.n,
+        own: h.own,
+        maxtag: h.maxtag,
+        request: h.request,
+        kept: h.kept,
+        wait: w,
+    }
+}
 
 fn kind_of(code: u64) -> Kind
     ensures { λ r. ⌜ r ≡ kindOf code ⌝ }
@@ -73,28 +162,36 @@ fn wait_of(
     Wait::Idle
 }
 
-fn word(b: &[u8], i: usize) -> u64
-    requires { ⌜ (length (now b) ≡ recordSize) × (i ≤ 10) ⌝ }
-    ensures { λ r. ⌜ r ≡ scalar (now (b .entry)) i ⌝ }
-{
-    octets::get_word(b, 8 * i)
-}
-
 // The wait of the record.
 pub fn load_wait(b: &[u8]) -> Wait
     requires { ⌜ length (now b) ≡ recordSize ⌝ }
     ensures { λ r. ⌜ r ≡ waitIn (now (b .entry)) ⌝ }
 {
-    let p = view::read_report(&b[88..96]);
+    let p = view::read_report(&b[REPORT_PLACE..HEARD_PLACE]);
     wait_of(
-        word(b, 5),
-        word(b, 6),
-        word(b, 7),
-        word(b, 8),
-        word(b, 9),
-        word(b, 10),
+        get_word(b, CODE_PLACE),
+        get_word(b, KIND_PLACE),
+        get_word(b, ROUND_PLACE),
+        get_word(b, TAG_PLACE),
+        get_word(b, ANSWERED_PLACE),
+        get_word(b, LARGEST_PLACE),
         p,
     )
+}
+
+// The head of the record.
+pub fn head_of(b: &[u8]) -> Head
+    requires { ⌜ length (now b) ≡ recordSize ⌝ }
+    ensures { λ h. ⌜ h ≡ headOf (now (b .entry)) ⌝ }
+{
+    Head {
+        n: get_word(b, N_PLACE),
+        own: get_word(b, OWN_PLACE),
+        maxtag: get_word(b, MAXTAG_PLACE),
+        request: get_word(b, REQUEST_PLACE),
+        kept: get_word(b, KEPT_PLACE),
+        wait: load_wait(b),
+    }
 }
 
 // Whether the codes of the wait and of its kind are known; an idle wait has no kind.
@@ -102,20 +199,20 @@ pub fn codes_known(b: &[u8]) -> bool
     requires { ⌜ length (now b) ≡ recordSize ⌝ }
     ensures { λ r. ⌜ r ≡ codesKnown (now (b .entry)) ⌝ }
 {
-    let code = word(b, 5);
+    let code = get_word(b, CODE_PLACE);
     if code == 0 {
         return true;
     }
-    octets::and(code <= 4, word(b, 6) <= 1)
+    octets::and(code <= 4, get_word(b, KIND_PLACE) <= 1)
 }
 
 // The first n places of view i of the record.
 pub fn load_view(b: &[u8], i: usize, n: usize) -> View
-    requires { ⌜ (length (now b) ≡ recordSize) × (i ≤ 3) × (n ≤ 16) ⌝ }
+    requires { ⌜ (length (now b) ≡ recordSize) × (i < views) × (n ≤ nodes) ⌝ }
     ensures { λ r. ⌜ r ≡ firstOf n (viewIn (now (b .entry)) i) ⌝ }
 {
-    let at = 2144 + 256 * i;
-    let end = at + 256;
+    let at = VIEWS_PLACE + VIEW * i;
+    let end = at + VIEW;
     view::read_view(n, &b[at..end])
 }
 
@@ -180,53 +277,61 @@ fn wait_report(w: Wait) -> Report
 
 // Writes view i of the record.
 pub fn save_view(b: &mut [u8], i: usize, v: View)
-    requires { ⌜ (length (now b) ≡ recordSize) × (i ≤ 3) ⌝ }
-    ensures { λ _. ⌜ now (b .exit) ≡ put (now (b .entry)) (viewPlace i) (viewBytes 16 v) ⌝ }
+    requires { ⌜ (length (now b) ≡ recordSize) × (i < views) ⌝ }
+    ensures { λ _. ⌜ now (b .exit) ≡ put (now (b .entry)) (viewPlace i) (viewBytes nodes v) ⌝ }
 {
-    let at = 2144 + 256 * i;
-    let end = at + 256;
-    view::write_view(16, v, &mut b[at..end]);
+    let at = VIEWS_PLACE + VIEW * i;
+    let end = at + VIEW;
+    view::write_view(NODES, v, &mut b[at..end]);
 }
 
 fn save_views(b: &mut [u8], c: Node)
     requires { ⌜ length (now b) ≡ recordSize ⌝ }
-    ensures { λ _. ⌜ now (b .exit) ≡ put (now (b .entry)) (viewPlace 0) (viewsBytes c) ⌝ }
+    ensures { λ _. ⌜ now (b .exit) ≡ put (now (b .entry)) (viewPlace lastIn) (viewsBytes c) ⌝ }
 {
-    save_view(b, 0, c.last);
-    save_view(b, 1, c.atmax);
-    save_view(b, 2, c.atround);
-    save_view(b, 3, c.keptview);
+    save_view(b, LAST_IN, c.last);
+    save_view(b, ATMAX_IN, c.atmax);
+    save_view(b, ATROUND_IN, c.atround);
+    save_view(b, KEPT_IN, c.keptview);
 }
 
 fn save_wait(b: &mut [u8], w: Wait)
     requires { ⌜ length (now b) ≡ recordSize ⌝ }
-    ensures { λ _. ⌜ now (b .exit) ≡ put (now (b .entry)) 40 (waitBytes w) ⌝ }
+    ensures { λ _. ⌜ now (b .exit) ≡ put (now (b .entry)) codePlace (waitBytes w) ⌝ }
 {
     let k = wait_words(w);
-    octets::put_words(b, 40, &k);
+    octets::put_words(b, CODE_PLACE, &k);
     let p = view::report_bytes(wait_report(w));
-    octets::put_bytes(b, 88, &p);
+    octets::put_bytes(b, REPORT_PLACE, &p);
 }
 
-// Writes the numbers and the wait of a record: the bytes before its tables.
-pub fn save_head(b: &mut [u8], n: u64, own: u64, maxtag: u64, request: u64, kept: u64, w: Wait)
+// Writes the head of the record.
+pub fn save_head(b: &mut [u8], h: Head)
     requires { ⌜ length (now b) ≡ recordSize ⌝ }
-    ensures { λ _. ⌜ now (b .exit)
-        ≡ put (now (b .entry)) 0 (wordBytes (n ∷ own ∷ maxtag ∷ request ∷ kept ∷ []) ++ waitBytes w) ⌝ }
+    ensures { λ _. ⌜ now (b .exit) ≡ put (now (b .entry)) nPlace (headBytes h) ⌝ }
 {
-    let s = [n, own, maxtag, request, kept];
-    octets::put_words(b, 0, &s);
+    let w = h.wait;
+    let s = [h.n, h.own, h.maxtag, h.request, h.kept];
+    octets::put_words(b, N_PLACE, &s);
     save_wait(b, w);
 }
 
 // Writes the record over the bytes.
 pub fn save(b: &mut [u8], c: Node)
     requires { ⌜ length (now b) ≡ recordSize ⌝ }
-    ensures { λ _. ⌜ now (b .exit) ≡ put (now (b .entry)) 0 (recordBytes c) ⌝ }
+    ensures { λ _. ⌜ now (b .exit) ≡ put (now (b .entry)) nPlace (recordBytes c) ⌝ }
 {
     let w = c.wait;
-    save_head(b, c.n as u64, c.own as u64, c.maxtag, c.request, c.kept, w);
+    let head = Head {
+        n: c.n as u64,
+        own: c.own as u64,
+        maxtag: c.maxtag,
+        request: c.request,
+        kept: c.kept,
+        wait: w,
+    };
+    save_head(b, head);
     let h = c.heard;
-    octets::put_table256(b, 96, &h);
+    octets::put_table256(b, HEARD_PLACE, &h);
     save_views(b, c);
 }

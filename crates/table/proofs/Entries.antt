@@ -15,33 +15,34 @@ use Rattle.view.specs.declared.View.{View}
 use Rattle.octets.proofs.Test.{both-left, both-right, both-true}
 use Rattle.octets.specs.Test.{pick}
 use Rattle.view.specs.Report.{noReport, isNone}
-use Rattle.view.specs.Size.{limit}
+use Rattle.view.specs.Size.{limit, nodes}
 use Rattle.view.specs.View.{noView, firstOf}
 use Rattle.view.proofs.First.{first-tag, first-report, first-absent}
 use Rattle.table.specs.Loop.{either, all}
 use Rattle.table.specs.Table.{at, tagOf, reportOf, put, newestTag, newestReport, newest, entryOk, entryWithin, within, heardWithin}
+use Rattle.table.specs.Table.{cells}
 use Rattle.table.proofs.Laws.{all-at, all-all, getD-tab}
 
 -- ---- the entries of a view by the newest reports
 
-pub newest-tag : (t : ℕ) (last held : View) (w : ℕ) → 1 ≤ w → w ≤ 16 → tagOf (newest t last held) w ≡ newestTag t last held w
+pub newest-tag : (t : ℕ) (last held : View) (w : ℕ) → 1 ≤ w → w ≤ nodes → tagOf (newest t last held) w ≡ newestTag t last held w
 unfolding newest
-newest-tag t last held w l k = getD-tab 16 (newestTag t last held) w 0 l k
+newest-tag t last held w l k = getD-tab nodes (newestTag t last held) w 0 l k
 
-pub newest-report : (t : ℕ) (last held : View) (w : ℕ) → 1 ≤ w → w ≤ 16
+pub newest-report : (t : ℕ) (last held : View) (w : ℕ) → 1 ≤ w → w ≤ nodes
     → reportOf (newest t last held) w ≡ newestReport t last held w
 unfolding newest
-newest-report t last held w l k = getD-tab 16 (newestReport t last held) w noReport l k
+newest-report t last held w l k = getD-tab nodes (newestReport t last held) w noReport l k
 
 -- ---- views within a tag
 
-pub within-at : (t : ℕ) (v : View) (w : ℕ) → within t v ≡ true → 1 ≤ w → w ≤ 16 → entryWithin t v w ≡ true
+pub within-at : (t : ℕ) (v : View) (w : ℕ) → within t v ≡ true → 1 ≤ w → w ≤ nodes → entryWithin t v w ≡ true
 unfolding within
-within-at t v w h l k = all-at 16 (entryWithin t v) w h l k
+within-at t v w h l k = all-at nodes (entryWithin t v) w h l k
 
-pub within-all : (t : ℕ) (v : View) → ((w : ℕ) → 1 ≤ w → w ≤ 16 → entryWithin t v w ≡ true) → within t v ≡ true
+pub within-all : (t : ℕ) (v : View) → ((w : ℕ) → 1 ≤ w → w ≤ nodes → entryWithin t v w ≡ true) → within t v ≡ true
 unfolding within
-within-all t v h = all-all 16 (entryWithin t v) h
+within-all t v h = all-all nodes (entryWithin t v) h
 
 pub within-absent : (t : ℕ) → within t noView ≡ true
 unfolding within all
@@ -64,7 +65,7 @@ entry-up t u x p h e =
     (both-right (leb x t) (either (leb 1 x) (isNone p)) e)
 
 -- the tag of an entry of such a view
-pub within-tag : (t : ℕ) (v : View) (w : ℕ) → within t v ≡ true → 1 ≤ w → w ≤ 16 → tagOf v w ≤ t
+pub within-tag : (t : ℕ) (v : View) (w : ℕ) → within t v ≡ true → 1 ≤ w → w ≤ nodes → tagOf v w ≤ t
 within-tag t v w e l k =
     leb-true (tagOf v w) t (both-left (leb (tagOf v w) t) (either (leb 1 (tagOf v w)) (isNone (reportOf v w))) (within-at t v w e l k))
 
@@ -86,9 +87,9 @@ within-newest u m t last held a b h = within-all t (newest t last held) (λ w l 
 
 -- as long as a view of the type is
 abbrev pub Sized : View → Type 0
-Sized v = (length (v .tags) ≡ 16) × (length (v .reports) ≡ 16)
+Sized v = (length (v .tags) ≡ nodes) × (length (v .reports) ≡ nodes)
 
-module _ (v : View) (w : ℕ) (t : ℕ) (p : Report) (l : 1 ≤ w) (k : w ≤ 16) where
+module _ (v : View) (w : ℕ) (t : ℕ) (p : Report) (l : 1 ≤ w) (k : w ≤ nodes) where
   pub put-tag : Sized v → tagOf (put v w t p) w ≡ t
   put-tag z = getD-set-same (v .tags) (w - 1) t 0 (rw (z .0) (omega arith))
 
@@ -122,8 +123,8 @@ set-cases l i t f g = elim (decLt i (length l)) [
 pub heard-within-set : (h : List ℕ) (i t : ℕ) → t ≤ limit → heardWithin h ≡ true → heardWithin (set h i t) ≡ true
 unfolding heardWithin
 heard-within-set h i t b e = set-cases h i t
-    (λ q. all-all 256 (λ k. leb (at (set h i t) k) limit) (λ k l m. elim (ℕ-discrete (k - 1) i) [
+    (λ q. all-all cells (λ k. leb (at (set h i t) k) limit) (λ k l m. elim (ℕ-discrete (k - 1) i) [
       | yes d ↦ rw (d, q) (le-leb t limit b)
-      | no d ↦ rw (getD-set-other h i (k - 1) t 0 d) (all-at 256 (λ j. leb (at h j) limit) k e l m)
+      | no d ↦ rw (getD-set-other h i (k - 1) t 0 d) (all-at cells (λ j. leb (at h j) limit) k e l m)
     ]))
     (λ q. rw q e)

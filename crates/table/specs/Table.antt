@@ -1,6 +1,6 @@
 -- The tables of one node: views, one entry for each writer, and the square table of the tags heard.
 -- Nodes are numbered from 1; the entry of writer w stands at place w - 1, the cell of sender s and writer w
--- at (s - 1) * 16 + (w - 1), whatever n is.
+-- at (s - 1) * nodes + (w - 1), whatever n is.
 -- Assumes nothing.
 use mathlib.Core.Bool.{Bool}
 use mathlib.Core.List.{List}
@@ -10,7 +10,7 @@ use lib.ListN.{getD, set}
 use Rattle.view.specs.declared.Report.{Report}
 use Rattle.view.specs.declared.View.{View}
 use Rattle.octets.specs.Test.{pick, both}
-use Rattle.view.specs.Size.{limit}
+use Rattle.view.specs.Size.{limit, nodes}
 use Rattle.view.specs.Report.{noReport, isNone}
 use Rattle.table.specs.Loop.{either, all, tab}
 
@@ -37,7 +37,7 @@ abbrev pub newestReport : ℕ → View → View → ℕ → Report
 newestReport t last held w = pick (leb (tagOf last w) t) (reportOf last w) (reportOf held w)
 
 unfoldable pub newest : ℕ → View → View → View
-newest t last held = record { tags = tab 16 (newestTag t last held); reports = tab 16 (newestReport t last held) }
+newest t last held = record { tags = tab nodes (newestTag t last held); reports = tab nodes (newestReport t last held) }
 
 -- a tag that is not above t, with no report beside tag 0
 abbrev pub entryOk : ℕ → ℕ → Report → Bool
@@ -48,15 +48,18 @@ entryWithin t v w = entryOk t (tagOf v w) (reportOf v w)
 
 -- every entry of the view is such
 unfoldable pub within : ℕ → View → Bool
-within t v = all 16 (entryWithin t v)
+within t v = all nodes (entryWithin t v)
 
--- the cell of sender s and writer w, and the last tag heard there
+-- how many cells the square table has, the cell of sender s and writer w, and the last tag heard there
+abbrev pub cells : ℕ
+cells = nodes * nodes
+
 abbrev pub cell : ℕ → ℕ → ℕ
-cell s w = (s - 1) * 16 + (w - 1)
+cell s w = (s - 1) * nodes + (w - 1)
 
 abbrev pub heardOf : List ℕ → ℕ → ℕ → ℕ
 heardOf h s w = getD h (cell s w) 0
 
 -- no tag of the table is above the limit
 unfoldable pub heardWithin : List ℕ → Bool
-heardWithin h = all 256 (λ k. leb (at h k) limit)
+heardWithin h = all cells (λ k. leb (at h k) limit)

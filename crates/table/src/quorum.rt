@@ -1,16 +1,19 @@
 // Sets of nodes, agreement on the reports held for a round, and quorums.
+use crate::CELLS;
 use crate::or;
 use octets::and;
+use view::NODES;
 ghost use mathlib.Core.Path.{_≡_};
 ghost use Prim.Native.Nat.{_≤_};
 ghost use lib.Dec.{leb};
+ghost use Rattle.view.specs.Size.{nodes};
 ghost use Rattle.table.specs.Loop.{all};
 ghost use Rattle.table.specs.Table.{at, heardOf};
 ghost use Rattle.table.specs.Quorum.{member, with, only, size, faults, isQuorum, agreeing};
 
 // Whether node s is in the set m.
 pub fn is_member(m: u64, s: usize) -> bool
-    requires { ⌜ (1 ≤ s) × (s ≤ 16) ⌝ }
+    requires { ⌜ (1 ≤ s) × (s ≤ nodes) ⌝ }
     ensures { λ r. ⌜ r ≡ member m s ⌝ }
 {
     (m >> (s - 1)) % 2 == 1
@@ -18,7 +21,7 @@ pub fn is_member(m: u64, s: usize) -> bool
 
 // The set m with node s.
 pub fn with_member(m: u64, s: usize) -> u64
-    requires { ⌜ (1 ≤ s) × (s ≤ 16) ⌝ }
+    requires { ⌜ (1 ≤ s) × (s ≤ nodes) ⌝ }
     ensures { λ r. ⌜ r ≡ with m s ⌝ }
 {
     m | (1 << (s - 1))
@@ -26,7 +29,7 @@ pub fn with_member(m: u64, s: usize) -> u64
 
 // Whether the set m has no node beyond n.
 pub fn is_only(n: usize, m: u64) -> bool
-    requires { ⌜ n ≤ 16 ⌝ }
+    requires { ⌜ n ≤ nodes ⌝ }
     ensures { λ r. ⌜ r ≡ only n m ⌝ }
 {
     m >> n == 0
@@ -34,7 +37,7 @@ pub fn is_only(n: usize, m: u64) -> bool
 
 // How many of the nodes 1 to n are in the set m.
 pub fn members(n: usize, m: u64) -> usize
-    requires { ⌜ n ≤ 16 ⌝ }
+    requires { ⌜ n ≤ nodes ⌝ }
     ensures { λ r. ⌜ r ≡ size n m ⌝ }
 {
     let mut k = 0;
@@ -49,22 +52,27 @@ pub fn members(n: usize, m: u64) -> usize
 }
 
 // Whether sender s has sent, for each writer, the report held or a later one.
-fn has_sent<'a>(n: usize, heard: &'a [u64; 256], held: &'a [u64; 16], s: usize) -> bool
-    requires { ⌜ (n ≤ 16) × (1 ≤ s) × (s ≤ 16) ⌝ }
+fn has_sent<'a>(n: usize, heard: &'a [u64; CELLS], held: &'a [u64; NODES], s: usize) -> bool
+    requires { ⌜ (n ≤ nodes) × (1 ≤ s) × (s ≤ nodes) ⌝ }
     ensures { λ r. ⌜ r ≡ all n (λ w. leb (at (now (held .entry)) w) (heardOf (now (heard .entry)) s w)) ⌝ }
 {
     let mut ok = true;
     let mut w = 0;
     while w < n {
         w += 1;
-        ok = and(held[w - 1] <= heard[(s - 1) * 16 + (w - 1)], ok);
+        ok = and(held[w - 1] <= heard[(s - 1) * NODES + (w - 1)], ok);
     }
     ok
 }
 
 // How many nodes agree on the reports held for the open round; the own node does.
-pub fn agreeing_nodes<'a>(n: usize, own: usize, heard: &'a [u64; 256], held: &'a [u64; 16]) -> usize
-    requires { ⌜ n ≤ 16 ⌝ }
+pub fn agreeing_nodes<'a>(
+    n: usize,
+    own: usize,
+    heard: &'a [u64; CELLS],
+    held: &'a [u64; NODES],
+) -> usize
+    requires { ⌜ n ≤ nodes ⌝ }
     ensures { λ r. ⌜ r ≡ agreeing n own (now (heard .entry)) (now (held .entry)) ⌝ }
 {
     let mut k = 0;

@@ -1,7 +1,9 @@
 // Views, which hold an entry for each writer, and the square table of the tags heard.
+use crate::CELLS;
 use crate::or;
 use octets::and;
 use view::LIMIT;
+use view::NODES;
 use view::Report;
 use view::View;
 use view::is_none;
@@ -10,10 +12,11 @@ ghost use Prim.Native.Nat.{_-_, _≤_};
 ghost use lib.Dec.{leb};
 ghost use lib.ListN.{set};
 ghost use Rattle.octets.specs.Test.{pick};
+ghost use Rattle.view.specs.Size.{nodes};
 ghost use Rattle.table.specs.Table.{tagOf, reportOf, put, newest, entryWithin, within, heardWithin};
 
 pub fn tag_of(v: View, w: usize) -> u64
-    requires { ⌜ (1 ≤ w) × (w ≤ 16) ⌝ }
+    requires { ⌜ (1 ≤ w) × (w ≤ nodes) ⌝ }
     ensures { λ r. ⌜ r ≡ tagOf v w ⌝ }
 {
     let tags = v.tags;
@@ -22,7 +25,7 @@ pub fn tag_of(v: View, w: usize) -> u64
 
 // The view with another entry for writer w.
 pub fn put_entry(v: View, w: usize, t: u64, p: Report) -> View
-    requires { ⌜ (1 ≤ w) × (w ≤ 16) ⌝ }
+    requires { ⌜ (1 ≤ w) × (w ≤ nodes) ⌝ }
     ensures { λ r. ⌜ r ≡ put v w t p ⌝ }
 {
     let mut u = v;
@@ -33,7 +36,7 @@ pub fn put_entry(v: View, w: usize, t: u64, p: Report) -> View
 
 // One writer's part of `newest`: its last entry, where that is not above t.
 fn newest_at(t: u64, last: View, held: View, w: usize) -> View
-    requires { ⌜ (1 ≤ w) × (w ≤ 16) ⌝ }
+    requires { ⌜ (1 ≤ w) × (w ≤ nodes) ⌝ }
     ensures { λ r. ⌜ (r .tags ≡ pick (leb (tagOf last w) t) (set (held .tags) (w - 1) (tagOf last w)) (held .tags))
         × (r .reports ≡ pick (leb (tagOf last w) t) (set (held .reports) (w - 1) (reportOf last w)) (held .reports)) ⌝ }
 {
@@ -51,7 +54,7 @@ pub fn newest_view(t: u64, last: View, held: View) -> View
 {
     let mut v = held;
     let mut w = 0;
-    while w < 16 {
+    while w < NODES {
         w += 1;
         v = newest_at(t, last, v, w);
     }
@@ -59,7 +62,7 @@ pub fn newest_view(t: u64, last: View, held: View) -> View
 }
 
 fn entry_within(t: u64, v: View, w: usize) -> bool
-    requires { ⌜ (1 ≤ w) × (w ≤ 16) ⌝ }
+    requires { ⌜ (1 ≤ w) × (w ≤ nodes) ⌝ }
     ensures { λ r. ⌜ r ≡ entryWithin t v w ⌝ }
 {
     let tags = v.tags;
@@ -74,7 +77,7 @@ pub fn view_within(t: u64, v: View) -> bool
 {
     let mut ok = true;
     let mut w = 0;
-    while w < 16 {
+    while w < NODES {
         w += 1;
         ok = and(entry_within(t, v, w), ok);
     }
@@ -82,12 +85,12 @@ pub fn view_within(t: u64, v: View) -> bool
 }
 
 // Whether no tag heard is above the limit.
-pub fn heard_within(h: &[u64; 256]) -> bool
+pub fn heard_within(h: &[u64; CELLS]) -> bool
     ensures { λ r. ⌜ r ≡ heardWithin (now (h .entry)) ⌝ }
 {
     let mut ok = true;
     let mut k = 0;
-    while k < 256 {
+    while k < CELLS {
         k += 1;
         ok = and(h[k - 1] <= LIMIT, ok);
     }

@@ -8,7 +8,7 @@ use lib.ListN.{getD, drop, replicate, replicate-append-replicate}
 use lib.Seq.{drop-at}
 use Rattle.octets.specs.Loop.{tab, join}
 use Rattle.octets.proofs.Table.{join-ext, padded, getD-padded, getD-past, length-padded}
-use Rattle.view.specs.Size.{nodes, entrySize}
+use Rattle.view.specs.Size.{nodes, entrySize, viewSize}
 use Rattle.view.specs.Report.{noReport}
 use Rattle.view.specs.View.{noView, entryBytes, viewBytes, tagAt, reportAt, viewOf, firstOf, AbsentPast}
 use Rattle.view.specs.declared.Report.{Report}
@@ -60,7 +60,7 @@ first-bytes n v =
     (λ i. entryBytes (getD (v .tags) i 0) (getD (v .reports) i noReport))
     (λ i l. ap₂ entryBytes (first-tag n v i l) (first-report n v i l))
 
--- of the bytes of sixteen entries the first n are read
+-- of the bytes of all entries the first n are read
 pub first-read : (n : ℕ) (b : List ℕ) → n ≤ nodes → firstOf n (viewOf nodes b) ≡ viewOf n b
 unfolding firstOf viewOf
 first-read n b h =
@@ -76,24 +76,24 @@ first-read n b h =
     with t p = record { tags = t; reports = p }
 
 -- zeros, past n
-zeros-past : (n k : ℕ) (v : View) → AbsentPast n v → viewBytes (n + k) v ≡ viewBytes n v ++ replicate (entrySize * k) 0
+zeros-past : (n k : ℕ) (v : View) → AbsentPast n v → viewBytes (n + k) v ≡ viewBytes n v ++ replicate (viewSize k) 0
 unfolding viewBytes join
 zeros-past n zero v a = ap (λ (m : ℕ). viewBytes m v) (add-zero n) ∙ sym (append-nil (viewBytes n v))
 zeros-past n (suc k) v a =
     let e : n + suc k ≡ suc (n + k) = omega arith in
-    let m : entrySize * k + entrySize ≡ entrySize * suc k = omega arith in
+    let m : viewSize k + entrySize ≡ viewSize (suc k) = omega arith in
     ap (λ (m : ℕ). viewBytes m v) e
     ∙ ap₂ (λ (s t : List ℕ). s ++ t) (zeros-past n k v a)
     (ap₂ entryBytes (a .no-tag (n + k) (omega arith)) (a .no-report (n + k) (omega arith)))
-    ∙ append-assoc (viewBytes n v) (replicate (entrySize * k) 0) (replicate entrySize 0)
+    ∙ append-assoc (viewBytes n v) (replicate (viewSize k) 0) (replicate entrySize 0)
     ∙ ap (λ (t : List ℕ). viewBytes n v ++ t)
-    (replicate-append-replicate (entrySize * k) entrySize 0 ∙ ap (λ (m : ℕ). replicate m 0) m)
+    (replicate-append-replicate (viewSize k) entrySize 0 ∙ ap (λ (m : ℕ). replicate m 0) m)
 
 pub absent-bytes : (n : ℕ) (v : View) → AbsentPast n v
-    → drop (entrySize * n) (viewBytes nodes v) ≡ replicate (entrySize * (nodes - n)) 0
+    → drop (viewSize n) (viewBytes nodes v) ≡ replicate (viewSize (nodes - n)) 0
 absent-bytes n v a =
     let h = a .size in
     let e : nodes ≡ n + (nodes - n) = omega arith in
-    ap (λ (m : ℕ). drop (entrySize * n) (viewBytes m v)) e
-    ∙ ap (drop (entrySize * n)) (zeros-past n (nodes - n) v a)
-    ∙ drop-at (viewBytes n v) (replicate (entrySize * (nodes - n)) 0) (entrySize * n) (length-viewBytes n v)
+    ap (λ (m : ℕ). drop (viewSize n) (viewBytes m v)) e
+    ∙ ap (drop (viewSize n)) (zeros-past n (nodes - n) v a)
+    ∙ drop-at (viewBytes n v) (replicate (viewSize (nodes - n)) 0) (viewSize n) (length-viewBytes n v)

@@ -7,6 +7,7 @@ use lib.ListN.{length, replicate}
 use Rattle.octets.specs.Bytes.{Bytes, num, be, part}
 use Rattle.octets.proofs.Number.{num-be-suc, be-num, be-bytes, num-zero}
 use Rattle.octets.proofs.Put.{part-add, part-all, part-bytes, length-part}
+use Rattle.view.specs.Size.{reportSize}
 use Rattle.view.specs.Report.{Counts, noReport, reportBytes, reportOf, reportFrom, reportNumber}
 use Rattle.view.specs.declared.Report.{Report}
 
@@ -21,18 +22,19 @@ be-part b at len h l =
     ap (λ (k : ℕ). be k (num (part b at len))) (sym (length-part b at len l)) ∙ be-num (part b at len)
     (part-bytes b at len h)
 
-pub report-bytes-back : (b : List ℕ) → Bytes b → length b ≡ 8 → reportBytes (reportOf b) ≡ b
+pub report-bytes-back : (b : List ℕ) → Bytes b → length b ≡ reportSize → reportBytes (reportOf b) ≡ b
 unfolding reportOf
 report-bytes-back b h l =
-    let q : (at : ℕ) → at + 2 ≤ 8 → be 2 (num (part b at 2)) ≡ part b at 2 = λ at m. be-part b at 2 h (omega arith) in
+    let q : (at : ℕ) → at + 2 ≤ reportSize → be 2 (num (part b at 2)) ≡ part b at 2 = λ at m. be-part b at 2 h
+    (omega arith) in
     ap₂ (λ (s t : List ℕ). s ++ t) (ap₂ (λ (s t : List ℕ). s ++ t) (ap₂ (λ (s t : List ℕ). s ++ t)
     (q 0 (omega arith)) (q 2 (omega arith))) (q 4 (omega arith))) (q 6 (omega arith))
     ∙ ap (λ (t : List ℕ). t ++ part b 4 2 ++ part b 6 2) (sym (part-add b 0 2 2))
-    ∙ ap (λ (t : List ℕ). t ++ part b 6 2) (sym (part-add b 0 4 2)) ∙ sym (part-add b 0 6 2) ∙ part-all b 8
+    ∙ ap (λ (t : List ℕ). t ++ part b 6 2) (sym (part-add b 0 4 2)) ∙ sym (part-add b 0 6 2) ∙ part-all b reportSize
     (omega arith)
 
 -- eight zeros are no report
-pub zero-report : (b : List ℕ) → Bytes b → length b ≡ 8 → num b ≡ 0 → reportOf b ≡ noReport
+pub zero-report : (b : List ℕ) → Bytes b → length b ≡ reportSize → num b ≡ 0 → reportOf b ≡ noReport
 unfolding reportOf part
 zero-report b h l e = ap reportOf (num-zero b h e ∙ ap (λ (k : ℕ). replicate k 0) l)
 
@@ -55,8 +57,8 @@ report-bytes p h =
     (be-bytes 2 (p .wakeups) (h .wakeups))
 
 -- eight bytes are the report of their number, and the bytes of a report are those of its number
-pub from-number : (b : List ℕ) → Bytes b → length b ≡ 8 → reportFrom (num b) ≡ reportOf b
+pub from-number : (b : List ℕ) → Bytes b → length b ≡ reportSize → reportFrom (num b) ≡ reportOf b
 from-number b h l = ap reportOf (ap (λ (k : ℕ). be k (num b)) (sym l) ∙ be-num b h)
 
-pub number-bytes : (p : Report) → Counts p → be 8 (reportNumber p) ≡ reportBytes p
+pub number-bytes : (p : Report) → Counts p → be reportSize (reportNumber p) ≡ reportBytes p
 number-bytes p h = be-num (reportBytes p) (report-bytes p h)

@@ -5,6 +5,7 @@ use mathlib.Core.List.{List, _++_}
 use lib.Dec.{eqb}
 use Rattle.octets.specs.Test.{both}
 use Rattle.octets.specs.Bytes.{num, be, part}
+use Rattle.view.specs.Size.{reportSize}
 use Rattle.view.specs.declared.Report.{Report}
 
 -- the counts have sixteen bits, as their type says
@@ -39,4 +40,4 @@ reportOf b =
 
 -- the report whose number is x
 abbrev pub reportFrom : ℕ → Report
-reportFrom x = reportOf (be 8 x)
+reportFrom x = reportOf (be reportSize x)

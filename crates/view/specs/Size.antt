@@ -1,8 +1,9 @@
 -- The limits and sizes of document 01 that messages, views and nodes share.
-use Prim.Native.Nat.{ℕ}
+use Prim.Native.Nat.{ℕ, _+_, _*_}
 use mathlib.Core.Bool.{Bool}
 use lib.Dec.{leb}
 use Rattle.octets.specs.Test.{both}
+use Rattle.octets.specs.Word.{wordSize}
 
 -- the most nodes (cabinets)
 abbrev pub nodes : ℕ
@@ -12,12 +13,18 @@ nodes = 16
 abbrev pub limit : ℕ
 limit = 9223372036854775807
 
--- the bytes of a report, and of a view's entry, which is a tag and a report
+-- the bytes of a tag, of a report, of a view's entry, which is a tag and a report, and of a view of n nodes
+abbrev pub tagSize : ℕ
+tagSize = wordSize
+
 abbrev pub reportSize : ℕ
 reportSize = 8
 
 abbrev pub entrySize : ℕ
-entrySize = 16
+entrySize = tagSize + reportSize
+
+abbrev pub viewSize : ℕ → ℕ
+viewSize n = entrySize * n
 
 -- n nodes
 abbrev pub isSize : ℕ → Bool

@@ -1,4 +1,4 @@
--- A view and its bytes: for each of n nodes a tag of eight bytes and a report. Node i + 1 has entry i.
+-- A view and its bytes: for each of n nodes a tag and a report. Node i + 1 has entry i.
 -- Where no report is known the tag is 0 and the report is none. Past n a view is absent.
 use Prim.Native.Nat.{ℕ, _+_, _-_, _*_, _≤_}
 use mathlib.Core.Bool.{Bool, true}
@@ -7,10 +7,10 @@ use lib.ListN.{length, getD, replicate}
 use mathlib.Core.Path.{_≡_}
 use lib.Dec.{leb, eqb}
 use Rattle.octets.specs.Test.{pick, both}
-use Rattle.octets.specs.Bytes.{be, part}
+use Rattle.octets.specs.Bytes.{num, be, part}
 use Rattle.octets.specs.Loop.{allTo, tab, join}
 use Rattle.octets.specs.Word.{word}
-use Rattle.view.specs.Size.{nodes, reportSize, entrySize}
+use Rattle.view.specs.Size.{nodes, tagSize, reportSize, entrySize}
 use Rattle.view.specs.Report.{noReport, reportBytes, reportOf}
 use Rattle.view.specs.declared.Report.{Report}
 use Rattle.view.specs.declared.View.{View}
@@ -19,7 +19,7 @@ abbrev pub noView : View
 noView = record { tags = replicate nodes 0; reports = replicate nodes noReport }
 
 abbrev pub entryBytes : ℕ → Report → List ℕ
-entryBytes t p = be 8 t ++ reportBytes p
+entryBytes t p = be tagSize t ++ reportBytes p
 
 unfoldable pub viewBytes : ℕ → View → List ℕ
 viewBytes n v = join n (λ i. entryBytes (getD (v .tags) i 0) (getD (v .reports) i noReport))
@@ -29,10 +29,10 @@ abbrev pub tagAt : List ℕ → ℕ → ℕ
 tagAt b i = word b (entrySize * i)
 
 abbrev pub reportAt : List ℕ → ℕ → Report
-reportAt b i = reportOf (part b (entrySize * i + 8) reportSize)
+reportAt b i = reportOf (part b (entrySize * i + tagSize) reportSize)
 
 abbrev pub reportWord : List ℕ → ℕ → ℕ
-reportWord b i = word b (entrySize * i + 8)
+reportWord b i = num (part b (entrySize * i + tagSize) reportSize)
 
 unfoldable pub viewOf : ℕ → List ℕ → View
 viewOf n b =
@@ -49,7 +49,7 @@ firstOf n v =
       reports = tab n (λ i. getD (v .reports) i noReport) ++ replicate (nodes - n) noReport;
     }
 
--- a view of sixteen places with nothing past the first n
+-- a view with nothing past the first n places
 pub record AbsentPast (n : ℕ) (v : View) : Type 0 where
   pub size : n ≤ nodes
   pub tags-length : length (v .tags) ≡ nodes

@@ -1,19 +1,26 @@
 // A node's report, and a view: a tag and a report for each of up to sixteen nodes. Both by value and in bytes.
+use octets::WORD;
 ghost use mathlib.Core.Path.{_≡_};
-ghost use Prim.Native.Nat.{_+_, _*_, _≤_};
+ghost use Prim.Native.Nat.{_≤_};
 ghost use lib.ListN.{length};
 ghost use Rattle.octets.specs.Bytes.{put};
+ghost use Rattle.view.specs.Size.{nodes, reportSize, viewSize};
 ghost use Rattle.view.specs.Report.{noReport, isNone, reportBytes, reportNumber, reportOf, reportFrom};
 ghost use Rattle.view.specs.View.{noView, viewBytes, viewOf, firstOf, entryOk, viewOk};
 
-// The most nodes; the greatest tag and request number, 2^63 - 1; the bytes of a report and of a view's entry.
+// The most nodes; the greatest tag and request number, 2^63 - 1.
 pub const NODES: usize = 16;
 
 pub const LIMIT: u64 = 9223372036854775807;
 
+// The bytes of a tag, of a report, of a view's entry, which is a tag and a report, and of a whole view.
+pub const TAG: usize = WORD;
+
 pub const REPORT: usize = 8;
 
-pub const ENTRY: usize = 16;
+pub const ENTRY: usize = TAG + REPORT;
+
+pub const VIEW: usize = ENTRY * NODES;
 
 // What one node reports: document 01's report, four counts. The last is the first in memory, so that there a report lies
 // as its number does.
@@ -26,8 +33,8 @@ pub struct Report {
 
 // A tag and a report for each of up to sixteen nodes; tag 0 and a zero report mean no report.
 pub struct View {
-    pub tags: [u64; 16],
-    pub reports: [Report; 16],
+    pub tags: [u64; NODES],
+    pub reports: [Report; NODES],
 }
 
 pub fn none() -> Report
@@ -54,8 +61,8 @@ pub fn absent() -> View
     ensures { λ r. ⌜ r ≡ noView ⌝ }
 {
     View {
-        tags: [0; 16],
-        reports: [none(); 16],
+        tags: [0; NODES],
+        reports: [none(); NODES],
     }
 }
 
@@ -81,14 +88,14 @@ pub fn report_from(x: u64) -> Report
 
 // The report that eight bytes are.
 pub fn read_report(b: &[u8]) -> Report
-    requires { ⌜ length (now b) ≡ 8 ⌝ }
+    requires { ⌜ length (now b) ≡ reportSize ⌝ }
     ensures { λ r. ⌜ r ≡ reportOf (now (b .entry)) ⌝ }
 {
     report_from(octets::number8(b))
 }
 
 // The eight bytes of a report.
-pub fn report_bytes(p: Report) -> [u8; 8]
+pub fn report_bytes(p: Report) -> [u8; REPORT]
     ensures { λ r. ⌜ r ≡ reportBytes p ⌝ }
 {
     octets::digits8(report_number(p))
@@ -107,13 +114,13 @@ fn entry_ok(top: u64, tag: u64, report: u64) -> bool
 
 // Whether each of n entries may stand in a view whose tags are at most `top`.
 pub fn view_ok(n: usize, top: u64, b: &[u8]) -> bool
-    requires { ⌜ 16 * n ≤ length (now b) ⌝ }
+    requires { ⌜ viewSize n ≤ length (now b) ⌝ }
     ensures { λ r. ⌜ r ≡ viewOk n top (now (b .entry)) ⌝ }
 {
     let mut i = 0;
     while i < n {
         let at = ENTRY * i;
-        if entry_ok(top, octets::get_word(b, at), octets::get_word(b, at + 8)) {
+        if entry_ok(top, octets::get_word(b, at), octets::get_word(b, at + TAG)) {
             i += 1;
         } else {
             return false;
@@ -124,15 +131,15 @@ pub fn view_ok(n: usize, top: u64, b: &[u8]) -> bool
 
 // The view that n entries are, absent beyond them.
 pub fn read_view(n: usize, b: &[u8]) -> View
-    requires { ⌜ (n ≤ 16) × (16 * n ≤ length (now b)) ⌝ }
+    requires { ⌜ (n ≤ nodes) × (viewSize n ≤ length (now b)) ⌝ }
     ensures { λ r. ⌜ r ≡ viewOf n (now (b .entry)) ⌝ }
 {
-    let mut tags = [0u64; 16];
-    let mut reports = [none(); 16];
+    let mut tags = [0u64; NODES];
+    let mut reports = [none(); NODES];
     let mut i = 0;
     while i < n {
         let at = ENTRY * i;
-        let middle = at + 8;
+        let middle = at + TAG;
         let end = at + ENTRY;
         tags[i] = octets::get_word(b, at);
         reports[i] = read_report(&b[middle..end]);
@@ -146,13 +153,13 @@ pub fn read_view(n: usize, b: &[u8]) -> View
 
 // The first n places of a view, and nothing past them.
 pub fn first_of(n: usize, v: View) -> View
-    requires { ⌜ n ≤ 16 ⌝ }
+    requires { ⌜ n ≤ nodes ⌝ }
     ensures { λ r. ⌜ r ≡ firstOf n v ⌝ }
 {
     let all = v.tags;
     let each = v.reports;
-    let mut tags = [0u64; 16];
-    let mut reports = [none(); 16];
+    let mut tags = [0u64; NODES];
+    let mut reports = [none(); NODES];
     let mut i = 0;
     while i < n {
         tags[i] = all[i];
@@ -167,7 +174,7 @@ pub fn first_of(n: usize, v: View) -> View
 
 // Writes the first n entries of a view at the front of `out`.
 pub fn write_view(n: usize, v: View, out: &mut [u8])
-    requires { ⌜ (n ≤ 16) × (16 * n ≤ length (now out)) ⌝ }
+    requires { ⌜ (n ≤ nodes) × (viewSize n ≤ length (now out)) ⌝ }
     ensures { λ _. ⌜ now (out .exit) ≡ put (now (out .entry)) 0 (viewBytes n v) ⌝ }
 {
     let tags = v.tags;
@@ -177,16 +184,16 @@ pub fn write_view(n: usize, v: View, out: &mut [u8])
         let at = ENTRY * i;
         octets::put_word(out, at, tags[i]);
         let d = report_bytes(reports[i]);
-        octets::put_bytes(out, at + 8, &d);
+        octets::put_bytes(out, at + TAG, &d);
         i += 1;
     }
 }
 
-// The bytes of a view's sixteen places; those of n nodes are the first 16 n.
-pub fn bytes(v: View) -> [u8; 256]
-    ensures { λ r. ⌜ r ≡ viewBytes 16 v ⌝ }
+// The bytes of a view's places; those of n nodes are the first `viewSize n`.
+pub fn bytes(v: View) -> [u8; VIEW]
+    ensures { λ r. ⌜ r ≡ viewBytes nodes v ⌝ }
 {
-    let mut out = [0u8; 256];
+    let mut out = [0u8; VIEW];
     write_view(NODES, v, &mut out);
     out
 }

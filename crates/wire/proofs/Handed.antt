@@ -1,5 +1,5 @@
 -- The view that a reader hands back: which answers have one, and that its bytes are there.
-use Prim.Native.Nat.{ℕ, _+_, _-_, _*_, _≤_}
+use Prim.Native.Nat.{ℕ, _+_, _-_, _≤_}
 use mathlib.Core.Path.{_≡_, refl, sym, ap, _∙_}
 use mathlib.Core.Bool.{true}
 use mathlib.Core.List.{List, []}
@@ -7,7 +7,8 @@ use native.Mathlib.Omega.{arith}
 use lib.ListN.{length, take, drop, length-take, length-drop}
 use lib.Seq.{take-length}
 use Rattle.octets.specs.Answer.{Answer, result, refused}
-use Rattle.wire.specs.Layout.{encode, size}
+use Rattle.view.specs.Size.{viewSize}
+use Rattle.wire.specs.Layout.{encode, size, goodHead}
 use Rattle.wire.specs.Codec.{front, decode, viewAt, isGood, viewIn, viewRead, viewPart, viewFound, frontPart}
 use Rattle.wire.specs.Codec.{addressRead, viewAddress, addressFound, frontAddress}
 use Rattle.wire.specs.declared.Message.{Message}
@@ -34,29 +35,30 @@ view-none (Echo t) v h = refl
 view-none (Value t w p) v h = refl
 view-none (Good t) v h = absurd (h t refl)
 
--- a good message that was read has its 18 + 16 n bytes
-pub good-long : (n t : ℕ) (b : List ℕ) → decode n b ≡ result (Good t) → length b ≡ 18 + 16 * n
+-- a good message that was read has its head and its view
+pub good-long : (n t : ℕ) (b : List ℕ) → decode n b ≡ result (Good t) → length b ≡ goodHead + viewSize n
 unfolding size
 good-long n t b e =
     let w = read-only n b (Good t) e in
     ap (λ (x : List ℕ). length x) (w .bytes) ∙ length-encode n (Good t) (viewPart n b) (w .allowed-is)
 
-pub good-front : (n t k : ℕ) (b : List ℕ) → front n b ≡ result (Good t, k) → (k ≡ 18 + 16 * n) × (k ≤ length b)
+pub good-front : (n t k : ℕ) (b : List ℕ) → front n b ≡ result (Good t, k) → (k ≡ goodHead + viewSize n)
+    × (k ≤ length b)
 unfolding size
 good-front n t k b e =
     let f = front-only n b (Good t) k e in
     let v = viewAt n b in
-    let l : k ≡ 18 + 16 * n = f .long ∙ length-encode n (Good t) v (f .allowed-is) in
+    let l : k ≡ goodHead + viewSize n = f .long ∙ length-encode n (Good t) v (f .allowed-is) in
     let m = sym (length-take k b) ∙ ap (λ (x : List ℕ). length x) (f .bytes) ∙ sym (f .long) in
     (l, omega (arith, m))
 
 -- so its view begins inside of the bytes, and ends there
 pub read-room : (n : ℕ) (b : List ℕ) (a : Answer Message) → a ≡ decode n b → (t : ℕ) → a ≡ result (Good t)
-    → 18 ≤ length b
+    → goodHead ≤ length b
 read-room n b a e t g = let l = good-long n t b (sym e ∙ g) in omega (arith, l)
 
 pub front-room : (n : ℕ) (b : List ℕ) (a : Answer (Message × ℕ)) → a ≡ front n b → (t k : ℕ) → a ≡ result (Good t, k)
-    → (18 ≤ k) × (k ≤ length b)
+    → (goodHead ≤ k) × (k ≤ length b)
 front-room n b a e t k g = let l = good-front n t k b (sym e ∙ g) in (let i = l .0 in omega (arith, i), l .1)
 
 -- the view and its address by the answer are those by the bytes

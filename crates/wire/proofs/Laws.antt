@@ -1,12 +1,13 @@
 -- The claims of specs/Laws hold.
 use mathlib.Core.Path.{_≡_, refl, sym, ap, _∙_}
 use mathlib.Core.List.{List, [], append-nil}
-use Prim.Native.Nat.{ℕ, _-_, _*_}
+use Prim.Native.Nat.{ℕ, _-_}
 use native.Mathlib.Omega.{arith}
 use lib.ListN.{drop}
 use Rattle.octets.specs.Answer.{Answer, result, refused}
 use Rattle.octets.specs.Bytes.{part}
-use Rattle.wire.specs.Layout.{encode}
+use Rattle.view.specs.Size.{viewSize}
+use Rattle.wire.specs.Layout.{encode, goodHead}
 use Rattle.wire.specs.Codec.{front, decode, viewAt, viewRead, viewPart, addressRead, viewAddress}
 use Rattle.wire.specs.Codec.{viewFound, frontPart, addressFound, frontAddress}
 use Rattle.wire.specs.declared.Message.{Message}
@@ -62,10 +63,10 @@ unfolding frontPart frontAddress
 front-view-place n t k b e =
     let l = views.good-front n t k b e in
     let i = l .0 in
-    let j : k - 18 ≡ 16 * n = omega (arith, i) in (
+    let j : k - goodHead ≡ viewSize n = omega (arith, i) in (
       l .0,
       l .1,
-      ap (λ (a : Answer (Message × ℕ)). viewFound b a) e ∙ ap (λ (m : ℕ). part b 18 m) j,
+      ap (λ (a : Answer (Message × ℕ)). viewFound b a) e ∙ ap (λ (m : ℕ). part b goodHead m) j,
       λ p. ap (λ (a : Answer (Message × ℕ)). addressFound a p) e,
     )
 
@@ -74,7 +75,7 @@ unfolding viewPart
 view-only-good n b h = go (decode n b) refl
   where
     go : (a : Answer Message) → decode n b ≡ a → viewRead b a ≡ []
-    go (result m) e = views.view-none m (drop 18 b) (λ t q. h t (e ∙ ap (λ (x : Message). result x) q))
+    go (result m) e = views.view-none m (drop goodHead b) (λ t q. h t (e ∙ ap (λ (x : Message). result x) q))
     go (refused c) e = refl
 
 pub front-view-only-good : claim.FrontViewOnlyGood
@@ -82,6 +83,6 @@ unfolding frontPart
 front-view-only-good n b h = go (front n b) refl
   where
     go : (a : Answer (Message × ℕ)) → front n b ≡ a → viewFound b a ≡ []
-    go (result p) e = views.view-none (p .0) (part b 18 (p .1 - 18))
+    go (result p) e = views.view-none (p .0) (part b goodHead (p .1 - goodHead))
         (λ t q. h t (p .1) (e ∙ ap (λ (x : Message). result (x, p .1)) q))
     go (refused c) e = refl

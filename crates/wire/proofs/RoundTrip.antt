@@ -1,5 +1,5 @@
 -- Reading gives back what was written, and only what could have been written is read. For every n from 1 to 16.
-use Prim.Native.Nat.{ℕ, _-_, _*_}
+use Prim.Native.Nat.{ℕ, _-_}
 use mathlib.Core.Path.{_≡_, refl, sym, ap, ap₂, _∙_}
 use mathlib.Core.Bool.{Bool, true, false}
 use mathlib.Core.List.{List, [], _++_, append-nil}
@@ -14,9 +14,9 @@ use Rattle.octets.specs.Test.{pick, both}
 use Rattle.octets.specs.Bytes.{part}
 use Rattle.octets.proofs.Test.{both-left, both-right}
 use Rattle.octets.proofs.Number.{num-be-suc}
-use Rattle.view.specs.Size.{isSize}
+use Rattle.view.specs.Size.{isSize, viewSize}
 use Rattle.view.proofs.ReportBytes.{report-back}
-use Rattle.wire.specs.Layout.{encode, allowed}
+use Rattle.wire.specs.Layout.{encode, allowed, goodHead}
 use Rattle.wire.specs.Codec.{said, viewAt, begins, frontIs, front, whole, decode}
 use Rattle.wire.specs.Codec.{viewIn, viewRead, viewPart, viewFound, frontPart}
 use Rattle.wire.specs.declared.Message.{Message}
@@ -37,10 +37,10 @@ said-written (Echo t) v rest = ap (λ (x : ℕ). Echo x) (num-be-suc 7 t)
 said-written (Value t w p) v rest = ap₂ (λ x q. Value x w q) (num-be-suc 7 t) (report-back p)
 said-written (Good t) v rest = ap (λ (x : ℕ). Good x) (num-be-suc 7 t)
 
--- the view stands at bytes 18 to 18 + 16 n
+-- the view stands after the head
 pub view-place : (n t : ℕ) (v rest : List ℕ) → allowed n (Good t) v ≡ true → viewAt n (encode (Good t) v ++ rest) ≡ v
 unfolding encode part
-view-place n t v rest h = take-at v rest (16 * n) (view-length n t v h)
+view-place n t v rest h = take-at v rest (viewSize n) (view-length n t v h)
 
 -- only a good message looks at the view
 front-view : (n : ℕ) (b : List ℕ) (m : Message) (v w : List ℕ) → (((t : ℕ) → m ≡ Good t → w ≡ v)) → frontIs n b m w
@@ -83,8 +83,8 @@ read-back n m v s h =
     (front-back n m v [] s h) in
     rw e (rw (eq-eqb (length (encode m v)) (length (encode m v)) refl))
 
--- and its view: only a good message has one, and it begins at byte 18
-view-after : (m : Message) (v : List ℕ) → viewIn m (drop 18 (encode m v)) ≡ viewIn m v
+-- and its view: only a good message has one, and it begins after its head
+view-after : (m : Message) (v : List ℕ) → viewIn m (drop goodHead (encode m v)) ≡ viewIn m v
 unfolding encode
 view-after (Read r) v = refl
 view-after (ReadAnswer r t) v = refl
@@ -100,7 +100,7 @@ unfolding viewPart
 view-back n m v s h = ap (λ (a : Answer Message). viewRead (encode m v) a) (read-back n m v s h) ∙ view-after m v
 
 front-after : (m : Message) (v rest : List ℕ)
-    → viewIn m (part (encode m v ++ rest) 18 (length (encode m v) - 18)) ≡ viewIn m v
+    → viewIn m (part (encode m v ++ rest) goodHead (length (encode m v) - goodHead)) ≡ viewIn m v
 unfolding encode part
 front-after (Read r) v rest = refl
 front-after (ReadAnswer r t) v rest = refl
@@ -109,8 +109,8 @@ front-after (WriteAnswer r t) v rest = refl
 front-after (Echo t) v rest = refl
 front-after (Value t w p) v rest = refl
 front-after (Good t) v rest =
-    let l : length v ≡ length (encode (Good t) v) - 18 = omega arith in
-    take-at v rest (length (encode (Good t) v) - 18) l
+    let l : length v ≡ length (encode (Good t) v) - goodHead = omega arith in
+    take-at v rest (length (encode (Good t) v) - goodHead) l
 
 pub front-view-back : (n : ℕ) (m : Message) (v rest : List ℕ) → isSize n ≡ true → allowed n m v ≡ true
     → frontPart n (encode m v ++ rest) ≡ viewIn m v

@@ -1,5 +1,5 @@
 -- The reader's tests find just the bytes that begin with an allowed message.
-use Prim.Native.Nat.{ℕ, zero, suc, _+_, _*_, _≤_}
+use Prim.Native.Nat.{ℕ, zero, suc, _+_, _≤_}
 use mathlib.Core.Path.{_≡_, refl, sym, ap, ap₂, _∙_, subst}
 use mathlib.Core.Bool.{Bool, true, false}
 use mathlib.Core.List.{List, [], _∷_, _++_}
@@ -12,9 +12,11 @@ use Rattle.octets.specs.Bytes.{Bytes, be, part, same}
 use Rattle.octets.specs.Word.{word}
 use Rattle.octets.proofs.Test.{both-left, both-right, both-true, true-false, same-refl}
 use Rattle.octets.proofs.Put.{part-add, length-part, part-bytes}
+use Rattle.view.specs.Size.{viewSize, reportSize}
 use Rattle.view.specs.Report.{reportBytes, reportOf}
 use Rattle.view.proofs.ReportBytes.{report-bytes-back}
-use Rattle.wire.specs.Layout.{field, kind, encode, allowed}
+use Rattle.wire.specs.Layout.{field, kind, encode, allowed, headSize, numberSize, firstHead, firstAt, secondHead}
+use Rattle.wire.specs.Layout.{secondAt, thirdHead, thirdAt, goodHead}
 use Rattle.wire.specs.Codec.{saidAs, said, viewAt, begins}
 use Rattle.wire.specs.Shape.{headAt, twoHeads, valueHeads, goodHeads, twoShape, shapeAs, shape}
 use Rattle.wire.specs.declared.Message.{Message}
@@ -24,7 +26,7 @@ use Rattle.wire.proofs.Fields.{field-there, word-there, byte-there, beg
 
 -- ---- an allowed message's bytes have its shape, whatever stands after them
 
-long : (m : Message) (v rest : List ℕ) → 15 ≤ length (encode m v ++ rest)
+long : (m : Message) (v rest : List ℕ) → firstAt + numberSize ≤ length (encode m v ++ rest)
 unfolding encode
 long (Read r) v rest = omega arith
 long (ReadAnswer r t) v rest = omega arith
@@ -39,80 +41,96 @@ heads : (n : ℕ) (m : Message) (v rest : List ℕ) → allowed n m v ≡ true
     → both (headAt (encode m v ++ rest) 0 1 1) (shapeAs (getD (encode m v ++ rest) 3 0) n (encode m v ++ rest)) ≡ true
 unfolding encode headAt part shapeAs twoHeads valueHeads goodHeads
 heads n (Read r) v rest h = refl
-heads n (ReadAnswer r t) v rest h = both-true (le-leb 26 (length (encode (ReadAnswer r t) v ++ rest))
+heads n (ReadAnswer r t) v rest h = both-true (le-leb (secondAt + numberSize)
+    (length (encode (ReadAnswer r t) v ++ rest))
     (omega arith)) refl
-heads n (Write r t) v rest h = both-true (le-leb 26 (length (encode (Write r t) v ++ rest)) (omega arith)) refl
-heads n (WriteAnswer r t) v rest h = both-true (le-leb 26 (length (encode (WriteAnswer r t) v ++ rest))
+heads n (Write r t) v rest h = both-true (le-leb (secondAt + numberSize) (length (encode (Write r t) v ++ rest))
+    (omega arith)) refl
+heads n (WriteAnswer r t) v rest h = both-true (le-leb (secondAt + numberSize)
+    (length (encode (WriteAnswer r t) v ++ rest))
     (omega arith)) refl
 heads n (Echo t) v rest h = refl
-heads n (Value t w p) v rest h = both-true (le-leb 30 (length (encode (Value t w p) v ++ rest)) (omega arith)) refl
+heads n (Value t w p) v rest h = both-true (le-leb (thirdAt + reportSize) (length (encode (Value t w p) v ++ rest))
+    (omega arith)) refl
 heads n (Good t) v rest h =
-    let e : length v ≡ 16 * n = view-length n t v h in
+    let e : length v ≡ viewSize n = view-length n t v h in
     let f : length (v ++ rest) ≡ length v + length rest = length-append v rest in
-    both-true (le-leb (18 + 16 * n) (length (encode (Good t) v ++ rest)) (omega arith))
-    (ap (λ (k : ℕ). same (6 ∷ be 2 k) (6 ∷ be 2 (16 * n))) e ∙ same-refl (6 ∷ be 2 (16 * n)))
+    both-true (le-leb (goodHead + viewSize n) (length (encode (Good t) v ++ rest)) (omega arith))
+    (ap (λ (k : ℕ). same (6 ∷ be 2 k) (6 ∷ be 2 (viewSize n))) e ∙ same-refl (6 ∷ be 2 (viewSize n)))
 
 pub shape-written : (n : ℕ) (m : Message) (v rest : List ℕ) → allowed n m v ≡ true → shape n (encode m v ++ rest)
     ≡ true
 unfolding shape
 shape-written n m v rest h =
-    both-true (le-leb 15 (length (encode m v ++ rest)) (long m v rest)) (heads n m v rest h)
+    both-true (le-leb (firstAt + numberSize) (length (encode m v ++ rest)) (long m v rest)) (heads n m v rest h)
 
 -- ---- bytes of the shape begin with the message that they say
 
-module _ (n : ℕ) (b : List ℕ) (bytes : Bytes b) (l : 15 ≤ length b) (h : headAt b 0 1 1 ≡ true) where
-  one : (k mark : ℕ) → getD b 3 0 ≡ k → headAt b 4 mark 8 ≡ true → part b 0 15 ≡ kind k ++ field mark
-      (be 8 (word b 7))
+module _ (n : ℕ) (b : List ℕ) (bytes : Bytes b) (l : firstAt + numberSize ≤ length b) (h : headAt b 0 1 1 ≡ true) where
+  one : (k mark : ℕ) → getD b 3 0 ≡ k → headAt b firstHead mark numberSize ≡ true → part b 0 (firstAt + numberSize)
+      ≡ kind k ++ field mark
+      (be numberSize (word b firstAt))
   one k mark e f =
-      part-add b 0 4 11
+      part-add b 0 firstHead (headSize + numberSize)
       ∙ ap₂ (λ (s t : List ℕ). s ++ t) (byte-there b 0 1 h (omega arith) ∙ ap (λ (x : ℕ). kind x) e)
-      (word-there b 4 mark bytes f (omega arith))
+      (word-there b firstHead mark bytes f (omega arith))
 
   two : (k : ℕ) → getD b 3 0 ≡ k → twoShape b ≡ true
-      → part b 0 26 ≡ kind k ++ field 2 (be 8 (word b 7)) ++ field 3 (be 8 (word b 18))
+      → part b 0 (secondAt + numberSize) ≡ kind k ++ field 2 (be numberSize (word b firstAt)) ++ field 3
+      (be numberSize (word b secondAt))
   unfolding twoHeads
   two k e s =
-      let m : 26 ≤ length b = leb-true 26 (length b) (both-left (leb 26 (length b)) (twoHeads b) s) in
-      let t : twoHeads b ≡ true = both-right (leb 26 (length b)) (twoHeads b) s in
-      part-add b 0 15 11
-      ∙ ap₂ (λ (s t : List ℕ). s ++ t) (one k 2 e (both-left (headAt b 4 2 8) (headAt b 15 3 8) t))
-      (word-there b 15 3 bytes (both-right (headAt b 4 2 8) (headAt b 15 3 8) t) (omega arith))
+      let m : secondAt + numberSize ≤ length b = leb-true (secondAt + numberSize) (length b)
+      (both-left (leb (secondAt + numberSize) (length b)) (twoHeads b) s) in
+      let t : twoHeads b ≡ true = both-right (leb (secondAt + numberSize) (length b)) (twoHeads b) s in
+      part-add b 0 secondHead (headSize + numberSize)
+      ∙ ap₂ (λ (s t : List ℕ). s ++ t) (one k 2 e (both-left (headAt b firstHead 2 numberSize)
+      (headAt b secondHead 3 numberSize) t))
+      (word-there b secondHead 3 bytes (both-right (headAt b firstHead 2 numberSize) (headAt b secondHead 3 numberSize)
+      t) (omega arith))
 
-  value : (k : ℕ) → getD b 3 0 ≡ k → both (leb 30 (length b)) (valueHeads b) ≡ true
-      → part b 0 30
-      ≡ kind k ++ field 3 (be 8 (word b 7)) ++ field 4 (getD b 18 0 ∷ []) ++ field 5
-      (reportBytes (reportOf (part b 22 8)))
+  value : (k : ℕ) → getD b 3 0 ≡ k → both (leb (thirdAt + reportSize) (length b)) (valueHeads b) ≡ true
+      → part b 0 (thirdAt + reportSize)
+      ≡ kind k ++ field 3 (be numberSize (word b firstAt)) ++ field 4 (getD b secondAt 0 ∷ []) ++ field 5
+      (reportBytes (reportOf (part b thirdAt reportSize)))
   unfolding valueHeads
   value k e s =
-      let m : 30 ≤ length b = leb-true 30 (length b) (both-left (leb 30 (length b)) (valueHeads b) s) in
-      let t : valueHeads b ≡ true = both-right (leb 30 (length b)) (valueHeads b) s in
-      let t₁ = both-left (headAt b 4 3 8) (both (headAt b 15 4 1) (headAt b 19 5 8)) t in
-      let u = both-right (headAt b 4 3 8) (both (headAt b 15 4 1) (headAt b 19 5 8)) t in
-      let t₂ = both-left (headAt b 15 4 1) (headAt b 19 5 8) u in
-      let t₃ = both-right (headAt b 15 4 1) (headAt b 19 5 8) u in
-      part-add b 0 19 11
+      let m : thirdAt + reportSize ≤ length b = leb-true (thirdAt + reportSize) (length b)
+      (both-left (leb (thirdAt + reportSize) (length b)) (valueHeads b) s) in
+      let t : valueHeads b ≡ true = both-right (leb (thirdAt + reportSize) (length b)) (valueHeads b) s in
+      let t₁ = both-left (headAt b firstHead 3 numberSize) (both (headAt b secondHead 4 1)
+      (headAt b thirdHead 5 reportSize)) t in
+      let u = both-right (headAt b firstHead 3 numberSize) (both (headAt b secondHead 4 1)
+      (headAt b thirdHead 5 reportSize)) t in
+      let t₂ = both-left (headAt b secondHead 4 1) (headAt b thirdHead 5 reportSize) u in
+      let t₃ = both-right (headAt b secondHead 4 1) (headAt b thirdHead 5 reportSize) u in
+      part-add b 0 thirdHead (headSize + reportSize)
       ∙ ap₂ (λ (s t : List ℕ). s ++ t)
-      (part-add b 0 15 4 ∙ ap₂ (λ (s t : List ℕ). s ++ t) (one k 3 e t₁) (byte-there b 15 4 t₂ (omega arith)))
-      (field-there b 19 5 8 t₃ (omega arith) ∙ ap (λ (t : List ℕ). field 5 t)
-      (sym (report-bytes-back (part b 22 8) (part-bytes b 22 8 bytes) (length-part b 22 8 (omega arith)))))
+      (part-add b 0 secondHead (headSize + 1) ∙ ap₂ (λ (s t : List ℕ). s ++ t) (one k 3 e t₁)
+      (byte-there b secondHead 4 t₂ (omega arith)))
+      (field-there b thirdHead 5 reportSize t₃ (omega arith) ∙ ap (λ (t : List ℕ). field 5 t)
+      (sym (report-bytes-back (part b thirdAt reportSize) (part-bytes b thirdAt reportSize bytes)
+      (length-part b thirdAt reportSize (omega arith)))))
 
-  good : (k : ℕ) → getD b 3 0 ≡ k → both (leb (18 + 16 * n) (length b)) (goodHeads n b) ≡ true
-      → part b 0 (18 + 16 * n) ≡ kind k ++ field 3 (be 8 (word b 7)) ++ field 6 (viewAt n b)
+  good : (k : ℕ) → getD b 3 0 ≡ k → both (leb (goodHead + viewSize n) (length b)) (goodHeads n b) ≡ true
+      → part b 0 (goodHead + viewSize n) ≡ kind k ++ field 3 (be numberSize (word b firstAt)) ++ field 6 (viewAt n b)
   unfolding goodHeads
   good k e s =
-      let m : 18 + 16 * n ≤ length b = leb-true (18 + 16 * n) (length b)
-      (both-left (leb (18 + 16 * n) (length b)) (goodHeads n b) s) in
-      let t : goodHeads n b ≡ true = both-right (leb (18 + 16 * n) (length b)) (goodHeads n b) s in
-      let q : 18 + 16 * n ≡ 15 + (3 + 16 * n) = omega arith in
-      ap (λ (j : ℕ). part b 0 j) q ∙ part-add b 0 15 (3 + 16 * n)
-      ∙ ap₂ (λ (s t : List ℕ). s ++ t) (one k 3 e (both-left (headAt b 4 3 8) (headAt b 15 6 (16 * n)) t))
-      (field-there b 15 6 (16 * n) (both-right (headAt b 4 3 8) (headAt b 15 6 (16 * n)) t) (omega arith))
+      let m : goodHead + viewSize n ≤ length b = leb-true (goodHead + viewSize n) (length b)
+      (both-left (leb (goodHead + viewSize n) (length b)) (goodHeads n b) s) in
+      let t : goodHeads n b ≡ true = both-right (leb (goodHead + viewSize n) (length b)) (goodHeads n b) s in
+      let q : goodHead + viewSize n ≡ secondHead + (headSize + viewSize n) = omega arith in
+      ap (λ (j : ℕ). part b 0 j) q ∙ part-add b 0 secondHead (headSize + viewSize n)
+      ∙ ap₂ (λ (s t : List ℕ). s ++ t) (one k 3 e (both-left (headAt b firstHead 3 numberSize)
+      (headAt b secondHead 6 (viewSize n)) t))
+      (field-there b secondHead 6 (viewSize n) (both-right (headAt b firstHead 3 numberSize)
+      (headAt b secondHead 6 (viewSize n)) t) (omega arith))
 
-  good-length : both (leb (18 + 16 * n) (length b)) (goodHeads n b) ≡ true → length (viewAt n b) ≡ 16 * n
+  good-length : both (leb (goodHead + viewSize n) (length b)) (goodHeads n b) ≡ true → length (viewAt n b) ≡ viewSize n
   good-length s =
-      let m : 18 + 16 * n ≤ length b = leb-true (18 + 16 * n) (length b)
-      (both-left (leb (18 + 16 * n) (length b)) (goodHeads n b) s) in
-      length-part b 18 (16 * n) m
+      let m : goodHead + viewSize n ≤ length b = leb-true (goodHead + viewSize n) (length b)
+      (both-left (leb (goodHead + viewSize n) (length b)) (goodHeads n b) s) in
+      length-part b goodHead (viewSize n) m
 
   no-shape : (k : ℕ) → 8 ≤ k → shapeAs k n b ≡ false
   unfolding shapeAs
@@ -130,21 +148,27 @@ module _ (n : ℕ) (b : List ℕ) (bytes : Bytes b) (l : 15 ≤ length b) (h : h
   begins-as : (k : ℕ) → getD b 3 0 ≡ k → shapeAs k n b ≡ true → begins b (encode (saidAs k b) (viewAt n b)) ≡ true
   unfolding shapeAs encode
   begins-as zero e s = absurd (subst T (sym s) tt)
-  begins-as (suc zero) e s = begins-of b (encode (Read (word b 7)) (viewAt n b)) 15 refl (one 1 2 e s)
+  begins-as (suc zero) e s = begins-of b (encode (Read (word b firstAt)) (viewAt n b)) (firstAt + numberSize) refl
+      (one 1 2 e s)
   begins-as (suc (suc zero)) e s =
-      begins-of b (encode (ReadAnswer (word b 7) (word b 18)) (viewAt n b)) 26 refl (two 2 e s)
-  begins-as (suc (suc (suc zero))) e s = begins-of b (encode (Write (word b 7) (word b 18)) (viewAt n b)) 26 refl
+      begins-of b (encode (ReadAnswer (word b firstAt) (word b secondAt)) (viewAt n b)) (secondAt + numberSize) refl
+      (two 2 e s)
+  begins-as (suc (suc (suc zero))) e s = begins-of b (encode (Write (word b firstAt) (word b secondAt)) (viewAt n b))
+      (secondAt + numberSize) refl
       (two 3 e s)
   begins-as (suc (suc (suc (suc zero)))) e s =
-      begins-of b (encode (WriteAnswer (word b 7) (word b 18)) (viewAt n b)) 26 refl (two 4 e s)
-  begins-as (suc (suc (suc (suc (suc zero))))) e s = begins-of b (encode (Echo (word b 7)) (viewAt n b)) 15 refl
+      begins-of b (encode (WriteAnswer (word b firstAt) (word b secondAt)) (viewAt n b)) (secondAt + numberSize) refl
+      (two 4 e s)
+  begins-as (suc (suc (suc (suc (suc zero))))) e s = begins-of b (encode (Echo (word b firstAt)) (viewAt n b))
+      (firstAt + numberSize) refl
       (one 5 3 e s)
   begins-as (suc (suc (suc (suc (suc (suc zero)))))) e s =
-      begins-of b (encode (Value (word b 7) (getD b 18 0) (reportOf (part b 22 8))) (viewAt n b)) 30 refl
+      begins-of b (encode (Value (word b firstAt) (getD b secondAt 0) (reportOf (part b thirdAt reportSize)))
+      (viewAt n b)) (thirdAt + reportSize) refl
       (value 6 e s)
   begins-as (suc (suc (suc (suc (suc (suc (suc zero))))))) e s =
-      let f : length (viewAt n b) ≡ 16 * n = good-length s in
-      begins-of b (encode (Good (word b 7)) (viewAt n b)) (18 + 16 * n) (omega arith) (good 7 e s)
+      let f : length (viewAt n b) ≡ viewSize n = good-length s in
+      begins-of b (encode (Good (word b firstAt)) (viewAt n b)) (goodHead + viewSize n) (omega arith) (good 7 e s)
   begins-as (suc (suc (suc (suc (suc (suc (suc (suc k)))))))) e s =
       true-false (shapeAs (suc (suc (suc (suc (suc (suc (suc (suc k)))))))) n b) s
       (no-shape (suc (suc (suc (suc (suc (suc (suc (suc k)))))))) (omega arith))
@@ -152,10 +176,11 @@ module _ (n : ℕ) (b : List ℕ) (bytes : Bytes b) (l : 15 ≤ length b) (h : h
 pub shape-begins : (n : ℕ) (b : List ℕ) → Bytes b → shape n b ≡ true → begins b (encode (said b) (viewAt n b)) ≡ true
 unfolding shape said
 shape-begins n b bytes s =
-    let l : 15 ≤ length b = leb-true 15 (length b) (both-left (leb 15 (length b))
+    let l : firstAt + numberSize ≤ length b = leb-true (firstAt + numberSize) (length b)
+    (both-left (leb (firstAt + numberSize) (length b))
     (both (headAt b 0 1 1) (shapeAs (getD b 3 0) n b)) s) in
     let t : both (headAt b 0 1 1) (shapeAs (getD b 3 0) n b) ≡ true =
-    both-right (leb 15 (length b)) (both (headAt b 0 1 1) (shapeAs (getD b 3 0) n b)) s in
+    both-right (leb (firstAt + numberSize) (length b)) (both (headAt b 0 1 1) (shapeAs (getD b 3 0) n b)) s in
     begins-as n b bytes l (both-left (headAt b 0 1 1) (shapeAs (getD b 3 0) n b) t) (getD b 3 0) refl
     (both-right (headAt b 0 1 1) (shapeAs (getD b 3 0) n b) t)
 

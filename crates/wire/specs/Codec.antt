@@ -1,6 +1,6 @@
 -- Reading and writing one message, for n nodes. Reading goes back from writing: bytes are read as the message whose
 -- encoding they are, and as nothing if they are no allowed message's.
-use Prim.Native.Nat.{ℕ, _+_, _-_, _*_}
+use Prim.Native.Nat.{ℕ, _+_, _-_}
 use mathlib.Core.Bool.{Bool, true, false}
 use mathlib.Core.List.{List, []}
 use lib.ListN.{length, take, drop, getD}
@@ -9,28 +9,28 @@ use Rattle.octets.specs.Answer.{Answer, result, refused}
 use Rattle.octets.specs.Test.{pick, both}
 use Rattle.octets.specs.Bytes.{part, put, same}
 use Rattle.octets.specs.Word.{word}
-use Rattle.view.specs.Size.{isSize, entrySize, reportSize}
+use Rattle.view.specs.Size.{isSize, reportSize, viewSize}
 use Rattle.view.specs.Report.{reportOf}
-use Rattle.wire.specs.Layout.{encode, allowed}
+use Rattle.wire.specs.Layout.{encode, allowed, firstAt, secondAt, thirdAt, goodHead}
 use Rattle.wire.specs.declared.Message.{Message}
 use Rattle.wire.specs.declared.Message.the-variants.{Read, ReadAnswer, Write, WriteAnswer, Echo, Value, Good}
 
 -- the one message that bytes of kind k can begin with, by the numbers at the layout's places, and the view's place
 abbrev pub saidAs : ℕ → List ℕ → Message
 saidAs k b =
-    pick (eqb k 1) (Read (word b 7))
-    (pick (eqb k 2) (ReadAnswer (word b 7) (word b 18))
-    (pick (eqb k 3) (Write (word b 7) (word b 18))
-    (pick (eqb k 4) (WriteAnswer (word b 7) (word b 18))
-    (pick (eqb k 5) (Echo (word b 7))
-    (pick (eqb k 6) (Value (word b 7) (getD b 18 0) (reportOf (part b 22 reportSize)))
-    (Good (word b 7)))))))
+    pick (eqb k 1) (Read (word b firstAt))
+    (pick (eqb k 2) (ReadAnswer (word b firstAt) (word b secondAt))
+    (pick (eqb k 3) (Write (word b firstAt) (word b secondAt))
+    (pick (eqb k 4) (WriteAnswer (word b firstAt) (word b secondAt))
+    (pick (eqb k 5) (Echo (word b firstAt))
+    (pick (eqb k 6) (Value (word b firstAt) (getD b secondAt 0) (reportOf (part b thirdAt reportSize)))
+    (Good (word b firstAt)))))))
 
 unfoldable pub said : List ℕ → Message
 said b = saidAs (getD b 3 0) b
 
 abbrev pub viewAt : ℕ → List ℕ → List ℕ
-viewAt n b = part b 18 (entrySize * n)
+viewAt n b = part b goodHead (viewSize n)
 
 -- whether b begins with e
 unfoldable pub begins : List ℕ → List ℕ → Bool
@@ -68,11 +68,11 @@ viewIn m v = pick (isGood m) v []
 
 -- where it lies, if the message lies at p (a block of memory and an offset in it): an empty one lies at p itself
 abbrev pub addressIn : Message → ℕ × ℕ → ℕ × ℕ
-addressIn m p = pick (isGood m) (p .0, 18 + p .1) p
+addressIn m p = pick (isGood m) (p .0, goodHead + p .1) p
 
--- the view in bytes that were read, by the answer: what stands from byte 18 on, if they are a good message
+-- the view in bytes that were read, by the answer: what stands after its head, if they are a good message
 abbrev pub viewRead : List ℕ → Answer Message → List ℕ
-viewRead b (result m) = viewIn m (drop 18 b)
+viewRead b (result m) = viewIn m (drop goodHead b)
 viewRead b (refused c) = []
 
 abbrev pub addressRead : Answer Message → ℕ × ℕ → ℕ × ℕ
@@ -85,9 +85,9 @@ viewPart n b = viewRead b (decode n b)
 unfoldable pub viewAddress : ℕ → List ℕ → ℕ × ℕ → ℕ × ℕ
 viewAddress n b p = addressRead (decode n b) p
 
--- the view in the message at the front: what stands from byte 18 to that message's end, if it is a good one
+-- the view in the message at the front: what stands from there to that message's end, if it is a good one
 abbrev pub viewFound : List ℕ → Answer (Message × ℕ) → List ℕ
-viewFound b (result p) = viewIn (p .0) (part b 18 (p .1 - 18))
+viewFound b (result p) = viewIn (p .0) (part b goodHead (p .1 - goodHead))
 viewFound b (refused c) = []
 
 abbrev pub addressFound : Answer (Message × ℕ) → ℕ × ℕ → ℕ × ℕ

@@ -1,6 +1,6 @@
 -- What is claimed of reading and writing one message, each claim under a name; proofs/Laws proves them. They hold for
 -- every n.
-use Prim.Native.Nat.{ℕ, _+_, _*_, _≤_}
+use Prim.Native.Nat.{ℕ, _+_, _≤_}
 use mathlib.Core.Path.{_≡_}
 use mathlib.Core.Bool.{true, false}
 use mathlib.Core.List.{List, [], _++_}
@@ -8,8 +8,8 @@ use mathlib.Core.Logic.{_↔_}
 use lib.ListN.{length}
 use Rattle.octets.specs.Answer.{result, refused}
 use Rattle.octets.specs.Bytes.{part}
-use Rattle.view.specs.Size.{isSize}
-use Rattle.wire.specs.Layout.{encode, allowed, size}
+use Rattle.view.specs.Size.{isSize, viewSize}
+use Rattle.wire.specs.Layout.{encode, allowed, size, goodHead}
 use Rattle.wire.specs.Codec.{front, decode, viewIn, viewPart, viewAddress, frontPart, frontAddress}
 use Rattle.wire.specs.declared.Message.{Message}
 use Rattle.wire.specs.declared.Message.the-variants.{Good}
@@ -56,17 +56,17 @@ Injective = (n : ℕ) (m m′ : Message) (v v′ : List ℕ) → isSize n ≡ tr
 abbrev pub Lengths : Type 0
 Lengths = (n : ℕ) (m : Message) (v : List ℕ) → allowed n m v ≡ true → length (encode m v) ≡ size n m
 
--- The view of a good message is its bytes 18 to 18 + 16 n, in the caller's memory. With bytes after the message it is
+-- The view of a good message is what stands after its head, in the caller's memory. With bytes after the message it is
 -- the same part.
 abbrev pub ViewPlace : Type 0
 ViewPlace = (n t : ℕ) (b : List ℕ) → decode n b ≡ result (Good t)
-    → (length b ≡ 18 + 16 * n) × (viewPart n b ≡ part b 18 (16 * n))
-    × ((p : ℕ × ℕ) → viewAddress n b p ≡ (p .0, 18 + p .1))
+    → (length b ≡ goodHead + viewSize n) × (viewPart n b ≡ part b goodHead (viewSize n))
+    × ((p : ℕ × ℕ) → viewAddress n b p ≡ (p .0, goodHead + p .1))
 
 abbrev pub FrontViewPlace : Type 0
 FrontViewPlace = (n t k : ℕ) (b : List ℕ) → front n b ≡ result (Good t, k)
-    → (k ≡ 18 + 16 * n) × (k ≤ length b) × (frontPart n b ≡ part b 18 (16 * n))
-    × ((p : ℕ × ℕ) → frontAddress n b p ≡ (p .0, 18 + p .1))
+    → (k ≡ goodHead + viewSize n) × (k ≤ length b) × (frontPart n b ≡ part b goodHead (viewSize n))
+    × ((p : ℕ × ℕ) → frontAddress n b p ≡ (p .0, goodHead + p .1))
 
 -- Bytes that are refused, and messages of another kind, have the empty view.
 abbrev pub ViewOnlyGood : Type 0

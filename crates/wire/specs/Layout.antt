@@ -1,13 +1,13 @@
 -- Document 01's layout of a message: tagged fields, each a one-byte mark, a two-byte length and the contents, in
 -- ascending order of their marks; and the numbers that it allows.
-use Prim.Native.Nat.{ℕ, _+_, _*_}
+use Prim.Native.Nat.{ℕ, _+_}
 use mathlib.Core.Bool.{Bool}
 use mathlib.Core.List.{List, [], _∷_, _++_}
 use lib.ListN.{length}
 use lib.Dec.{leb, eqb}
 use Rattle.octets.specs.Test.{both}
 use Rattle.octets.specs.Bytes.{be}
-use Rattle.view.specs.Size.{limit, entrySize}
+use Rattle.view.specs.Size.{nodes, limit, tagSize, reportSize, viewSize}
 use Rattle.view.specs.Report.{reportBytes}
 use Rattle.view.specs.View.{viewOk}
 use Rattle.view.specs.declared.Report.{Report}
@@ -17,15 +17,22 @@ use Rattle.wire.specs.declared.Message.the-variants.{Read, ReadAnswer, W
 abbrev pub field : ℕ → List ℕ → List ℕ
 field mark contents = (mark ∷ be 2 (length contents)) ++ contents
 
+-- the bytes of a field's head, and of a request number or a tag
+abbrev pub headSize : ℕ
+headSize = 3
+
+abbrev pub numberSize : ℕ
+numberSize = tagSize
+
 -- the six fields
 abbrev pub kind : ℕ → List ℕ
 kind k = field 1 (k ∷ [])
 
 abbrev pub request : ℕ → List ℕ
-request r = field 2 (be 8 r)
+request r = field 2 (be numberSize r)
 
 abbrev pub tag : ℕ → List ℕ
-tag t = field 3 (be 8 t)
+tag t = field 3 (be numberSize t)
 
 abbrev pub writer : ℕ → List ℕ
 writer w = field 4 (w ∷ [])
@@ -61,14 +68,41 @@ allowed n (Write r t) v = both (isRequest r) (isTag t)
 allowed n (WriteAnswer r t) v = both (isRequest r) (isTag t)
 allowed n (Echo t) v = both (leb 1 t) (isTag t)
 allowed n (Value t w p) v = both (both (leb 1 t) (isTag t)) (both (leb 1 w) (leb w n))
-allowed n (Good t) v = both (eqb (length v) (entrySize * n)) (both (isTag t) (viewOk n t v))
+allowed n (Good t) v = both (eqb (length v) (viewSize n)) (both (isTag t) (viewOk n t v))
+
+-- where the fields after the kind stand, their heads and their contents: the first, which is a number; the second; and
+-- the third of a value, whose second is its writer
+abbrev pub firstHead : ℕ
+firstHead = headSize + 1
+
+abbrev pub firstAt : ℕ
+firstAt = firstHead + headSize
+
+abbrev pub secondHead : ℕ
+secondHead = firstAt + numberSize
+
+abbrev pub secondAt : ℕ
+secondAt = secondHead + headSize
+
+abbrev pub thirdHead : ℕ
+thirdHead = secondAt + 1
+
+abbrev pub thirdAt : ℕ
+thirdAt = thirdHead + headSize
+
+-- the bytes before the view of a good message, and the bytes of the longest message, which is a good one
+abbrev pub goodHead : ℕ
+goodHead = secondAt
+
+abbrev pub longest : ℕ
+longest = goodHead + viewSize nodes
 
 -- the seven lengths
 unfoldable pub size : ℕ → Message → ℕ
-size n (Read r) = 15
-size n (ReadAnswer r t) = 26
-size n (Write r t) = 26
-size n (WriteAnswer r t) = 26
-size n (Echo t) = 15
-size n (Value t w p) = 30
-size n (Good t) = 18 + entrySize * n
+size n (Read r) = firstAt + numberSize
+size n (ReadAnswer r t) = secondAt + numberSize
+size n (Write r t) = secondAt + numberSize
+size n (WriteAnswer r t) = secondAt + numberSize
+size n (Echo t) = firstAt + numberSize
+size n (Value t w p) = thirdAt + reportSize
+size n (Good t) = goodHead + viewSize n

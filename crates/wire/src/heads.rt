@@ -1,10 +1,17 @@
 // The message at the front of bytes: the reader's tests of the layout.
 use crate::ECHO;
+use crate::FIRST;
+use crate::FIRST_HEAD;
 use crate::Found;
 use crate::GOOD_HEAD;
 use crate::Message;
+use crate::NUMBER;
 use crate::READ;
 use crate::READ_ANSWER;
+use crate::SECOND;
+use crate::SECOND_HEAD;
+use crate::THIRD;
+use crate::THIRD_HEAD;
 use crate::VALUE;
 use crate::WRITE;
 use crate::WRITE_ANSWER;
@@ -14,19 +21,26 @@ use crate::is_request;
 use crate::is_sent;
 use octets::and;
 use view::ENTRY;
+use view::REPORT;
 ghost use mathlib.Core.Path.{_≡_};
 ghost use Prim.Native.Nat.{_+_, _≤_};
 ghost use lib.ListN.{length, getD};
 ghost use Rattle.octets.specs.Answer.{result, refused};
 ghost use Rattle.octets.specs.Test.{pick, both};
-ghost use Rattle.wire.specs.Layout.{allowed, size};
+ghost use Rattle.view.specs.Size.{nodes, reportSize};
+ghost use Rattle.wire.specs.Layout.{allowed, size, headSize, numberSize, firstAt, secondAt, thirdAt, goodHead};
 ghost use Rattle.wire.specs.Codec.{said, viewAt};
 ghost use Rattle.wire.specs.Shape.{headAt, twoHeads, valueHeads, goodHeads, shapeAs, shape};
 ghost use Rattle.wire.specs.Outcome.{found};
 
+// The length in the head of a number, and of a report.
+const NUMBER_LENGTH: u16 = NUMBER as u16;
+
+const REPORT_LENGTH: u16 = REPORT as u16;
+
 // Whether a field's mark and length stand at a place.
 fn has_head(b: &[u8], at: usize, mark: u8, size: u16) -> bool
-    requires { ⌜ at + 3 ≤ length (now b) ⌝ }
+    requires { ⌜ at + headSize ≤ length (now b) ⌝ }
     ensures { λ r. ⌜ r ≡ headAt (now (b .entry)) at mark size ⌝ }
 {
     let d = octets::digits2(size);
@@ -34,33 +48,42 @@ fn has_head(b: &[u8], at: usize, mark: u8, size: u16) -> bool
 }
 
 fn has_two(b: &[u8]) -> bool
-    requires { ⌜ 26 ≤ length (now b) ⌝ }
+    requires { ⌜ secondAt + numberSize ≤ length (now b) ⌝ }
     ensures { λ r. ⌜ r ≡ twoHeads (now (b .entry)) ⌝ }
 {
-    and(has_head(b, 4, 2, 8), has_head(b, 15, 3, 8))
+    and(
+        has_head(b, FIRST_HEAD, 2, NUMBER_LENGTH),
+        has_head(b, SECOND_HEAD, 3, NUMBER_LENGTH),
+    )
 }
 
 fn has_value(b: &[u8]) -> bool
-    requires { ⌜ 30 ≤ length (now b) ⌝ }
+    requires { ⌜ thirdAt + reportSize ≤ length (now b) ⌝ }
     ensures { λ r. ⌜ r ≡ valueHeads (now (b .entry)) ⌝ }
 {
     and(
-        has_head(b, 4, 3, 8),
-        and(has_head(b, 15, 4, 1), has_head(b, 19, 5, 8)),
+        has_head(b, FIRST_HEAD, 3, NUMBER_LENGTH),
+        and(
+            has_head(b, SECOND_HEAD, 4, 1),
+            has_head(b, THIRD_HEAD, 5, REPORT_LENGTH),
+        ),
     )
 }
 
 fn has_good(n: usize, b: &[u8]) -> bool
-    requires { ⌜ (n ≤ 16) × (18 ≤ length (now b)) ⌝ }
+    requires { ⌜ (n ≤ nodes) × (goodHead ≤ length (now b)) ⌝ }
     ensures { λ r. ⌜ r ≡ goodHeads n (now (b .entry)) ⌝ }
 {
-    and(has_head(b, 4, 3, 8), has_head(b, 15, 6, (ENTRY * n) as u16))
+    and(
+        has_head(b, FIRST_HEAD, 3, NUMBER_LENGTH),
+        has_head(b, SECOND_HEAD, 6, (ENTRY * n) as u16),
+    )
 }
 
 // The message of the kind that byte 3 says and its length, if the fields of that kind stand in b. Numbers are judged
 // before the message is made of them, so that it is written once.
 fn of_kind(n: usize, b: &[u8]) -> Found
-    requires { ⌜ (n ≤ 16) × (15 ≤ length (now b)) ⌝ }
+    requires { ⌜ (n ≤ nodes) × (firstAt + numberSize ≤ length (now b)) ⌝ }
     ensures { λ r. ⌜ found r ≡ pick (both (shapeAs (getD (now (b .entry)) 3 0) n (now (b .entry)))
         (allowed n (said (now (b .entry))) (viewAt n (now (b .entry)))))
         (result (said (now (b .entry)), size n (said (now (b .entry))))) (refused 7) ⌝ }
@@ -68,8 +91,11 @@ fn of_kind(n: usize, b: &[u8]) -> Found
     let kind = b[3];
     match kind {
         1 => {
-            let request = octets::get_word(b, 7);
-            if and(has_head(b, 4, 2, 8), is_request(request)) {
+            let request = octets::get_word(b, FIRST);
+            if and(
+                has_head(b, FIRST_HEAD, 2, NUMBER_LENGTH),
+                is_request(request),
+            ) {
                 Found::At(Message::Read { request: request }, READ)
             } else {
                 Found::Refused(7)
@@ -77,8 +103,8 @@ fn of_kind(n: usize, b: &[u8]) -> Found
         }
         2 => {
             if READ_ANSWER <= b.len() {
-                let request = octets::get_word(b, 7);
-                let tag = octets::get_word(b, 18);
+                let request = octets::get_word(b, FIRST);
+                let tag = octets::get_word(b, SECOND);
                 if and(has_two(b), is_pair(request, tag)) {
                     Found::At(
                         Message::ReadAnswer {
@@ -96,8 +122,8 @@ fn of_kind(n: usize, b: &[u8]) -> Found
         }
         3 => {
             if WRITE <= b.len() {
-                let request = octets::get_word(b, 7);
-                let tag = octets::get_word(b, 18);
+                let request = octets::get_word(b, FIRST);
+                let tag = octets::get_word(b, SECOND);
                 if and(has_two(b), is_pair(request, tag)) {
                     Found::At(
                         Message::Write {
@@ -115,8 +141,8 @@ fn of_kind(n: usize, b: &[u8]) -> Found
         }
         4 => {
             if WRITE_ANSWER <= b.len() {
-                let request = octets::get_word(b, 7);
-                let tag = octets::get_word(b, 18);
+                let request = octets::get_word(b, FIRST);
+                let tag = octets::get_word(b, SECOND);
                 if and(has_two(b), is_pair(request, tag)) {
                     Found::At(
                         Message::WriteAnswer {
@@ -133,8 +159,8 @@ fn of_kind(n: usize, b: &[u8]) -> Found
             }
         }
         5 => {
-            let tag = octets::get_word(b, 7);
-            if and(has_head(b, 4, 3, 8), is_request(tag)) {
+            let tag = octets::get_word(b, FIRST);
+            if and(has_head(b, FIRST_HEAD, 3, NUMBER_LENGTH), is_request(tag)) {
                 Found::At(Message::Echo { tag: tag }, ECHO)
             } else {
                 Found::Refused(7)
@@ -142,14 +168,14 @@ fn of_kind(n: usize, b: &[u8]) -> Found
         }
         6 => {
             if VALUE <= b.len() {
-                let tag = octets::get_word(b, 7);
-                let writer = b[18] as usize;
+                let tag = octets::get_word(b, FIRST);
+                let writer = b[SECOND] as usize;
                 if and(has_value(b), is_sent(n, tag, writer)) {
                     Found::At(
                         Message::Value {
                             tag: tag,
                             writer: writer,
-                            report: view::read_report(&b[22..30]),
+                            report: view::read_report(&b[THIRD..VALUE]),
                         },
                         VALUE,
                     )
@@ -163,8 +189,8 @@ fn of_kind(n: usize, b: &[u8]) -> Found
         7 => {
             let end = GOOD_HEAD + ENTRY * n;
             if end <= b.len() {
-                let tag = octets::get_word(b, 7);
-                if and(has_good(n, b), is_held(n, tag, &b[18..end])) {
+                let tag = octets::get_word(b, FIRST);
+                if and(has_good(n, b), is_held(n, tag, &b[GOOD_HEAD..end])) {
                     Found::At(Message::Good { tag: tag }, end)
                 } else {
                     Found::Refused(7)
@@ -179,7 +205,7 @@ fn of_kind(n: usize, b: &[u8]) -> Found
 
 // The message at the front of b and its length.
 pub(crate) fn at_front(n: usize, b: &[u8]) -> Found
-    requires { ⌜ n ≤ 16 ⌝ }
+    requires { ⌜ n ≤ nodes ⌝ }
     ensures { λ r. ⌜ found r ≡ pick (both (shape n (now (b .entry)))
         (allowed n (said (now (b .entry))) (viewAt n (now (b .entry)))))
         (result (said (now (b .entry)), size n (said (now (b .entry))))) (refused 7) ⌝ }

@@ -8,7 +8,10 @@ use octets::and;
 use view::ENTRY;
 use view::LIMIT;
 use view::NODES;
+use view::REPORT;
 use view::Report;
+use view::TAG;
+use view::VIEW;
 use views::found_view;
 use views::parsed_view;
 ghost use mathlib.Core.Path.{_≡_};
@@ -17,27 +20,48 @@ ghost use lib.ListN.{length};
 ghost use lib.Dec.{leb};
 ghost use denote.Ref.{ptr};
 ghost use Rattle.octets.specs.Test.{both};
-ghost use Rattle.view.specs.Size.{isSize};
+ghost use Rattle.view.specs.Size.{isSize, nodes};
 ghost use Rattle.wire.specs.Layout.{encode, isRequest, isTag, allowed};
 ghost use Rattle.wire.specs.Codec.{front, decode, answer, after};
 ghost use Rattle.wire.specs.Codec.{viewPart, viewAddress, frontPart, frontAddress};
 ghost use Rattle.wire.specs.declared.Message.the-variants.{Good};
 ghost use Rattle.wire.specs.Outcome.{parsed, found, written};
 
-// The bytes of each kind of message; a good message has a view after its head.
-pub const READ: usize = 15;
+// The bytes of a field's head, and of a request number or a tag.
+const HEAD: usize = 3;
 
-pub const READ_ANSWER: usize = 26;
+const NUMBER: usize = TAG;
 
-pub const WRITE: usize = 26;
+// Where the fields after the kind stand, their heads and their contents: the first, which is a number; the second; and
+// the third of a value, whose second is its writer.
+const FIRST_HEAD: usize = HEAD + 1;
 
-pub const WRITE_ANSWER: usize = 26;
+const FIRST: usize = FIRST_HEAD + HEAD;
 
-pub const ECHO: usize = 15;
+const SECOND_HEAD: usize = FIRST + NUMBER;
 
-pub const VALUE: usize = 30;
+const SECOND: usize = SECOND_HEAD + HEAD;
 
-pub const GOOD_HEAD: usize = 18;
+const THIRD_HEAD: usize = SECOND + 1;
+
+const THIRD: usize = THIRD_HEAD + HEAD;
+
+// The bytes of each kind of message, and of the longest one; a good message has a view after its head.
+pub const READ: usize = FIRST + NUMBER;
+
+pub const READ_ANSWER: usize = SECOND + NUMBER;
+
+pub const WRITE: usize = SECOND + NUMBER;
+
+pub const WRITE_ANSWER: usize = SECOND + NUMBER;
+
+pub const ECHO: usize = FIRST + NUMBER;
+
+pub const VALUE: usize = THIRD + REPORT;
+
+pub const GOOD_HEAD: usize = SECOND;
+
+pub const LONGEST: usize = GOOD_HEAD + VIEW;
 
 // What nodes send to each other, one case for each of document 01's seven kinds.
 // The view of a good message stays beside it.
@@ -126,7 +150,7 @@ pub(crate) fn is_sent(n: usize, tag: u64, writer: usize) -> bool
 }
 
 pub(crate) fn is_held(n: usize, tag: u64, view: &[u8]) -> bool
-    requires { ⌜ n ≤ 16 ⌝ }
+    requires { ⌜ n ≤ nodes ⌝ }
     ensures { λ r. ⌜ r ≡ allowed n (Good tag) (now (view .entry)) ⌝ }
 {
     if view.len() == ENTRY * n {

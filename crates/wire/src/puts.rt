@@ -1,19 +1,24 @@
 // Writing the fields of a message at the front of a buffer: its length, or 12 where there is no room.
+use crate::FIRST;
 use crate::GOOD_HEAD;
 use crate::READ;
 use crate::READ_ANSWER;
+use crate::SECOND;
+use crate::SECOND_HEAD;
+use crate::THIRD;
 use crate::VALUE;
 use crate::Written;
 use view::Report;
 ghost use mathlib.Core.Path.{_≡_};
 ghost use mathlib.Core.List.{[], _∷_, _++_};
-ghost use Prim.Native.Nat.{_≤_};
+ghost use Prim.Native.Nat.{_+_, _≤_};
 ghost use lib.ListN.{length};
 ghost use lib.Dec.{leb};
 ghost use Rattle.octets.specs.Answer.{result, refused};
 ghost use Rattle.octets.specs.Test.{pick};
 ghost use Rattle.octets.specs.Bytes.{be, put};
-ghost use Rattle.wire.specs.Layout.{field, kind, tag, request, writer, report, view};
+ghost use Rattle.view.specs.Size.{nodes, viewSize};
+ghost use Rattle.wire.specs.Layout.{field, kind, tag, request, writer, report, view, numberSize, firstAt};
 ghost use Rattle.wire.specs.Codec.{after};
 ghost use Rattle.wire.specs.Outcome.{written};
 
@@ -33,17 +38,17 @@ fn head_word(first: u8, x: u8, mark: u8) -> u64
 
 // Writes a message of two fields: its kind and a number.
 fn put_one(out: &mut [u8], k: u8, mark: u8, x: u64)
-    requires { ⌜ 15 ≤ length (now out) ⌝ }
-    ensures { λ _. ⌜ now (out .exit) ≡ put (now (out .entry)) 0 (kind k ++ field mark (be 8 x)) ⌝ }
+    requires { ⌜ firstAt + numberSize ≤ length (now out) ⌝ }
+    ensures { λ _. ⌜ now (out .exit) ≡ put (now (out .entry)) 0 (kind k ++ field mark (be numberSize x)) ⌝ }
 {
     octets::put_word(out, 0, head_word(1, k, mark));
-    octets::put_word(out, 7, x);
+    octets::put_word(out, FIRST, x);
 }
 
 pub(crate) fn one(out: &mut [u8], k: u8, mark: u8, x: u64) -> Written
-    ensures { λ r. ⌜ (written r ≡ pick (leb (length (kind k ++ field mark (be 8 x))) (length (now (out .entry))))
-        (result (length (kind k ++ field mark (be 8 x)))) (refused 12))
-        × (now (out .exit) ≡ after (written r) (kind k ++ field mark (be 8 x)) (now (out .entry))) ⌝ }
+    ensures { λ r. ⌜ (written r ≡ pick (leb (length (kind k ++ field mark (be numberSize x)))
+        (length (now (out .entry)))) (result (length (kind k ++ field mark (be numberSize x)))) (refused 12))
+        × (now (out .exit) ≡ after (written r) (kind k ++ field mark (be numberSize x)) (now (out .entry))) ⌝ }
 {
     if READ <= out.len() {
         put_one(out, k, mark, x);
@@ -60,8 +65,8 @@ pub(crate) fn two(out: &mut [u8], k: u8, r: u64, t: u64) -> Written
 {
     if READ_ANSWER <= out.len() {
         put_one(out, k, 2, r);
-        octets::put_word(out, 15, TAG_HEAD);
-        octets::put_word(out, 18, t);
+        octets::put_word(out, SECOND_HEAD, TAG_HEAD);
+        octets::put_word(out, SECOND, t);
         Written::Length(READ_ANSWER)
     } else {
         Written::Refused(12)
@@ -75,9 +80,9 @@ pub(crate) fn value(out: &mut [u8], t: u64, w: u8, p: Report) -> Written
 {
     if VALUE <= out.len() {
         put_one(out, 6, 3, t);
-        octets::put_word(out, 15, head_word(4, w, 5));
+        octets::put_word(out, SECOND_HEAD, head_word(4, w, 5));
         let d = view::report_bytes(p);
-        octets::put_bytes(out, 22, &d);
+        octets::put_bytes(out, THIRD, &d);
         Written::Length(VALUE)
     } else {
         Written::Refused(12)
@@ -85,7 +90,7 @@ pub(crate) fn value(out: &mut [u8], t: u64, w: u8, p: Report) -> Written
 }
 
 pub(crate) fn good(out: &mut [u8], t: u64, v: &[u8]) -> Written
-    requires { ⌜ length (now v) ≤ 256 ⌝ }
+    requires { ⌜ length (now v) ≤ viewSize nodes ⌝ }
     ensures { λ r. ⌜ (written r ≡ pick (leb (length (kind 7 ++ tag t ++ view (now (v .entry)))) (length (now (out .entry))))
         (result (length (kind 7 ++ tag t ++ view (now (v .entry))))) (refused 12))
         × (now (out .exit) ≡ after (written r) (kind 7 ++ tag t ++ view (now (v .entry))) (now (out .entry))) ⌝ }
@@ -94,8 +99,8 @@ pub(crate) fn good(out: &mut [u8], t: u64, v: &[u8]) -> Written
     if GOOD_HEAD + len <= out.len() {
         put_one(out, 7, 3, t);
         let h = [6u8, (len / 256) as u8, (len % 256) as u8];
-        octets::put_bytes(out, 15, &h);
-        octets::put_bytes(out, 18, v);
+        octets::put_bytes(out, SECOND_HEAD, &h);
+        octets::put_bytes(out, GOOD_HEAD, v);
         Written::Length(GOOD_HEAD + len)
     } else {
         Written::Refused(12)

@@ -9,6 +9,7 @@ ghost use Prim.Native.Nat.{ℕ, _≤_};
 ghost use denote.Ref.{ptr};
 ghost use lib.ListN.{length};
 ghost use Rattle.octets.specs.Answer.{result};
+ghost use Rattle.wire.specs.Layout.{goodHead};
 ghost use Rattle.wire.specs.Codec.{isGood, viewRead, addressRead, viewFound, addressFound};
 ghost use Rattle.wire.specs.declared.Message.the-variants.{Good};
 ghost use Rattle.wire.specs.Outcome.{parsed, found};
@@ -34,7 +35,7 @@ fn is_good(m: Message) -> bool
 
 // The view in bytes that are one message.
 pub fn parsed_view(b: &[u8], p: Parsed) -> &[u8]
-    requires { ⌜ ((t : ℕ) → parsed p ≡ result (Good t) → 18 ≤ length (now b)) ⌝ }
+    requires { ⌜ ((t : ℕ) → parsed p ≡ result (Good t) → goodHead ≤ length (now b)) ⌝ }
     ensures { λ r. ⌜ (now r ≡ viewRead (now (b .entry)) (parsed p))
         × (ptr r ≡ addressRead (parsed p) (ptr (b .entry))) ⌝ }
 {
@@ -46,7 +47,7 @@ pub fn parsed_view(b: &[u8], p: Parsed) -> &[u8]
 
 // The view in the message at the front of bytes.
 pub fn found_view(b: &[u8], f: Found) -> &[u8]
-    requires { ⌜ ((t k : ℕ) → found f ≡ result (Good t, k) → (18 ≤ k) × (k ≤ length (now b))) ⌝ }
+    requires { ⌜ ((t k : ℕ) → found f ≡ result (Good t, k) → (goodHead ≤ k) × (k ≤ length (now b))) ⌝ }
     ensures { λ r. ⌜ (now r ≡ viewFound (now (b .entry)) (found f))
         × (ptr r ≡ addressFound (found f) (ptr (b .entry))) ⌝ }
 {

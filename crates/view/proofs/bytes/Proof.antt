@@ -1,4 +1,5 @@
 use borrow.Author.Needs.{needs}
+use Rattle.view.specs.Size.{nodes, viewSize}
 use Rattle.view.proofs.bytes.Statement.{statement}
 use Rattle.view.proofs.bytes.Tie as tie
 use Rattle.view.proofs.bytes.Reads as reads
@@ -19,7 +20,8 @@ write-view-requires c κs = search needs
 returns : tie.Need-returns
 returns c =
     let v = c .before .before .before .args .v in
-    c .before .write-view .ensures ∙ put-over (replicate 256 0) (viewBytes 16 v) (length-viewBytes 16 v)
+    c .before .write-view .ensures ∙ put-over (replicate (viewSize nodes) 0) (viewBytes nodes v)
+    (length-viewBytes nodes v)
 
 pub bytes-spec : {M : Type 1} → statement M
 bytes-spec = tie.close (tie.spec slice-aggregate-write-view write-view-requires returns)

@@ -8,6 +8,7 @@ use lib.ListN.{set, drop, replicate}
 use Rattle.octets.specs.Loop.{tab}
 use Rattle.octets.proofs.Table.{tab-set, drop-replicate}
 use Rattle.octets.proofs.Lent.{lent}
+use Rattle.view.specs.Size.{nodes, tagSize, reportSize, entrySize}
 use Rattle.view.specs.Report.{noReport, reportOf}
 use Rattle.view.specs.View.{viewOf, tagAt, reportAt}
 use Rattle.view.specs.declared.Report.{Report}
@@ -16,29 +17,30 @@ use Rattle.view.proofs.read_view.Statement.{statement}
 use Rattle.view.proofs.read_view.Tie as tie
 
 abbrev Inv-loop : tie.InvT-loop
-Inv-loop n b tags₀ reports₀ i₀ tags reports i = (i ≤ n) × (tags ≡ tab i (tagAt b) ++ drop i (replicate 16 0)) ×
-    (reports ≡ tab i (reportAt b) ++ drop i (replicate 16 noReport))
+Inv-loop n b tags₀ reports₀ i₀ tags reports i = (i ≤ n) × (tags ≡ tab i (tagAt b) ++ drop i (replicate nodes 0)) ×
+    (reports ≡ tab i (reportAt b) ++ drop i (replicate nodes noReport))
 
 abbrev μ-loop : tie.MeasureT-loop
 μ-loop n b tags₀ reports₀ i₀ tags reports i = n - i
 
 loop-holds : tie.Need-loop-holds Inv-loop μ-loop
 unfolding tab
-loop-holds c = (search needs, refl, ap (λ (p : Report). replicate 16 p) (c .none .ensures))
+loop-holds c = (search needs, refl, ap (λ (p : Report). replicate nodes p) (c .none .ensures))
 
 loop-again : tie.Need-loop-again Inv-loop μ-loop
 loop-again c =
     let a = c .before .before .before .before .before .before .before .args in
     let i = c .before .before .before .before .loop .i in
     let b = a .b .now in
-    let e : 16 * i + 8 + 8 ≡ 16 * i + 16 = omega arith in (
+    let e : entrySize * i + tagSize + reportSize ≡ entrySize * i + entrySize = omega arith in (
       search needs,
       ap₂ (λ (t : List ℕ) (x : ℕ). set t i x) (c .before .before .before .before .loop .inv .1)
           (c .before .before .get-word .ensures)
-          ∙ tab-set i (tagAt b) (replicate 16 0) (omega arith),
+          ∙ tab-set i (tagAt b) (replicate nodes 0) (omega arith),
       ap₂ (λ (t : List Report) (p : Report). set t i p) (c .before .before .before .before .loop .inv .2)
-          (c .read-report .ensures ∙ ap reportOf (lent b (16 * i + 8) 8 e)) ∙ tab-set i (reportAt b)
-          (replicate 16 noReport) (omega arith),
+          (c .read-report .ensures ∙ ap reportOf (lent b (entrySize * i + tagSize) reportSize e))
+          ∙ tab-set i (reportAt b)
+          (replicate nodes noReport) (omega arith),
     )
 
 viewWith : List ℕ → List Report → View
@@ -51,10 +53,10 @@ returns c =
     let b = c .before .before .before .before .args .b .now in
     let e : c .before .loop .i ≡ n = omega arith in
     ap₂ (λ (t : List ℕ) (p : List Report). viewWith t p)
-    (c .before .loop .inv .1 ∙ ap (λ (k : ℕ). tab k (tagAt b) ++ drop k (replicate 16 0)) e
-    ∙ ap (λ (t : List ℕ). tab n (tagAt b) ++ t) (drop-replicate n 16 0))
-    (c .before .loop .inv .2 ∙ ap (λ (k : ℕ). tab k (reportAt b) ++ drop k (replicate 16 noReport)) e
-    ∙ ap (λ (t : List Report). tab n (reportAt b) ++ t) (drop-replicate n 16 noReport))
+    (c .before .loop .inv .1 ∙ ap (λ (k : ℕ). tab k (tagAt b) ++ drop k (replicate nodes 0)) e
+    ∙ ap (λ (t : List ℕ). tab n (tagAt b) ++ t) (drop-replicate n nodes 0))
+    (c .before .loop .inv .2 ∙ ap (λ (k : ℕ). tab k (reportAt b) ++ drop k (replicate nodes noReport)) e
+    ∙ ap (λ (t : List Report). tab n (reportAt b) ++ t) (drop-replicate n nodes noReport))
 
 pub read-view-spec : {M : Type 1} → statement M
 read-view-spec =

@@ -3,13 +3,14 @@ use borrow.Author.Needs.{needs}
 use mathlib.Core.Path.{ap, _∙_}
 use Prim.Native.Nat.{_^_}
 use Rattle.octets.specs.Bytes.{be}
+use Rattle.view.specs.Size.{reportSize}
 use Rattle.view.proofs.ReportBytes.{number-bytes}
 use Rattle.view.proofs.report_bytes.Statement.{statement}
 use Rattle.view.proofs.report_bytes.Tie as tie
 
 returns : tie.Need-returns
 returns c =
-    c .digits8 .ensures ∙ ap (be 8) (c .before .report-number .ensures)
+    c .digits8 .ensures ∙ ap (be reportSize) (c .before .report-number .ensures)
     ∙ number-bytes (c .before .before .args .p) (record { extensions = search needs; lines = search needs; waiting = search needs; wakeups = search needs })
 
 pub report-bytes-spec : {M : Type 1} → statement M

@@ -9,6 +9,7 @@ use Rattle.octets.specs.Bytes.{be, put}
 use Rattle.octets.specs.Loop.{join}
 use Rattle.octets.proofs.Put.{put-nil, put-then}
 use Rattle.octets.proofs.Table.{join-none, join-more, length-join}
+use Rattle.view.specs.Size.{tagSize, entrySize}
 use Rattle.view.specs.Report.{noReport, reportBytes}
 use Rattle.view.specs.View.{viewBytes, entryBytes}
 use Rattle.view.specs.declared.View.{View}
@@ -42,19 +43,20 @@ loop-again c =
     .i in
     let o = a .out .now in
     let f = entry (a .v) in
-    let t = be 8 (getD (a .v .tags) i 0) in
+    let t = be tagSize (getD (a .v .tags) i 0) in
     let p = reportBytes (getD (a .v .reports) i noReport) in
-    let l : length (join i f) ≡ 16 * i = length-join i 16 f (λ j. refl) in
-    let m : 0 + length (join i f ++ t) ≡ 16 * i + 8 = simp length-append (omega arith) in
+    let l : length (join i f) ≡ entrySize * i = length-join i entrySize f (λ j. refl) in
+    let m : 0 + length (join i f ++ t) ≡ entrySize * i + tagSize = simp length-append (omega arith) in
     let tag : c .before .before .before .before .before .before .before .before .before .put-word .last .0 ≡ put o 0
     (join i f ++ t) =
-    put-then o 0 (join i f) t (16 * i) (omega arith) (omega arith)
+    put-then o 0 (join i f) t (entrySize * i) (omega arith) (omega arith)
     (c .before .before .before .before .before .before .before .before .before .before .before .before .loop .inv .1)
     (c .before .before .before .before .before .before .before .before .before .put-word .ensures) in
     let both : c .before .before .put-bytes .last .0 ≡ put o 0 (join i f ++ t ++ p) =
-    put-then o 0 (join i f ++ t) p (16 * i + 8) (omega arith) m tag
+    put-then o 0 (join i f ++ t) p (entrySize * i + tagSize) (omega arith) m tag
     (c .before .before .put-bytes .ensures ∙ ap (λ (r : List ℕ). put
-    (c .before .before .before .before .before .before .before .before .before .put-word .last .0) (16 * i + 8) r)
+    (c .before .before .before .before .before .before .before .before .before .put-word .last .0)
+    (entrySize * i + tagSize) r)
     (c .before .before .before .before .before .report-bytes .ensures)) in (
       search needs,
       both ∙ ap (λ (r : List ℕ). put o 0 r) (append-assoc (join i f) t p ∙ sym (join-more i f)),

@@ -1,9 +1,10 @@
 -- `wire::write` meets its contract.
 use borrow.Author.Needs.{needs}
 use mathlib.Core.Path.{_≡_, refl, sym, _∙_}
-use Prim.Native.Nat.{_*_, _≤_}
+use Prim.Native.Nat.{_≤_}
 use lib.ListN.{length}
 use native.Mathlib.Omega.{arith}
+use Rattle.view.specs.Size.{nodes, viewSize}
 use Rattle.wire.specs.Layout.{encode, allowed}
 use Rattle.wire.specs.Codec.{answer}
 use Rattle.wire.proofs.Numbers.{size-most, writer-most, view-length}
@@ -20,7 +21,7 @@ cast-value c =
     let g = c4 .m6 .given .0 in
     let w : g .1 .0 ≤ a .n = writer-most (a .n) (g .0) (g .1 .0) (g .1 .1 .0) (a .view .now)
     (sym (c .before .before .is-sent .ensures) ∙ c .before .if7 .taken) in
-    let l : a .n ≤ 16 = size-most (c10 .args .n) (sym (c7 .is-size .ensures) ∙ c4 .before .before .if1 .taken) in
+    let l : a .n ≤ nodes = size-most (c10 .args .n) (sym (c7 .is-size .ensures) ∙ c4 .before .before .if1 .taken) in
     omega arith
 
 is-held-requires : tie.Need-is-held-requires
@@ -35,9 +36,9 @@ good-requires c κs =
     let c7 = c4 .before .before .before in
     let c10 = c7 .before .before .before in
     let a = c10 .args in
-    let e : length (a .view .now) ≡ 16 * a .n = view-length (a .n) (c4 .m7 .given .0 .0) (a .view .now)
+    let e : length (a .view .now) ≡ viewSize (a .n) = view-length (a .n) (c4 .m7 .given .0 .0) (a .view .now)
     (sym (c .before .before .is-held .ensures) ∙ c .before .if8 .taken) in
-    let l : a .n ≤ 16 = size-most (c10 .args .n) (sym (c7 .is-size .ensures) ∙ c4 .before .before .if1 .taken) in
+    let l : a .n ≤ nodes = size-most (c10 .args .n) (sym (c7 .is-size .ensures) ∙ c4 .before .before .if1 .taken) in
     omega arith
 
 returns : tie.Need-returns

@@ -6,16 +6,16 @@ use Rattle.region.proofs.stored.codes_known.Statement.{statement}
 use Rattle.region.proofs.stored.codes_known.Tie as tie
 
 returns : tie.Need-returns
-returns c = simp (eq-eqb _ _ (sym (c .before .word .ensures) ∙ c .if1 .taken))
+returns c = simp (eq-eqb _ _ (sym (c .before .get-word .ensures) ∙ c .if1 .taken))
 
 returns-2 : tie.Need-returns-2
 returns-2 c =
     let c3 = c .before .before .before in
     simp (
       c .and .ensures,
-      c .before .word2 .ensures,
-      c3 .word .ensures,
-      ne-eqb _ _ (λ e. c .before .before .if1 .left (c3 .word .ensures ∙ e)),
+      c .before .get-word2 .ensures,
+      c3 .get-word .ensures,
+      ne-eqb _ _ (λ e. c .before .before .if1 .left (c3 .get-word .ensures ∙ e)),
     )
 
 pub codes-known-spec : {M : Type 1} → statement M

@@ -2,6 +2,7 @@ use borrow.Author.Needs.{needs}
 use mathlib.Core.Path.{_∙_, ap, sym, refl}
 use Rattle.octets.specs.Bytes.{part}
 use Rattle.octets.proofs.Lent.{lent}
+use Rattle.view.specs.Size.{nodes, viewSize}
 use Rattle.view.specs.View.{viewOf}
 use Rattle.view.proofs.First.{first-read}
 use Rattle.region.specs.Record.{viewPlace}
@@ -34,8 +35,8 @@ returns c =
     let a = c .before .before .before .args in
     let b = a .b .now in
     let at = viewPlace (a .i) in
-    c .read-view .ensures ∙ ap (viewOf (a .n)) (lent b at 256 refl)
-    ∙ sym (first-read (a .n) (part b at 256) (c .before .before .before .pre .2))
+    c .read-view .ensures ∙ ap (viewOf (a .n)) (lent b at (viewSize nodes) refl)
+    ∙ sym (first-read (a .n) (part b at (viewSize nodes)) (c .before .before .before .pre .2))
 
 pub load-view-spec : {M : Type 1} → statement M
 load-view-spec =

@@ -1,6 +1,8 @@
 use borrow.Author.Needs.{needs}
 use mathlib.Core.Path.{refl}
 use Rattle.octets.proofs.Lent.{lent}
+use Rattle.view.specs.Size.{reportSize}
+use Rattle.region.specs.Record.{reportPlace}
 use Rattle.region.proofs.stored.load_wait.Statement.{statement}
 use Rattle.region.proofs.stored.load_wait.Tie as tie
 
@@ -16,23 +18,23 @@ part-read-report-end c = search needs
 read-report-requires : tie.Need-read-report-requires
 read-report-requires c κs = search needs
 
-word-requires : tie.Need-word-requires
-word-requires c κs = search needs
+get-word-requires : tie.Need-get-word-requires
+get-word-requires c κs = search needs
 
-word-requires-2 : tie.Need-word-requires-2
-word-requires-2 c κs = search needs
+get-word-requires-2 : tie.Need-get-word-requires-2
+get-word-requires-2 c κs = search needs
 
-word-requires-3 : tie.Need-word-requires-3
-word-requires-3 c κs = search needs
+get-word-requires-3 : tie.Need-get-word-requires-3
+get-word-requires-3 c κs = search needs
 
-word-requires-4 : tie.Need-word-requires-4
-word-requires-4 c κs = search needs
+get-word-requires-4 : tie.Need-get-word-requires-4
+get-word-requires-4 c κs = search needs
 
-word-requires-5 : tie.Need-word-requires-5
-word-requires-5 c κs = search needs
+get-word-requires-5 : tie.Need-get-word-requires-5
+get-word-requires-5 c κs = search needs
 
-word-requires-6 : tie.Need-word-requires-6
-word-requires-6 c κs = search needs
+get-word-requires-6 : tie.Need-get-word-requires-6
+get-word-requires-6 c κs = search needs
 
 wait-of-requires : tie.Need-wait-of-requires
 wait-of-requires c κs = search needs
@@ -44,14 +46,14 @@ returns c =
     let c10 = c6 .before .before .before .before in
     simp (
       c .wait-of .ensures,
-      c .before .word6 .ensures,
-      c .before .before .word5 .ensures,
-      c3 .word4 .ensures,
-      c3 .before .word3 .ensures,
-      c3 .before .before .word2 .ensures,
-      c6 .word .ensures,
+      c .before .get-word6 .ensures,
+      c .before .before .get-word5 .ensures,
+      c3 .get-word4 .ensures,
+      c3 .before .get-word3 .ensures,
+      c3 .before .before .get-word2 .ensures,
+      c6 .get-word .ensures,
       c6 .before .read-report .ensures,
-      lent (c10 .args .b .now) 88 8 refl,
+      lent (c10 .args .b .now) reportPlace reportSize refl,
     )
 
 pub load-wait-spec : {M : Type 1} → statement M
@@ -62,11 +64,11 @@ load-wait-spec =
     part-read-report-start
     part-read-report-end
     read-report-requires
-    word-requires
-    word-requires-2
-    word-requires-3
-    word-requires-4
-    word-requires-5
-    word-requires-6
+    get-word-requires
+    get-word-requires-2
+    get-word-requires-3
+    get-word-requires-4
+    get-word-requires-5
+    get-word-requires-6
     wait-of-requires
     returns)

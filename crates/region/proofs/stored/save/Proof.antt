@@ -6,8 +6,9 @@ use mathlib.Core.Path.{_≡_}
 use lib.ListN.{length}
 use Rattle.octets.specs.Word.{wordBytes}
 use Rattle.octets.proofs.Put.{put-then}
-use Rattle.region.specs.Record.{numbers, waitBytes, viewsBytes, recordBytes}
-use Rattle.region.proofs.Saved.{waits-end, heard-end}
+use Rattle.table.specs.Table.{cells}
+use Rattle.region.specs.Record.{viewPlace, viewsBytes, recordBytes, nPlace, heardPlace, lastIn, headIn, headBytes}
+use Rattle.region.proofs.Saved.{head-end, heard-end}
 use Rattle.region.proofs.stored.save.Statement.{statement}
 use Rattle.region.proofs.stored.save.Tie as tie
 
@@ -16,10 +17,10 @@ unfolding recordBytes
 returns c =
     let b = c .before .before .before .before .before .before .before .before .before .before .before .before .before .before .before .args .b .now in
     let x = c .before .before .before .before .before .before .before .before .before .before .before .before .before .before .before .args .c in
-    let long : length (x .heard) ≡ 256 = search needs in
-    put-then b 0 (wordBytes (numbers x) ++ waitBytes (x .wait) ++ wordBytes (x .heard)) (viewsBytes x) 2144 (omega arith)
+    let long : length (x .heard) ≡ cells = search needs in
+    put-then b nPlace (headBytes (headIn x) ++ wordBytes (x .heard)) (viewsBytes x) (viewPlace lastIn) (omega arith)
     (heard-end x long)
-    (put-then b 0 (wordBytes (numbers x) ++ waitBytes (x .wait)) (wordBytes (x .heard)) 96 (omega arith) (waits-end x)
+    (put-then b nPlace (headBytes (headIn x)) (wordBytes (x .heard)) heardPlace (omega arith) (head-end (headIn x))
     (c .before .before .before .before .before .before .before .before .before .before .before .before .save-head .ensures) (c .before .before .before .before .before .before .put-table256 .ensures)) (c .before .before .save-views .ensures)
 
 pub save-spec : {M : Type 1} → statement M

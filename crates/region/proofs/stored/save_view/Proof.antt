@@ -3,6 +3,7 @@ use mathlib.Core.Path.{refl, sym, ap, _∙_, _≡_}
 use lib.ListN.{length}
 use Rattle.octets.specs.Bytes.{put, part}
 use Rattle.octets.proofs.Put.{put-over, length-part}
+use Rattle.view.specs.Size.{nodes, viewSize}
 use Rattle.view.proofs.ViewBytes.{length-viewBytes}
 use native.Mathlib.Omega.{arith}
 use Prim.Native.Nat.{ℕ}
@@ -40,11 +41,13 @@ same-length c = search needs
 returns : tie.Need-returns
 returns c = let b = c .before .before .before .before .before .args .b .now in
     let at = viewPlace (c .before .before .before .before .before .args .i) in
-    let v = viewBytes 16 (c .before .before .before .before .before .args .v) in
-    let same : length v ≡ length (part b at 256) =
-    length-viewBytes 16 (c .before .before .before .before .before .args .v) ∙ sym (length-part b at 256 (omega arith)) in
-    lent-back b at 256 (λ (t : List ℕ). put t 0 v) refl (omega arith) (c .before .before .write-view .kept .1 .1 .0) (c .before .before .write-view .ensures)
-    ∙ ap (put b at) (put-over (part b at 256) v same)
+    let v = viewBytes nodes (c .before .before .before .before .before .args .v) in
+    let same : length v ≡ length (part b at (viewSize nodes)) =
+    length-viewBytes nodes (c .before .before .before .before .before .args .v) ∙ sym (length-part b at (viewSize nodes)
+    (omega arith)) in
+    lent-back b at (viewSize nodes) (λ (t : List ℕ). put t 0 v) refl (omega arith)
+    (c .before .before .write-view .kept .1 .1 .0) (c .before .before .write-view .ensures)
+    ∙ ap (put b at) (put-over (part b at (viewSize nodes)) v same)
 
 pub save-view-spec : {M : Type 1} → statement M
 save-view-spec =

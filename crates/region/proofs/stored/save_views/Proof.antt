@@ -5,9 +5,10 @@ use mathlib.Core.List.{List, _++_}
 use mathlib.Core.Path.{_≡_}
 use lib.ListN.{length, length-append}
 use Rattle.octets.proofs.Put.{put-then}
+use Rattle.view.specs.Size.{nodes}
 use Rattle.view.specs.View.{viewBytes}
 use Rattle.view.proofs.ViewBytes.{length-viewBytes}
-use Rattle.region.specs.Record.{viewPlace}
+use Rattle.region.specs.Record.{viewPlace, lastIn, atmaxIn, atroundIn, keptIn}
 use Rattle.region.proofs.stored.save_views.Statement.{statement}
 use Rattle.region.proofs.stored.save_views.Tie as tie
 
@@ -33,23 +34,26 @@ returns c =
     let c14 = c10 .before .before .before .before in
     let c17 = c14 .before .before .before in
     let b = c17 .args .b .now in
-    let p = viewBytes 16 (c17 .args .c .last) in
-    let q = viewBytes 16 (c17 .args .c .atmax) in
-    let r = viewBytes 16 (c17 .args .c .atround) in
-    let s = viewBytes 16 (c17 .args .c .keptview) in
-    let one : viewPlace 0 + length p ≡ viewPlace 1 = omega (arith, length-viewBytes 16 (c17 .args .c .last)) in
-    let two : viewPlace 0 + length (p ++ q) ≡ viewPlace 2 =
-    simp length-append (omega (arith, length-viewBytes 16 (c17 .args .c .last), length-viewBytes 16 (c17 .args .c .atmax))) in
-    let three : viewPlace 0 + length (p ++ q ++ r) ≡ viewPlace 3 = simp length-append (omega (
+    let p = viewBytes nodes (c17 .args .c .last) in
+    let q = viewBytes nodes (c17 .args .c .atmax) in
+    let r = viewBytes nodes (c17 .args .c .atround) in
+    let s = viewBytes nodes (c17 .args .c .keptview) in
+    let one : viewPlace lastIn + length p ≡ viewPlace atmaxIn = omega (arith, length-viewBytes nodes
+    (c17 .args .c .last)) in
+    let two : viewPlace lastIn + length (p ++ q) ≡ viewPlace atroundIn =
+    simp length-append (omega (arith, length-viewBytes nodes (c17 .args .c .last), length-viewBytes nodes
+    (c17 .args .c .atmax))) in
+    let three : viewPlace lastIn + length (p ++ q ++ r) ≡ viewPlace keptIn = simp length-append (omega (
       arith,
-      length-viewBytes 16
+      length-viewBytes nodes
           (c17 .args .c .last),
-      length-viewBytes 16 (c17 .args .c .atmax),
-      length-viewBytes 16 (c17 .args .c .atround),
+      length-viewBytes nodes (c17 .args .c .atmax),
+      length-viewBytes nodes (c17 .args .c .atround),
     )) in
-    put-then b (viewPlace 0) (p ++ q ++ r) s (viewPlace 3) (omega arith) three
-    (put-then b (viewPlace 0) (p ++ q) r (viewPlace 2) (omega arith) two
-    (put-then b (viewPlace 0) p q (viewPlace 1) (omega arith) one (c14 .save-view .ensures) (c10 .save-view2 .ensures))
+    put-then b (viewPlace lastIn) (p ++ q ++ r) s (viewPlace keptIn) (omega arith) three
+    (put-then b (viewPlace lastIn) (p ++ q) r (viewPlace atroundIn) (omega arith) two
+    (put-then b (viewPlace lastIn) p q (viewPlace atmaxIn) (omega arith) one (c14 .save-view .ensures)
+    (c10 .save-view2 .ensures))
     (c6 .save-view3 .ensures)) (c .before .before .save-view4 .ensures)
 
 pub save-views-spec : {M : Type 1} → statement M

@@ -7,7 +7,7 @@ use Rattle.octets.specs.Bytes.{put}
 use Rattle.octets.specs.Word.{wordBytes}
 use Rattle.octets.proofs.Put.{put-then}
 use Rattle.view.specs.Report.{reportBytes}
-use Rattle.region.specs.Record.{waitWords, waitReport}
+use Rattle.region.specs.Record.{waitWords, waitReport, codePlace, reportPlace}
 use Rattle.region.proofs.Saved.{wait-end}
 use Rattle.region.proofs.stored.save_wait.Statement.{statement}
 use Rattle.region.proofs.stored.save_wait.Tie as tie
@@ -43,9 +43,9 @@ returns c =
     let c12 = c9 .before .before .before in
     let b = c12 .before .before .args .b .now in
     let w = c12 .before .before .args .w in
-    put-then b 40 (wordBytes (waitWords w)) (reportBytes (waitReport w)) 88 (omega arith) (wait-end w)
-    (c9 .put-words .ensures ∙ ap (λ (t : List ℕ). put b 40 (wordBytes t)) (c12 .wait-words .ensures))
-    (c .before .before .put-bytes .ensures ∙ ap (put _ 88) (c5 .report-bytes .ensures ∙ ap reportBytes
+    put-then b codePlace (wordBytes (waitWords w)) (reportBytes (waitReport w)) reportPlace (omega arith) (wait-end w)
+    (c9 .put-words .ensures ∙ ap (λ (t : List ℕ). put b codePlace (wordBytes t)) (c12 .wait-words .ensures))
+    (c .before .before .put-bytes .ensures ∙ ap (put _ reportPlace) (c5 .report-bytes .ensures ∙ ap reportBytes
     (c5 .before .wait-report .ensures)))
 
 pub save-wait-spec : {M : Type 1} → statement M

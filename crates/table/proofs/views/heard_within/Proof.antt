@@ -6,16 +6,16 @@ use native.Mathlib.Omega.{arith}
 use lib.Dec.{leb}
 use Rattle.table.specs.Loop.{all}
 use Rattle.view.specs.Size.{limit}
-use Rattle.table.specs.Table.{at, heardWithin}
+use Rattle.table.specs.Table.{at, heardWithin, cells}
 use Rattle.table.proofs.Laws.{all-none, all-more}
 use Rattle.table.proofs.views.heard_within.Statement.{statement}
 use Rattle.table.proofs.views.heard_within.Tie as tie
 
 abbrev Inv-loop : tie.InvT-loop
-Inv-loop h ok₀ k₀ ok k = (k ≤ 256) × (ok ≡ all k (λ (i : ℕ). leb (at h i) limit))
+Inv-loop h ok₀ k₀ ok k = (k ≤ cells) × (ok ≡ all k (λ (i : ℕ). leb (at h i) limit))
 
 abbrev μ-loop : tie.MeasureT-loop
-μ-loop h ok₀ k₀ ok k = 256 - k
+μ-loop h ok₀ k₀ ok k = cells - k
 
 loop-holds : tie.Need-loop-holds Inv-loop μ-loop
 loop-holds c = (search needs, sym (all-none _))
@@ -25,7 +25,7 @@ loop-again c = (search needs, simp (all-more, c .and .ensures, c .before .before
 
 returns : tie.Need-returns Inv-loop μ-loop
 unfolding heardWithin
-returns c = let e : c .before .loop .k ≡ 256 = omega arith in rw e at (c .before .loop .inv .1)
+returns c = let e : c .before .loop .k ≡ cells = omega arith in rw e at (c .before .loop .inv .1)
 
 pub heard-within-spec : {M : Type 1} → statement M
 heard-within-spec =

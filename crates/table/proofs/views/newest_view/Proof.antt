@@ -6,6 +6,7 @@ use Prim.Native.Nat.{ℕ, _+_, _-_, _≤_}
 use native.Mathlib.Omega.{arith}
 use lib.ListN.{drop}
 use lib.Dec.{leb}
+use Rattle.view.specs.Size.{nodes}
 use Rattle.view.specs.declared.Report.{Report}
 use Rattle.view.specs.Report.{noReport}
 use Rattle.table.specs.Loop.{tab}
@@ -15,10 +16,10 @@ use Rattle.table.proofs.views.newest_view.Statement.{statement}
 use Rattle.table.proofs.views.newest_view.Tie as tie
 
 abbrev Inv-loop : tie.InvT-loop
-Inv-loop t last v₀ w₀ v w = (w ≤ 16) × (v .tags ≡ tab w (newestTag t last v₀) ++ drop w (v₀ .tags)) × (v .reports ≡ tab w (newestReport t last v₀) ++ drop w (v₀ .reports))
+Inv-loop t last v₀ w₀ v w = (w ≤ nodes) × (v .tags ≡ tab w (newestTag t last v₀) ++ drop w (v₀ .tags)) × (v .reports ≡ tab w (newestReport t last v₀) ++ drop w (v₀ .reports))
 
 abbrev μ-loop : tie.MeasureT-loop
-μ-loop t last v₀ w₀ v w = 16 - w
+μ-loop t last v₀ w₀ v w = nodes - w
 
 loop-holds : tie.Need-loop-holds Inv-loop μ-loop
 loop-holds c = (search needs, filled-none _ _, filled-none _ _)
@@ -38,10 +39,10 @@ loop-again c =
 returns : tie.Need-returns Inv-loop μ-loop
 unfolding newest
 returns c = let a = c .before .before .args in let i = c .before .loop .inv in
-    let e : c .before .loop .w ≡ 16 = omega arith in
+    let e : c .before .loop .w ≡ nodes = omega arith in
     ap₂ (λ (ts : List ℕ) (rs : List Report). record { tags = ts; reports = rs })
-    ((rw e at (i .1)) ∙ filled-all 16 _ (a .held .tags) (search needs))
-    ((rw e at (i .2)) ∙ filled-all 16 _ (a .held .reports) (search (needs, length-mapped)))
+    ((rw e at (i .1)) ∙ filled-all nodes _ (a .held .tags) (search needs))
+    ((rw e at (i .2)) ∙ filled-all nodes _ (a .held .reports) (search (needs, length-mapped)))
 
 pub newest-view-spec : {M : Type 1} → statement M
 newest-view-spec =

@@ -3,6 +3,7 @@ use borrow.Author.Needs.{needs}
 use mathlib.Core.Path.{_≡_, sym}
 use Prim.Native.Nat.{_-_, _≤_}
 use native.Mathlib.Omega.{arith}
+use Rattle.view.specs.Size.{nodes}
 use Rattle.table.specs.Loop.{all}
 use Rattle.table.specs.Table.{entryWithin, within}
 use Rattle.table.proofs.Laws.{all-none, all-more}
@@ -10,10 +11,10 @@ use Rattle.table.proofs.views.view_within.Statement.{statement}
 use Rattle.table.proofs.views.view_within.Tie as tie
 
 abbrev Inv-loop : tie.InvT-loop
-Inv-loop t v ok₀ w₀ ok w = (w ≤ 16) × (ok ≡ all w (entryWithin t v))
+Inv-loop t v ok₀ w₀ ok w = (w ≤ nodes) × (ok ≡ all w (entryWithin t v))
 
 abbrev μ-loop : tie.MeasureT-loop
-μ-loop t v ok₀ w₀ ok w = 16 - w
+μ-loop t v ok₀ w₀ ok w = nodes - w
 
 loop-holds : tie.Need-loop-holds Inv-loop μ-loop
 loop-holds c = (search needs, sym (all-none _))
@@ -23,7 +24,7 @@ loop-again c = (search needs, simp (all-more, c .and .ensures, c .before .entry-
 
 returns : tie.Need-returns Inv-loop μ-loop
 unfolding within
-returns c = let e : c .before .loop .w ≡ 16 = omega arith in rw e at (c .before .loop .inv .1)
+returns c = let e : c .before .loop .w ≡ nodes = omega arith in rw e at (c .before .loop .inv .1)
 
 pub view-within-spec : {M : Type 1} → statement M
 view-within-spec =

@@ -1,13 +1,14 @@
 -- `wire::heads::of_kind` meets its contract.
 use borrow.Author.Needs.{needs}
 use mathlib.Core.Path.{_≡_, refl, sym, ap, _∙_}
-use Prim.Native.Nat.{ℕ, _*_}
+use Prim.Native.Nat.{ℕ}
 use mathlib.Core.List.{List}
 use borrow.Author.Tests.{le-leb, lt-leb, ne-eqb}
 use native.Mathlib.Omega.{arith}
 use Rattle.octets.specs.Bytes.{part}
 use Rattle.octets.proofs.Lent.{lent}
-use Rattle.wire.specs.Layout.{allowed, size}
+use Rattle.view.specs.Size.{viewSize}
+use Rattle.wire.specs.Layout.{allowed, size, secondAt, goodHead}
 use Rattle.wire.specs.Codec.{said, viewAt}
 use Rattle.wire.specs.Shape.{shapeAs}
 use Rattle.wire.specs.declared.Message.the-variants.{Good}
@@ -15,7 +16,7 @@ use Rattle.wire.proofs.heads.of_kind.Statement.{statement}
 use Rattle.wire.proofs.heads.of_kind.Tie as tie
 
 cast-writer : tie.Need-cast-writer
-cast-writer c = omega (arith, c .shared-slice-known3 .given 18)
+cast-writer c = omega (arith, c .shared-slice-known3 .given secondAt)
 
 returns : tie.Need-returns
 unfolding shapeAs said allowed size part
@@ -165,7 +166,7 @@ returns-17 c =
     let h : c .before .before .is-held .result ≡ allowed (a .n) (Good (c4 .before .get-word10 .result)) (viewAt (a .n)
     (a .b .now)) =
     c .before .before .is-held .ensures ∙ ap (λ (v : List ℕ). allowed (a .n) (Good (c4 .before .get-word10 .result)) v)
-    (lent (a .b .now) 18 (16 * a .n) refl) in
+    (lent (a .b .now) goodHead (viewSize (a .n)) refl) in
     let t = rw (c4 .has-good .ensures, h, c4 .before .get-word10 .ensures) at (sym (c .before .and7 .ensures) ∙ c .if12 .taken) in
     rw (c7 .match .keys7) (simp (le-leb _ _ (c4 .before .before .if11 .taken), t, c4 .before .get-word10 .ensures))
 
@@ -179,7 +180,7 @@ returns-18 c =
     let h : c .before .before .is-held .result ≡ allowed (a .n) (Good (c4 .before .get-word10 .result)) (viewAt (a .n)
     (a .b .now)) =
     c .before .before .is-held .ensures ∙ ap (λ (v : List ℕ). allowed (a .n) (Good (c4 .before .get-word10 .result)) v)
-    (lent (a .b .now) 18 (16 * a .n) refl) in
+    (lent (a .b .now) goodHead (viewSize (a .n)) refl) in
     let t = rw (c4 .has-good .ensures, h, c4 .before .get-word10 .ensures) at (sym (c .before .and7 .ensures) ∙ c .if12 .left) in
     rw (c7 .match .keys7) (simp (le-leb _ _ (c4 .before .before .if11 .taken), t))
 

@@ -9,7 +9,7 @@ use native.Mathlib.Nat.{div-one}
 use lib.ListN.{length}
 use Rattle.octets.specs.Bytes.{be, put}
 use Rattle.octets.proofs.Put.{put-then}
-use Rattle.wire.specs.Layout.{kind, tag, view}
+use Rattle.wire.specs.Layout.{kind, tag, view, secondHead, goodHead}
 use Rattle.wire.proofs.puts.good.Statement.{statement}
 use Rattle.wire.proofs.puts.good.Tie as tie
 
@@ -22,23 +22,23 @@ returns c =
     let a = c16 .args in
     let o = a .out .now in
     let n = length (a .v .now) in
-    let room : 18 + n ≤ length o = c11 .before .before .if1 .taken in
+    let room : goodHead + n ≤ length o = c11 .before .before .if1 .taken in
     let u = kind 7 ++ tag (a .t) in
     let h : List ℕ = 6 ∷ be 2 n in
-    let k : length (u ++ view (a .v .now)) ≡ 18 + n = omega arith in
+    let k : length (u ++ view (a .v .now)) ≡ goodHead + n = omega arith in
     let head = c11 .put-one in
     let field = c6 .put-bytes in
-    let q : field .last .0 ≡ put (head .last .0) 15 h =
-    field .ensures ∙ ap (λ (x : ℕ). put (head .last .0) 15 (6 ∷ n / 256 ∷ x ∷ [])) (sym (div-one (n % 256))) in (
+    let q : field .last .0 ≡ put (head .last .0) secondHead h =
+    field .ensures ∙ ap (λ (x : ℕ). put (head .last .0) secondHead (6 ∷ n / 256 ∷ x ∷ [])) (sym (div-one (n % 256))) in (
       simp (k, le-leb _ _ room),
-      put-then o 0 (u ++ h) (a .v .now) 18 (omega arith) refl
-          (put-then o 0 u h 15 (omega arith) refl (head .ensures) q) (c2 .put-bytes2 .ensures),
+      put-then o 0 (u ++ h) (a .v .now) goodHead (omega arith) refl
+          (put-then o 0 u h secondHead (omega arith) refl (head .ensures) q) (c2 .put-bytes2 .ensures),
     )
 
 returns-2 : tie.Need-returns-2
 returns-2 c =
     let a = c .before .before .before .args in
-    let k : length (kind 7 ++ tag (a .t) ++ view (a .v .now)) ≡ 18 + length (a .v .now) = omega arith in
+    let k : length (kind 7 ++ tag (a .t) ++ view (a .v .now)) ≡ goodHead + length (a .v .now) = omega arith in
     (simp (k, lt-leb _ _ (c .if1 .left)), refl)
 
 pub good-spec : {M : Type 1} → statement M

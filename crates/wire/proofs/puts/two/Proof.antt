@@ -1,14 +1,14 @@
 -- `wire::puts::two` meets its contract.
 use borrow.Author.Needs.{needs}
 use mathlib.Core.Path.{refl}
-use Prim.Native.Nat.{ℕ, _≤_}
+use Prim.Native.Nat.{ℕ, _+_, _≤_}
 use mathlib.Core.List.{List, [], _∷_, _++_}
 use borrow.Author.Tests.{le-leb, lt-leb}
 use native.Mathlib.Omega.{arith}
 use lib.ListN.{length}
 use Rattle.octets.specs.Bytes.{be}
 use Rattle.octets.proofs.Put.{put-then, put-cover}
-use Rattle.wire.specs.Layout.{kind, request}
+use Rattle.wire.specs.Layout.{kind, request, numberSize, secondHead, secondAt}
 use Rattle.wire.proofs.puts.two.Statement.{statement}
 use Rattle.wire.proofs.puts.two.Tie as tie
 
@@ -20,13 +20,13 @@ returns c =
     let c14 = c10 .before .before .before .before in
     let a = c14 .args in
     let o = a .out .now in
-    let room : 26 ≤ length o = c10 .before .before .if1 .taken in
+    let room : secondAt + numberSize ≤ length o = c10 .before .before .if1 .taken in
     let u = kind (a .k) ++ request (a .r) in
     let h : List ℕ = 3 ∷ 0 ∷ 8 ∷ [] in
     let z : List ℕ = 0 ∷ 0 ∷ 0 ∷ 0 ∷ 0 ∷ [] in (
       simp (le-leb _ _ room),
-      put-cover o 0 (u ++ h) z (be 8 (a .t)) 18 (omega arith) refl (omega arith)
-          (put-then o 0 u (h ++ z) 15 (omega arith) refl (c10 .put-one .ensures) (c6 .put-word .ensures))
+      put-cover o 0 (u ++ h) z (be numberSize (a .t)) secondAt (omega arith) refl (omega arith)
+          (put-then o 0 u (h ++ z) secondHead (omega arith) refl (c10 .put-one .ensures) (c6 .put-word .ensures))
           (c2 .put-word2 .ensures),
     )
 

@@ -1,15 +1,16 @@
 -- `wire::puts::value` meets its contract.
 use borrow.Author.Needs.{needs}
 use mathlib.Core.Path.{refl, ap, _∙_}
-use Prim.Native.Nat.{ℕ, _≤_}
+use Prim.Native.Nat.{ℕ, _+_, _≤_}
 use mathlib.Core.List.{List, [], _∷_, _++_}
 use borrow.Author.Tests.{le-leb, lt-leb}
 use native.Mathlib.Omega.{arith}
 use lib.ListN.{length}
 use Rattle.octets.specs.Bytes.{put}
 use Rattle.octets.proofs.Put.{put-then, put-cover}
+use Rattle.view.specs.Size.{reportSize}
 use Rattle.view.specs.Report.{reportBytes}
-use Rattle.wire.specs.Layout.{kind, tag}
+use Rattle.wire.specs.Layout.{kind, tag, secondHead, thirdAt}
 use Rattle.wire.proofs.puts.value.Statement.{statement}
 use Rattle.wire.proofs.puts.value.Tie as tie
 
@@ -23,16 +24,16 @@ returns c =
     let c17 = c13 .before .before .before .before in
     let a = c17 .args in
     let o = a .out .now in
-    let room : 30 ≤ length o = c13 .before .before .if1 .taken in
+    let room : thirdAt + reportSize ≤ length o = c13 .before .before .if1 .taken in
     let u = kind 6 ++ tag (a .t) in
     let h : List ℕ = 4 ∷ 0 ∷ 1 ∷ a .w ∷ 5 ∷ 0 ∷ 8 ∷ [] in
     let y = c13 .put-one .last .0 in
     let z = c8 .put-word .last .0 in (
       simp (le-leb _ _ room),
-      put-cover o 0 (u ++ h) (0 ∷ []) (reportBytes (a .p)) 22 (omega arith) refl (omega arith)
-          (put-then o 0 u (h ++ (0 ∷ [])) 15 (omega arith) refl (c13 .put-one .ensures)
-          (c8 .put-word .ensures ∙ ap (put y 15) (c9 .head-word .ensures)))
-          (c2 .put-bytes .ensures ∙ ap (put z 22) (c5 .report-bytes .ensures)),
+      put-cover o 0 (u ++ h) (0 ∷ []) (reportBytes (a .p)) thirdAt (omega arith) refl (omega arith)
+          (put-then o 0 u (h ++ (0 ∷ [])) secondHead (omega arith) refl (c13 .put-one .ensures)
+          (c8 .put-word .ensures ∙ ap (put y secondHead) (c9 .head-word .ensures)))
+          (c2 .put-bytes .ensures ∙ ap (put z thirdAt) (c5 .report-bytes .ensures)),
     )
 
 returns-2 : tie.Need-returns-2

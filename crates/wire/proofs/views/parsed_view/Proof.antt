@@ -3,6 +3,7 @@ use borrow.Author.Needs.{needs}
 use mathlib.Core.Path.{sym, ap, _∙_}
 use native.Mathlib.Omega.{arith}
 use Rattle.octets.specs.Answer.{Answer, result}
+use Rattle.wire.specs.Layout.{goodHead}
 use Rattle.wire.specs.Codec.{viewRead, addressRead}
 use Rattle.wire.specs.Outcome.{parsed}
 use Rattle.wire.specs.declared.Message.{Message}
@@ -25,7 +26,7 @@ returns c =
     let b = c4 .before .before .before .args .b in
     let g = good-is _ (sym (c .before .before .is-good .ensures) ∙ c .before .if1 .taken) in
     let e = ap parsed (c4 .p .given .1) ∙ ap (λ (m : Message). result m) (g .1) in (
-      part-end 18 (b .now) ∙ sym (ap (λ (a : Answer Message). viewRead (b .now) a) e),
+      part-end goodHead (b .now) ∙ sym (ap (λ (a : Answer Message). viewRead (b .now) a) e),
       sym (ap (λ (a : Answer Message). addressRead a (b .ptr)) e),
     )
 
