@@ -10,20 +10,20 @@ use Rattle.octets.specs.Answer.{result, refused}
 use Rattle.octets.specs.Test.{both}
 use Rattle.wire.specs.Codec.{decode, viewPart}
 use Rattle.wire.specs.declared.Message.{Message}
-use Rattle.table.specs.Quorum.{faults}
 use Rattle.record.specs.Usable.{usable, isOpen, full}
 use Rattle.record.specs.declared.Node.{Node}
 use Rattle.record.specs.declared.Operation.{Operation}
 use Rattle.step.specs.Move.{messageStep, beginStep}
 use Rattle.step.specs.Stale.{staleMessage}
-use Rattle.endpoint.specs.Entry.{refuse, letOut, begin, beside, taken, message}
+use Rattle.endpoint.specs.Entry.{leastOutput, refuse, letOut, begin, beside, taken, message}
+use Rattle.record.specs.Record.{faultsOf}
 
 module _ (c : Node) (o : Operation) (out : List ℕ) where
-  pub begin-12 : ltb (length out) 512 ≡ true → begin c o out ≡ refuse 12 c out
+  pub begin-12 : ltb (length out) leastOutput ≡ true → begin c o out ≡ refuse 12 c out
   unfolding begin
   begin-12 h = rw h
 
-  module _ (h : ltb (length out) 512 ≡ false) where
+  module _ (h : ltb (length out) leastOutput ≡ false) where
     pub begin-2 : usable c ≡ false → begin c o out ≡ refuse 2 c out
     unfolding begin
     begin-2 u = rw (h, u)
@@ -37,16 +37,16 @@ module _ (c : Node) (o : Operation) (out : List ℕ) where
       unfolding begin
       begin-6 i j = rw (h, u, i, j)
 
-      pub begin-goes : isOpen (c .wait) ≡ false → full c ≡ false → begin c o out ≡ letOut (beginStep (faults (c .n)) c o) out
+      pub begin-goes : isOpen (c .wait) ≡ false → full c ≡ false → begin c o out ≡ letOut (beginStep (faultsOf c) c o) out
       unfolding begin
       begin-goes i j = rw (h, u, i, j)
 
 module _ (c : Node) (s : ℕ) (b out : List ℕ) where
-  pub message-12 : ltb (length out) 512 ≡ true → message c s b out ≡ refuse 12 c out
+  pub message-12 : ltb (length out) leastOutput ≡ true → message c s b out ≡ refuse 12 c out
   unfolding message
   message-12 h = rw h
 
-  module _ (h : ltb (length out) 512 ≡ false) where
+  module _ (h : ltb (length out) leastOutput ≡ false) where
     pub message-2 : usable c ≡ false → message c s b out ≡ refuse 2 c out
     unfolding message
     message-2 u = rw (h, u)
@@ -73,6 +73,6 @@ module _ (c : Node) (s : ℕ) (v out : List ℕ) (m : Message) where
   taken-9 e = rw e
 
   pub taken-goes : staleMessage c s m ≡ false
-      → taken c s v out (result m) ≡ letOut (messageStep (faults (c .n)) c s m (beside (c .n) v m)) out
+      → taken c s v out (result m) ≡ letOut (messageStep (faultsOf c) c s m (beside (c .n) v m)) out
   unfolding taken
   taken-goes e = rw e

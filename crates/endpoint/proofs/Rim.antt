@@ -14,8 +14,9 @@ use Rattle.step.specs.Stale.{writerWithin}
 use Rattle.step.proofs.Allowed.{lawful-allowed, allowed-lawful, lawful-writer}
 use Rattle.endpoint.specs.Entry.{beside}
 use Rattle.endpoint.specs.Room.{AllAllowed}
+use Rattle.view.specs.Size.{nodes}
 
-pub all-allowed : (n : ℕ) (v : View) (ms : List Message) → n ≤ 16 → AllLawful n v ms → AllAllowed n (viewBytes n v) ms
+pub all-allowed : (n : ℕ) (v : View) (ms : List Message) → n ≤ nodes → AllLawful n v ms → AllAllowed n (viewBytes n v) ms
 all-allowed n v [] l h = tt
 all-allowed n v (m ∷ ms) l h = (lawful-allowed n m v l (h .0), all-allowed n v ms l (h .1))
 
@@ -35,5 +36,5 @@ module _ (n : ℕ) (v : List ℕ) (m : Message) (h : allowed n m v ≡ true) whe
   read-lawful = beside-lawful n v m (allowed-lawful n m v h)
 
   -- its writer is one of 1 to 16, where it is a value
-  pub read-writer : n ≤ 16 → writerWithin 16 m ≡ true
+  pub read-writer : n ≤ nodes → writerWithin nodes m ≡ true
   read-writer l = lawful-writer n m (beside n v m) l read-lawful

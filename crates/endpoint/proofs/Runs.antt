@@ -13,7 +13,7 @@ use Rattle.octets.specs.Bytes.{put}
 use Rattle.octets.proofs.Lent.{lent-back}
 use Rattle.octets.proofs.Put.{length-put, put-inside, put-nil, put-over, put-then}
 use Rattle.octets.proofs.Test.{both-true}
-use Rattle.view.specs.Size.{isSize}
+use Rattle.view.specs.Size.{nodes, isSize}
 use Rattle.view.specs.View.{viewBytes}
 use Rattle.view.specs.declared.View.{View}
 use Rattle.view.proofs.ViewBytes.{length-viewBytes}
@@ -198,7 +198,7 @@ module _ (n : ℕ) (v : List ℕ) (a b d : List Message) (room : ℕ) (h : Room 
 
 -- ---- the view's bytes at the front of an array z of 256, whose first 16n were lent and came back as t
 
-module _ (n : ℕ) (z : List ℕ) (l : length z ≡ 256) (h : n ≤ 16) where
+module _ (n : ℕ) (z : List ℕ) (l : length z ≡ 256) (h : n ≤ nodes) where
   pub front-length : 16 * n ≡ length (take (16 * n) z)
   front-length = sym (length-take-le (16 * n) z (omega arith))
 
@@ -215,7 +215,7 @@ module _ (n : ℕ) (z : List ℕ) (l : length z ≡ 256) (h : n ≤ 16) where
         ∙ e ∙ put-over (take (16 * n) z) (viewBytes n v) (length-viewBytes n v ∙ front-length)
 
 -- there is room for what is lawful
-pub room-of : (n : ℕ) (v : View) (w : List ℕ) (ms : List Message) (room : ℕ) → w ≡ viewBytes n v → 1 ≤ n → n ≤ 16
+pub room-of : (n : ℕ) (v : View) (w : List ℕ) (ms : List Message) (room : ℕ) → w ≡ viewBytes n v → 1 ≤ n → n ≤ nodes
     → AllLawful n v ms → sizes n ms ≤ room → Room n w ms 0 room
 room-of n v w ms room e a b h k =
     let f : AllAllowed n (viewBytes n v) ms = all-allowed n v ms b h in

@@ -11,7 +11,6 @@ use Rattle.view.specs.declared.View.{View}
 use Rattle.view.proofs.First.{none-absent}
 use Rattle.wire.specs.Codec.{decode, viewPart}
 use Rattle.wire.specs.declared.Message.{Message}
-use Rattle.table.specs.Quorum.{faults}
 use Rattle.record.specs.Usable.{usable, isOpen, full}
 use Rattle.record.specs.declared.Node.{Node}
 use Rattle.step.specs.declared.Ending.{Ending}
@@ -22,9 +21,10 @@ use Rattle.step.specs.Stale.{staleMessage}
 use Rattle.step.specs.Told.{told, shown}
 use Rattle.step.proofs.Numbers.{on-pick}
 use Rattle.step.proofs.Theorems as step
-use Rattle.endpoint.specs.Entry.{letOut, beside, taken, begin, message}
+use Rattle.endpoint.specs.Entry.{leastOutput, letOut, beside, taken, begin, message}
 use Rattle.endpoint.specs.Outcome.{Outcome}
 use Rattle.endpoint.specs.Shown as claim
+use Rattle.record.specs.Record.{faultsOf}
 
 module _ (n : ℕ) (h : n ≤ nodes) where
   abbrev Shows : Outcome → Type 0
@@ -45,11 +45,11 @@ pub begin-absent : claim.BeginAbsent
 unfolding begin
 begin-absent c o out h =
     let none = none-absent (c .n) h in
-    on-pick (Shows (c .n) h) (ltb (length out) 512) _ _ (λ e. none) (λ e.
+    on-pick (Shows (c .n) h) (ltb (length out) leastOutput) _ _ (λ e. none) (λ e.
     on-pick (Shows (c .n) h) (usable c) _ _ (λ e.
     on-pick (Shows (c .n) h) (isOpen (c .wait)) _ _ (λ e. none) (λ e.
     on-pick (Shows (c .n) h) (full c) _ _ (λ e. none) (λ e.
-    let-out (c .n) h (beginStep (faults (c .n)) c o) out (step.begin-absent (faults (c .n)) c o h)))) (λ e. none))
+    let-out (c .n) h (beginStep (faultsOf c) c o) out (step.begin-absent (faultsOf c) c o h)))) (λ e. none))
 
 -- what is read is handled, or refused
 handled : (c : Node) (h : c .n ≤ nodes) (s : ℕ) (v out : List ℕ) (m : Answer Message)
@@ -58,14 +58,14 @@ unfolding taken
 handled c h s v out (refused k) = none-absent (c .n) h
 handled c h s v out (result m) =
     on-pick (Shows (c .n) h) (staleMessage c s m) _ _ (λ e. none-absent (c .n) h) (λ e.
-    let-out (c .n) h (messageStep (faults (c .n)) c s m (beside (c .n) v m)) out
-    (step.message-absent (faults (c .n)) c s m (beside (c .n) v m) h))
+    let-out (c .n) h (messageStep (faultsOf c) c s m (beside (c .n) v m)) out
+    (step.message-absent (faultsOf c) c s m (beside (c .n) v m) h))
 
 pub message-absent : claim.MessageAbsent
 unfolding message
 message-absent c s b out h =
     let none = none-absent (c .n) h in
-    on-pick (Shows (c .n) h) (ltb (length out) 512) _ _ (λ e. none) (λ e.
+    on-pick (Shows (c .n) h) (ltb (length out) leastOutput) _ _ (λ e. none) (λ e.
     on-pick (Shows (c .n) h) (usable c) _ _ (λ e.
     on-pick (Shows (c .n) h) (both (leb 1 s) (leb s (c .n))) _ _
     (λ e. handled c h s (viewPart (c .n) b) out (decode (c .n) b)) (λ e. none)) (λ e. none))

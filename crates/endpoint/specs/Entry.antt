@@ -15,8 +15,7 @@ use Rattle.view.specs.declared.View.{View}
 use Rattle.wire.specs.Codec.{decode, viewPart}
 use Rattle.wire.specs.declared.Message.{Message}
 use Rattle.wire.specs.declared.Message.the-variants.{Read, ReadAnswer, Write, WriteAnswer, Echo, Value, Good}
-use Rattle.table.specs.Quorum.{faults}
-use Rattle.record.specs.Record.{blank}
+use Rattle.record.specs.Record.{blank, faultsOf}
 use Rattle.record.specs.Usable.{usable, isOpen, full}
 use Rattle.record.specs.declared.Node.{Node}
 use Rattle.record.specs.declared.Operation.{Operation}
@@ -27,6 +26,10 @@ use Rattle.step.specs.Stale.{staleMessage}
 use Rattle.step.specs.Told.{told}
 use Rattle.endpoint.specs.Bytes.{outBytes}
 use Rattle.endpoint.specs.Outcome.{Outcome}
+
+-- the least length of an output buffer
+abbrev pub leastOutput : ℕ
+leastOutput = 512
 
 abbrev pub refuse : ℕ → Node → List ℕ → Outcome
 refuse k c out = record { answer = told (refused k) noView; node = c; length = 0; out = out }
@@ -51,14 +54,14 @@ fresh n own =
     (refuse 1 (blank 0 0) []))
     (refuse 1 (blank 0 0) [])
 
--- Begin. 12: output buffer under 512 bytes. 2: record unusable. 5: an operation is open. 6: fewer than five request
+-- Begin. 12: output buffer too short. 2: record unusable. 5: an operation is open. 6: fewer than five request
 -- numbers left.
 unfoldable pub begin : Node → Operation → List ℕ → Outcome
 begin c o out =
-    pick (ltb (length out) 512) (refuse 12 c out)
+    pick (ltb (length out) leastOutput) (refuse 12 c out)
     (pick (usable c)
     (pick (isOpen (c .wait)) (refuse 5 c out)
-    (pick (full c) (refuse 6 c out) (letOut (beginStep (faults (c .n)) c o) out)))
+    (pick (full c) (refuse 6 c out) (letOut (beginStep (faultsOf c) c o) out)))
     (refuse 2 c out))
 
 -- the view that a good message carries, in v
@@ -76,12 +79,12 @@ unfoldable pub taken : Node → ℕ → List ℕ → List ℕ → Answer Message
 taken c s v out (refused k) = refuse 7 c out
 taken c s v out (result m) =
     pick (staleMessage c s m) (refuse 9 c out)
-    (letOut (messageStep (faults (c .n)) c s m (beside (c .n) v m)) out)
+    (letOut (messageStep (faultsOf c) c s m (beside (c .n) v m)) out)
 
 -- Message. 12, 2 as above. 3: sender not 1 to n. 7: not of the layout. 9: see staleMessage.
 unfoldable pub message : Node → ℕ → List ℕ → List ℕ → Outcome
 message c s b out =
-    pick (ltb (length out) 512) (refuse 12 c out)
+    pick (ltb (length out) leastOutput) (refuse 12 c out)
     (pick (usable c)
     (pick (both (leb 1 s) (leb s (c .n))) (taken c s (viewPart (c .n) b) out (decode (c .n) b)) (refuse 3 c out))
     (refuse 2 c out))

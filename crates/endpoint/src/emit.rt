@@ -1,6 +1,8 @@
 // Writing what a step sends: each message once, in order, from the buffer's start.
 use step::Outbox;
 use step::Sent;
+use view::ENTRY;
+use view::VIEW;
 use view::write_view;
 use wire::Message;
 use wire::Written;
@@ -10,7 +12,7 @@ ghost use mathlib.Core.Bool.{true};
 ghost use Prim.Native.Nat.{_+_, _≤_};
 ghost use lib.ListN.{length};
 ghost use Rattle.octets.specs.Bytes.{put};
-ghost use Rattle.view.specs.Size.{isSize};
+ghost use Rattle.view.specs.Size.{nodes, isSize};
 ghost use Rattle.wire.specs.Layout.{encode, allowed};
 ghost use Rattle.step.specs.Claims.{AllLawful, sizes};
 ghost use Rattle.step.specs.Step.{listed, messages};
@@ -62,11 +64,11 @@ fn emit_parts(n: usize, o: Outbox, v: &[u8], out: &mut [u8]) -> usize
 
 // Writes what a whole step sends, and answers how many bytes it has.
 pub fn emit_all(n: usize, o: Outbox, out: &mut [u8]) -> usize
-    requires { ⌜ (1 ≤ n) × (n ≤ 16) × AllLawful n (o .view) (messages o) × (sizes n (messages o) ≤ length (now out)) ⌝ }
+    requires { ⌜ (1 ≤ n) × (n ≤ nodes) × AllLawful n (o .view) (messages o) × (sizes n (messages o) ≤ length (now out)) ⌝ }
     ensures { λ r. ⌜ (r ≡ length (outBytes n o)) × (now (out .exit) ≡ put (now (out .entry)) 0 (outBytes n o)) ⌝ }
 {
-    let mut view = [0u8; 256];
-    let size = 16 * n;
+    let mut view = [0u8; VIEW];
+    let size = ENTRY * n;
     write_view(n, o.view, &mut view[..size]);
     emit_parts(n, o, &view[..size], out)
 }

@@ -28,6 +28,7 @@ ghost use mathlib.Core.List.{List, []};
 ghost use Prim.Native.Nat.{ℕ, _≤_};
 ghost use lib.ListN.{length};
 ghost use Rattle.octets.specs.Answer.{result};
+ghost use Rattle.view.specs.Size.{nodes};
 ghost use Rattle.view.specs.declared.View.{View};
 ghost use Rattle.record.specs.Usable.{usable};
 ghost use Rattle.wire.specs.Layout.{allowed};
@@ -35,7 +36,7 @@ ghost use Rattle.step.specs.Claims.{AllLawful, sizes};
 ghost use Rattle.step.specs.Step.{messages};
 ghost use Rattle.step.specs.Told.{told, shown};
 ghost use Rattle.endpoint.specs.Outcome.{toldBy, tells};
-ghost use Rattle.endpoint.specs.Entry.{refuse, letOut, fresh, begin, beside, taken, message};
+ghost use Rattle.endpoint.specs.Entry.{leastOutput, refuse, letOut, fresh, begin, beside, taken, message};
 
 // The least length of an output buffer.
 pub const OUTPUT: usize = 512;
@@ -112,7 +113,7 @@ pub fn fresh(n: usize, own: usize) -> Reply
 
 // Writes what a step sends and answers with the rest of it.
 fn let_out(s: Step, out: &mut [u8]) -> Reply
-    requires { ⌜ (1 ≤ s .node .n) × (s .node .n ≤ 16)
+    requires { ⌜ (1 ≤ s .node .n) × (s .node .n ≤ nodes)
         × AllLawful (s .node .n) (s .outbox .view) (messages (s .outbox))
         × (sizes (s .node .n) (messages (s .outbox)) ≤ length (now out)) ⌝ }
     ensures { λ r. ⌜ tells r (now (out .exit)) (letOut s (now (out .entry))) ⌝ }
@@ -151,7 +152,7 @@ pub fn begin(c: Node, o: Operation, out: &mut [u8]) -> Reply
 
 // The view that a good message carries, out of its bytes v.
 fn view_beside(n: usize, v: &[u8], m: Message) -> View
-    requires { ⌜ (n ≤ 16) × (allowed n m (now v) ≡ true) ⌝ }
+    requires { ⌜ (n ≤ nodes) × (allowed n m (now v) ≡ true) ⌝ }
     ensures { λ r. ⌜ r ≡ beside n (now (v .entry)) m ⌝ }
 {
     match m {
@@ -172,7 +173,7 @@ fn view_beside(n: usize, v: &[u8], m: Message) -> View
 // A message that was read, with the bytes of its view.
 fn taken_message(c: Node, s: usize, v: &[u8], m: Message, out: &mut [u8]) -> Reply
     requires { ⌜ (usable c ≡ true) × (1 ≤ s) × (s ≤ c .n)
-        × (allowed (c .n) m (now v) ≡ true) × (512 ≤ length (now out)) ⌝ }
+        × (allowed (c .n) m (now v) ≡ true) × (leastOutput ≤ length (now out)) ⌝ }
     ensures { λ r. ⌜ tells r (now (out .exit)) (taken c s (now (v .entry)) (now (out .entry)) (result m)) ⌝ }
 {
     if is_stale_message(c, s, m) {

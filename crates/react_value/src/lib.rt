@@ -15,6 +15,7 @@ use step::decide::write_wait;
 use table::views::newest_view;
 use table::views::put_entry;
 use table::views::tag_of;
+use view::NODES;
 use view::Report;
 use view::View;
 use view::absent;
@@ -23,6 +24,7 @@ ghost use mathlib.Core.Path.{_≡_};
 ghost use mathlib.Core.Bool.{true};
 ghost use Prim.Native.Nat.{_≤_};
 ghost use Rattle.octets.specs.Test.{pick};
+ghost use Rattle.view.specs.Size.{nodes};
 ghost use Rattle.table.specs.Table.{put};
 ghost use Rattle.step.specs.Allowed.{lawful};
 ghost use Rattle.step.specs.Step.{started};
@@ -61,7 +63,7 @@ fn raised_node(c: Node, t: u64) -> Node
 
 // The view with the entry put, where the flag says so.
 fn put_where(flag: bool, v: View, w: usize, t: u64, p: Report) -> View
-    requires { ⌜ (1 ≤ w) × (w ≤ 16) ⌝ }
+    requires { ⌜ (1 ≤ w) × (w ≤ nodes) ⌝ }
     ensures { λ r. ⌜ r ≡ pick flag (put v w t p) v ⌝ }
 {
     if flag {
@@ -72,13 +74,13 @@ fn put_where(flag: bool, v: View, w: usize, t: u64, p: Report) -> View
 
 // A value of writer w from sender s: the tag heard changes, and where it is new the tables that may hold it.
 fn received_node(c: Node, s: usize, w: usize, t: u64, p: Report) -> Node
-    requires { ⌜ (1 ≤ s) × (s ≤ 16) × (1 ≤ w) × (w ≤ 16) ⌝ }
+    requires { ⌜ (1 ≤ s) × (s ≤ nodes) × (1 ≤ w) × (w ≤ nodes) ⌝ }
     ensures { λ r. ⌜ r ≡ received c s w t p ⌝ }
 {
     let fresh = tag_of(c.last, w) < t;
     let wait = c.wait;
     let mut d = c;
-    d.heard[(s - 1) * 16 + (w - 1)] = t;
+    d.heard[(s - 1) * NODES + (w - 1)] = t;
     d.last = put_where(fresh, c.last, w, t, p);
     d.atmax = put_where(and(fresh, t <= c.maxtag), c.atmax, w, t, p);
     d.atround = put_where(and(fresh, round_holds(wait, t)), c.atround, w, t, p);
@@ -100,7 +102,7 @@ fn kept_node(c: Node, t: u64, v: View) -> Node
 
 // The handler of each kind. `v` is the view that a good message carries.
 pub fn react_to(c: Node, s: usize, m: Message, v: View) -> Step
-    requires { ⌜ (1 ≤ s) × (s ≤ c .n) × (c .n ≤ 16) × (lawful (c .n) m v ≡ true) ⌝ }
+    requires { ⌜ (1 ≤ s) × (s ≤ c .n) × (c .n ≤ nodes) × (lawful (c .n) m v ≡ true) ⌝ }
     ensures { λ r. ⌜ r ≡ react c s m v ⌝ }
 {
     match m {

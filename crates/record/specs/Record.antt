@@ -7,6 +7,7 @@ use lib.ListN.{replicate}
 use Rattle.view.specs.declared.View.{View}
 use Rattle.view.specs.View.{noView}
 use Rattle.table.specs.Table.{cells}
+use Rattle.table.specs.Quorum.{faults}
 use Rattle.record.specs.declared.Node.{Node}
 use Rattle.record.specs.declared.Wait.{Wait}
 use Rattle.record.specs.declared.Wait.the-variants.{Idle}
@@ -27,6 +28,10 @@ blank n own =
       kept = 0;
       keptview = noView;
     }
+
+-- f, how many nodes may stop: a record implies it by its n
+abbrev pub faultsOf : Node → ℕ
+faultsOf c = faults (c .n)
 
 -- another maxtag, and reports held for it
 abbrev pub setTop : Node → (maxtag : ℕ) → (atmax : View) → Node

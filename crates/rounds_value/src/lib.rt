@@ -21,7 +21,7 @@ use view::first_of;
 use wire::Message;
 ghost use mathlib.Core.Path.{_≡_};
 ghost use Prim.Native.Nat.{_≤_};
-ghost use Rattle.view.specs.Size.{limit};
+ghost use Rattle.view.specs.Size.{nodes, limit};
 ghost use Rattle.step.specs.Step.{afterReading, afterComparing, ended};
 ghost use Rattle.step.specs.Move.{opened, afterRead, afterGood, afterFailed};
 
@@ -138,7 +138,7 @@ pub fn after_read(s: Step, c: Node, o: Operation, r: u64) -> Step
 
 // A good round: after round 0 the next one opens, any other ends the operation. Its view is of n places.
 pub fn after_good(s: Step, c: Node, k: Kind, i: u64, r: u64) -> Step
-    requires { ⌜ (c .n ≤ 16) × (c .request ≤ limit) × (r ≤ limit) ⌝ }
+    requires { ⌜ (c .n ≤ nodes) × (c .request ≤ limit) × (r ≤ limit) ⌝ }
     ensures { λ d. ⌜ d ≡ afterGood s c k i r ⌝ }
 {
     let held = first_of(c.n, c.atround);

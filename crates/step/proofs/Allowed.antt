@@ -17,6 +17,7 @@ use Rattle.octets.proofs.Loop.{allTo-at}
 use Rattle.octets.proofs.Put.{length-part}
 use Rattle.octets.proofs.Table.{getD-padded, getD-past}
 use Rattle.octets.proofs.Test.{both-left, both-right, both-true}
+use Rattle.view.specs.Size.{nodes, viewSize, entrySize, tagSize, reportSize}
 use Rattle.view.specs.Report.{noReport, isNone, reportOf}
 use Rattle.view.specs.View.{tagAt, reportAt, reportWord, entryOkAt, viewBytes, viewOf, viewOk}
 use Rattle.view.specs.declared.Report.{Report}
@@ -47,7 +48,7 @@ none-is p h =
     refl
 
 -- entry i of a view within t
-module _ (t : ℕ) (v : View) (h : within t v ≡ true) (i : ℕ) (l : i < 16) where
+module _ (t : ℕ) (v : View) (h : within t v ≡ true) (i : ℕ) (l : i < nodes) where
   back : i + 1 - 1 ≡ i
   back = omega arith
 
@@ -61,7 +62,7 @@ module _ (t : ℕ) (v : View) (h : within t v ≡ true) (i : ℕ) (l : i < 16) w
       let e : entryOk t x p ≡ true = rw back at (within-at t v (i + 1) h (omega arith) (omega arith)) in
       none-is p (rw z at (both-right (leb x t) (either (leb 1 x) (isNone p)) e))
 
-pub lawful-allowed : (n : ℕ) (m : Message) (v : View) → n ≤ 16 → lawful n m v ≡ true → allowed n m (viewBytes n v) ≡ true
+pub lawful-allowed : (n : ℕ) (m : Message) (v : View) → n ≤ nodes → lawful n m v ≡ true → allowed n m (viewBytes n v) ≡ true
 unfolding allowed
 lawful-allowed n (Read q) v l h = h
 lawful-allowed n (ReadAnswer q t) v l h = h
@@ -71,7 +72,7 @@ lawful-allowed n (Echo t) v l h = h
 lawful-allowed n (Value t w p) v l h = h
 lawful-allowed n (Good t) v l h =
     let o : within t v ≡ true = both-right (isTag t) (within t v) h in
-    both-true (eq-eqb (length (viewBytes n v)) (16 * n) (length-viewBytes n v))
+    both-true (eq-eqb (length (viewBytes n v)) (viewSize n) (length-viewBytes n v))
     (both-true (both-left (isTag t) (within t v) h)
     (ap (viewOk n t) (sym (append-nil (viewBytes n v)))
     ∙ ok-written n t v [] (λ i k. entry-tag t v o i (omega arith)) (λ i k. entry-none t v o i (omega arith))))
@@ -91,7 +92,7 @@ unfolding reportOf part
 none-read s l e = ap reportOf (num-none s e ∙ ap (λ k. replicate k 0) l)
 
 -- entry by entry, where it stands and past n
-module _ (n t : ℕ) (b : List ℕ) (l : length b ≡ 16 * n) (h : viewOk n t b ≡ true) where
+module _ (n t : ℕ) (b : List ℕ) (l : length b ≡ viewSize n) (h : viewOk n t b ≡ true) where
   entry-read : (i : ℕ) → i < n → entryOk t (tagAt b i) (reportAt b i) ≡ true
   unfolding viewOk
   entry-read i k =
@@ -106,7 +107,7 @@ module _ (n t : ℕ) (b : List ℕ) (l : length b ≡ 16 * n) (h : viewOk n t b 
             (both-right (leb (tagAt b i) t) _ ok) in
             rw (
               z,
-              none-read (part b (16 * i + 8) 8) (length-part b (16 * i + 8) 8 (omega arith))
+              none-read (part b (entrySize * i + tagSize) reportSize) (length-part b (entrySize * i + tagSize) reportSize (omega arith))
                   (eqb-true (reportWord b i) 0 e),
             ) refl
       ])
@@ -115,9 +116,9 @@ module _ (n t : ℕ) (b : List ℕ) (l : length b ≡ 16 * n) (h : viewOk n t b 
   unfolding viewOf
   within-read = within-all t (viewOf n b) (λ w lo hi. elim (decLe w n) [
     | yes k ↦ let i : w - 1 < n = omega arith in
-        rw (getD-padded n 16 (tagAt b) (w - 1) 0 i, getD-padded n 16 (reportAt b) (w - 1) noReport i) (entry-read (w - 1) i)
+        rw (getD-padded n nodes (tagAt b) (w - 1) 0 i, getD-padded n nodes (reportAt b) (w - 1) noReport i) (entry-read (w - 1) i)
     | no k ↦ let i : n ≤ w - 1 = omega arith in
-        rw (getD-past n 16 (tagAt b) (w - 1) 0 i, getD-past n 16 (reportAt b) (w - 1) noReport i) (rw (leb·zero t) refl)
+        rw (getD-past n nodes (tagAt b) (w - 1) 0 i, getD-past n nodes (reportAt b) (w - 1) noReport i) (rw (leb·zero t) refl)
   ])
 
 pub allowed-lawful : (n : ℕ) (m : Message) (b : List ℕ) → allowed n m b ≡ true → lawful n m (viewOf n b) ≡ true
@@ -129,13 +130,13 @@ allowed-lawful n (WriteAnswer r t) b h = h
 allowed-lawful n (Echo t) b h = h
 allowed-lawful n (Value t w p) b h = h
 allowed-lawful n (Good t) b h =
-    let rest = both-right (eqb (length b) (16 * n)) (both (isTag t) (viewOk n t b)) h in
+    let rest = both-right (eqb (length b) (viewSize n)) (both (isTag t) (viewOk n t b)) h in
     both-true (both-left (isTag t) (viewOk n t b) rest)
     (within-read n t b (view-length n t b h) (both-right (isTag t) (viewOk n t b) rest))
 
 -- ---- the writer of a lawful message
 
-pub lawful-writer : (n : ℕ) (m : Message) (v : View) → n ≤ 16 → lawful n m v ≡ true → writerWithin 16 m ≡ true
+pub lawful-writer : (n : ℕ) (m : Message) (v : View) → n ≤ nodes → lawful n m v ≡ true → writerWithin nodes m ≡ true
 lawful-writer n (Read q) v l h = refl
 lawful-writer n (ReadAnswer q t) v l h = refl
 lawful-writer n (Write q t) v l h = refl
@@ -144,9 +145,9 @@ lawful-writer n (Echo t) v l h = refl
 lawful-writer n (Value t w p) v l h =
     let k : both (leb 1 w) (leb w n) ≡ true = both-right (both (leb 1 t) (isTag t)) (both (leb 1 w) (leb w n)) h in
     let m : w ≤ n = leb-true w n (both-right (leb 1 w) (leb w n) k) in
-    both-true (both-left (leb 1 w) (leb w n) k) (le-leb w 16 (omega arith))
+    both-true (both-left (leb 1 w) (leb w n) k) (le-leb w nodes (omega arith))
 lawful-writer n (Good t) v l h = refl
 
-pub writer-from : (w : ℕ) → both (leb 1 w) (leb w 16) ≡ true → (1 ≤ w) × (w ≤ 16)
+pub writer-from : (w : ℕ) → both (leb 1 w) (leb w nodes) ≡ true → (1 ≤ w) × (w ≤ nodes)
 writer-from w h =
-    (leb-true 1 w (both-left (leb 1 w) (leb w 16) h), leb-true w 16 (both-right (leb 1 w) (leb w 16) h))
+    (leb-true 1 w (both-left (leb 1 w) (leb w nodes) h), leb-true w nodes (both-right (leb 1 w) (leb w nodes) h))

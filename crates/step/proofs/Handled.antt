@@ -8,7 +8,7 @@ use lib.Dec.{leb, ltb, eqb}
 use borrow.Author.Tests.{leb-true, ltb-true, ltb-false}
 use Rattle.octets.specs.Test.{both}
 use Rattle.octets.proofs.Test.{both-left, both-right, true-false}
-use Rattle.view.specs.Size.{limit}
+use Rattle.view.specs.Size.{nodes, limit}
 use Rattle.view.specs.declared.Report.{Report}
 use Rattle.view.specs.declared.View.{View}
 use Rattle.wire.specs.Layout.{isRequest, isTag}
@@ -87,7 +87,7 @@ holds-tag Idle t e = true-false false e refl
 holds-tag (Reading o a m) t e = true-false false e refl
 holds-tag (Borrowing k r) t e = true-false false e refl
 
-received-parts : (c : Node) (s w t : ℕ) (r : Report) → Parts c → Long c → 1 ≤ w → w ≤ 16 → 1 ≤ t → t ≤ limit
+received-parts : (c : Node) (s w t : ℕ) (r : Report) → Parts c → Long c → 1 ≤ w → w ≤ nodes → 1 ≤ t → t ≤ limit
     → Parts (received c s w t r)
 unfolding received
 received-parts c s w t r p z a b l h =
@@ -167,7 +167,7 @@ react-parts c s (Value t w r) v p z l k h =
     let a : both (leb 1 t) (isTag t) ≡ true = both-left (both (leb 1 t) (isTag t)) (both (leb 1 w) (leb w (c .n))) h in
     let b : both (leb 1 w) (leb w (c .n)) ≡ true = both-right (both (leb 1 t) (isTag t)) (both (leb 1 w) (leb w (c .n))) h in
     let x : w ≤ c .n = leb-true w (c .n) (both-right (leb 1 w) (leb w (c .n)) b) in
-    let y : c .n ≤ 16 = p .n-high in
+    let y : c .n ≤ nodes = p .n-high in
     received-parts c s w t r p z (leb-true 1 w (both-left (leb 1 w) (leb w (c .n)) b)) (omega arith)
     (leb-true 1 t (both-left (leb 1 t) (isTag t) a)) (leb-true t limit (both-right (leb 1 t) (isTag t) a))
 react-parts c s (Good t) v p z l k h =

@@ -1,5 +1,5 @@
 -- Every message that a step of a usable record sends is of the layout, and a step sends at most four of them, of at most
--- 341 bytes. Assumes nothing.
+-- `stepMost` bytes. Assumes nothing.
 use mathlib.Core.Path.{_≡_, refl, sym, ap, _∙_, subst}
 use mathlib.Core.Bool.{true}
 use mathlib.Core.Logic.{_⊎_, ⊎-elim}
@@ -12,10 +12,10 @@ use lib.Dec.{leb, ltb, eqb}
 use lib.ListN.{length, length-append}
 use borrow.Author.Tests.{le-leb, ltb-true, eqb-true, eqb-false}
 use Rattle.octets.proofs.Test.{both-right, both-true}
-use Rattle.view.specs.Size.{limit}
+use Rattle.view.specs.Size.{nodes, limit}
 use Rattle.view.specs.View.{noView}
 use Rattle.view.specs.declared.View.{View}
-use Rattle.wire.specs.Layout.{size, isRequest, isTag}
+use Rattle.wire.specs.Layout.{twoSize, size, isRequest, isTag}
 use Rattle.wire.specs.declared.Message.{Message}
 use Rattle.wire.specs.declared.Message.the-variants.{Read, ReadAnswer, Write, WriteAnswer, Echo, Value, Good}
 use Rattle.table.specs.Quorum.{size as setSize, isQuorum, agreeing}
@@ -32,7 +32,7 @@ use Rattle.step.specs.declared.Sent.the-variants.{Nothing, One, Two}
 use Rattle.step.specs.declared.Step.{Step}
 use Rattle.step.specs.Step.{listed, messages, started}
 use Rattle.step.specs.Allowed.{lawful}
-use Rattle.step.specs.Claims.{AllLawful, sizes}
+use Rattle.step.specs.Claims.{AllLawful, sizes, handlerMost, readingMost, comparingMost, stepMost}
 use Rattle.step.specs.React.{isNew, react}
 use Rattle.step.specs.Move.{afterRead, readPass, writePass, nextTag, heldView, afterGood, afterFailed, comparePass}
 use Rattle.step.specs.Move.{borrowPass, reads, writes, compares, borrows, moveOn, begun}
@@ -50,9 +50,9 @@ nothing n v b = record { lawful-all = tt; small = omega arith }
 
 -- the three parts of a step for n nodes
 pub record Sends (n : ℕ) (s : Step) : Type 0 where
-  pub handler : (u : View) → Part n u 41 (s .outbox .handler)
-  pub reading : (u : View) → Part n u 56 (s .outbox .reading)
-  pub comparing : Part n (s .outbox .view) (44 + 16 * n) (s .outbox .comparing)
+  pub handler : (u : View) → Part n u handlerMost (s .outbox .handler)
+  pub reading : (u : View) → Part n u readingMost (s .outbox .reading)
+  pub comparing : Part n (s .outbox .view) (comparingMost n) (s .outbox .comparing)
 
 -- ---- what is in the limits
 
@@ -62,30 +62,30 @@ is-request q h = both-true (le-leb 1 (q + 1) (omega arith)) (le-leb (q + 1) limi
 write-lawful : (n : ℕ) (v : View) (q t : ℕ) → q + 1 ≤ limit → t ≤ limit → lawful n (Write (q + 1) t) v ≡ true
 write-lawful n v q t h k = both-true (is-request q h) (le-leb t limit k)
 
-one-write : (n : ℕ) (v : View) (q t b : ℕ) → q + 1 ≤ limit → t ≤ limit → 26 ≤ b → Part n v b (One (Write (q + 1) t))
+one-write : (n : ℕ) (v : View) (q t b : ℕ) → q + 1 ≤ limit → t ≤ limit → twoSize ≤ b → Part n v b (One (Write (q + 1) t))
 unfolding size
 one-write n v q t b h k l = record { lawful-all = (write-lawful n v q t h k, tt); small = omega arith }
 
 -- ---- the handlers
 
 module _ (c : Node) (s : ℕ) (v u : View) (p : Parts c) where
-  handler-part : (m : Message) → lawful (c .n) m v ≡ true → Part (c .n) u 41 (react c s m v .outbox .handler)
+  handler-part : (m : Message) → lawful (c .n) m v ≡ true → Part (c .n) u handlerMost (react c s m v .outbox .handler)
   unfolding react size
   handler-part (Read q) h = record { lawful-all = (both-true h (le-leb (c .maxtag) limit (p .max-high)), tt); small = omega arith }
-  handler-part (ReadAnswer q t) h = nothing (c .n) u 41
-  handler-part (Write q t) h = on-pick (Part (c .n) u 41) (ltb (c .maxtag) t) _ _
+  handler-part (ReadAnswer q t) h = nothing (c .n) u handlerMost
+  handler-part (Write q t) h = on-pick (Part (c .n) u handlerMost) (ltb (c .maxtag) t) _ _
       (λ e. let l : c .maxtag < t = ltb-true (c .maxtag) t e in
       record {
         lawful-all = (both-true (le-leb 1 t (omega arith)) (both-right (isRequest q) (isTag t) h), (h, tt));
         small = omega arith;
       })
       (λ e. record { lawful-all = (h, tt); small = omega arith })
-  handler-part (WriteAnswer q t) h = nothing (c .n) u 41
-  handler-part (Echo t) h = on-pick (Part (c .n) u 41) (ltb (c .maxtag) t) _ _
-      (λ e. record { lawful-all = (h, tt); small = omega arith }) (λ e. nothing (c .n) u 41)
-  handler-part (Value t w r) h = on-pick (Part (c .n) u 41) (isNew c w t) _ _
-      (λ e. record { lawful-all = (h, tt); small = omega arith }) (λ e. nothing (c .n) u 41)
-  handler-part (Good t) h = nothing (c .n) u 41
+  handler-part (WriteAnswer q t) h = nothing (c .n) u handlerMost
+  handler-part (Echo t) h = on-pick (Part (c .n) u handlerMost) (ltb (c .maxtag) t) _ _
+      (λ e. record { lawful-all = (h, tt); small = omega arith }) (λ e. nothing (c .n) u handlerMost)
+  handler-part (Value t w r) h = on-pick (Part (c .n) u handlerMost) (isNew c w t) _ _
+      (λ e. record { lawful-all = (h, tt); small = omega arith }) (λ e. nothing (c .n) u handlerMost)
+  handler-part (Good t) h = nothing (c .n) u handlerMost
 
 -- a handler's step has sent nothing else yet
 pub react-started : (c : Node) (s : ℕ) (m : Message) (v : View) → react c s m v ≡ started (react c s m v .node) s (react c s m v .outbox .handler)
@@ -98,8 +98,8 @@ react-started c s (Echo t) v = refl
 react-started c s (Value t w r) v = refl
 react-started c s (Good t) v = refl
 
-started-sends : (n : ℕ) (c : Node) (s : ℕ) (m : Sent) → ((u : View) → Part n u 41 m) → Sends n (started c s m)
-started-sends n c s m h = record { handler = h; reading = λ u. nothing n u 56; comparing = nothing n noView (44 + 16 * n) }
+started-sends : (n : ℕ) (c : Node) (s : ℕ) (m : Sent) → ((u : View) → Part n u handlerMost m) → Sends n (started c s m)
+started-sends n c s m h = record { handler = h; reading = λ u. nothing n u readingMost; comparing = nothing n noView (comparingMost n) }
 
 pub react-sends : (c : Node) (s : ℕ) (m : Message) (v : View) → Parts c → lawful (c .n) m v ≡ true → Sends (c .n) (react c s m v)
 react-sends c s m v p h = rw (react-started c s m v)
@@ -194,7 +194,7 @@ module _ (f : ℕ) (s : Step) (k : Sends (s .node .n) s) where
       record {
         handler = k .handler;
         reading = k .reading;
-        comparing = one-write n _ (c .request) (nextTag (c .maxtag) i r) (44 + 16 * n) (omega arith) (next-high c i r p o) (omega arith);
+        comparing = one-write n _ (c .request) (nextTag (c .maxtag) i r) (comparingMost n) (omega arith) (next-high c i r p o) (omega arith);
       })
       (λ z. record { handler = k .handler; reading = k .reading; comparing = nothing _ _ _ })))
       (λ e. k)
@@ -273,15 +273,15 @@ four-most s e =
     (⊎-elim (λ r. let q : length b ≡ 0 = ap (λ (m : Sent). length (listed m)) r in omega arith)
     (λ r. let q : length d ≡ 0 = ap (λ (m : Sent). length (listed m)) r in omega arith) e)
 
-pub bytes-most : (n : ℕ) (s : Step) → n ≤ 16 → Sends n s → One-empty s → sizes n (messages (s .outbox)) ≤ 341
+pub bytes-most : (n : ℕ) (s : Step) → n ≤ nodes → Sends n s → One-empty s → sizes n (messages (s .outbox)) ≤ stepMost
 bytes-most n s h k e =
     let o = s .outbox in
     let a = listed (o .handler) in
     let b = listed (o .reading) in
     let d = listed (o .comparing) in
-    let x : sizes n a ≤ 41 = k .handler (o .view) .small in
-    let y : sizes n b ≤ 56 = k .reading (o .view) .small in
-    let z : sizes n d ≤ 44 + 16 * n = k .comparing .small in
+    let x : sizes n a ≤ handlerMost = k .handler (o .view) .small in
+    let y : sizes n b ≤ readingMost = k .reading (o .view) .small in
+    let z : sizes n d ≤ comparingMost n = k .comparing .small in
     rw (sizes-append n (a ++ b) d, sizes-append n a b)
     (⊎-elim (λ r. let q : sizes n b ≡ 0 = ap (λ (m : Sent). sizes n (listed m)) r in omega arith)
     (λ r. let q : sizes n d ≡ 0 = ap (λ (m : Sent). sizes n (listed m)) r in omega arith) e)

@@ -4,11 +4,12 @@ use mathlib.Core.Path.{_≡_}
 use mathlib.Core.Bool.{Bool, true, false}
 use mathlib.Core.Logic.{_⊎_}
 use mathlib.Core.List.{List, [], _∷_}
-use Prim.Native.Nat.{ℕ, _+_, _<_}
+use Prim.Native.Nat.{ℕ, _+_, _<_, max}
 use lib.Dec.{leb}
 use lib.ListN.{length}
 use Rattle.view.specs.declared.View.{View}
-use Rattle.wire.specs.Layout.{size}
+use Rattle.view.specs.Size.{nodes}
+use Rattle.wire.specs.Layout.{oneSize, twoSize, valueSize, goodSize, size}
 use Rattle.wire.specs.declared.Message.{Message}
 use Rattle.wire.specs.declared.Message.the-variants.{Echo}
 use Rattle.table.specs.Quorum.{size as setSize, isQuorum, agreeing}
@@ -19,9 +20,9 @@ use Rattle.step.specs.Allowed.{lawful}
 
 -- the tables that a value is stored in have the length that their type says
 pub record Long (c : Node) : Type 0 where
-  pub last : (length (c .last .tags) ≡ 16) × (length (c .last .reports) ≡ 16)
-  pub atmax : (length (c .atmax .tags) ≡ 16) × (length (c .atmax .reports) ≡ 16)
-  pub atround : (length (c .atround .tags) ≡ 16) × (length (c .atround .reports) ≡ 16)
+  pub last : (length (c .last .tags) ≡ nodes) × (length (c .last .reports) ≡ nodes)
+  pub atmax : (length (c .atmax .tags) ≡ nodes) × (length (c .atmax .reports) ≡ nodes)
+  pub atround : (length (c .atround .tags) ≡ nodes) × (length (c .atround .reports) ≡ nodes)
 
 -- every message of a list is of the layout for n nodes, the good ones with the view v
 abbrev pub AllLawful : ℕ → View → List Message → Type 0
@@ -32,6 +33,21 @@ AllLawful n v (m ∷ ms) = (lawful n m v ≡ true) × AllLawful n v ms
 abbrev pub sizes : ℕ → List Message → ℕ
 sizes n [] = 0
 sizes n (m ∷ ms) = size n m + sizes n ms
+
+-- The most bytes that each part of a step sends: a handler an echo and a write answer, or a value; after a quorum of
+-- read answers a value and a write; after agreement a good message and a write. Of the last two one is empty.
+abbrev pub handlerMost : ℕ
+handlerMost = max (oneSize + twoSize) valueSize
+
+abbrev pub readingMost : ℕ
+readingMost = valueSize + twoSize
+
+abbrev pub comparingMost : ℕ → ℕ
+comparingMost n = goodSize n + twoSize
+
+-- the most bytes of a whole step: 341
+abbrev pub stepMost : ℕ
+stepMost = handlerMost + max readingMost (comparingMost nodes)
 
 -- the open operation must wait: there is no quorum of what it waits for, or no good message to borrow from
 abbrev pub MustWait : ℕ → Node → Wait → Type 0

@@ -23,7 +23,7 @@ use Rattle.record.specs.declared.Wait.the-variants.{Reading, Writing}
 use Rattle.step.specs.declared.Sent.the-variants.{Nothing}
 use Rattle.step.specs.declared.Ending.the-variants.{None}
 use Rattle.step.specs.Allowed.{lawful}
-use Rattle.step.specs.Claims.{Long, AllLawful, sizes, MustWait, Echoed, isReading, isWriting}
+use Rattle.step.specs.Claims.{Long, AllLawful, sizes, stepMost, MustWait, Echoed, isReading, isWriting}
 use Rattle.step.specs.Step.{messages, started}
 use Rattle.step.specs.React.{react}
 use Rattle.step.specs.Move.{messageStep, beginStep}
@@ -45,12 +45,12 @@ MessageLawful =
     AtUsable (λ f c s m v.
     AllLawful (c .n) (messageStep f c s m v .outbox .view) (messages (messageStep f c s m v .outbox)))
 
--- At most four messages are sent, of at most 341 bytes, which the 512 of the output buffer hold.
+-- At most four messages are sent, and of so many bytes that the output buffer holds them.
 abbrev pub MessageFits : Type 0
 MessageFits =
     AtUsable (λ f c s m v.
     f < c .n → (length (messages (messageStep f c s m v .outbox)) ≤ 4)
-    × (sizes (c .n) (messages (messageStep f c s m v .outbox)) ≤ 341))
+    × (sizes (c .n) (messages (messageStep f c s m v .outbox)) ≤ stepMost))
 
 -- ---- a message at any record
 
@@ -130,7 +130,7 @@ BeginLawful =
     AtIdle (λ f c o. AllLawful (c .n) (beginStep f c o .outbox .view) (messages (beginStep f c o .outbox)))
 
 abbrev pub BeginFits : Type 0
-BeginFits = AtIdle (λ f c o. f < c .n → sizes (c .n) (messages (beginStep f c o .outbox)) ≤ 341)
+BeginFits = AtIdle (λ f c o. f < c .n → sizes (c .n) (messages (beginStep f c o .outbox)) ≤ stepMost)
 
 -- An operation never ends in its begin step, which sends one read request, with the next number.
 abbrev pub BeginAsks : Type 0

@@ -12,14 +12,14 @@ use wire::Message;
 ghost use mathlib.Core.Path.{_≡_};
 ghost use Prim.Native.Nat.{_≤_};
 ghost use Rattle.octets.specs.Test.{pick};
-ghost use Rattle.view.specs.Size.{limit};
+ghost use Rattle.view.specs.Size.{nodes, limit};
 ghost use Rattle.step.specs.Step.{endingOf};
 ghost use Rattle.step.specs.React.{readWait, writeWait, roundHolds};
 ghost use Rattle.step.specs.Move.{nextTag};
 
 // The wait after a read answer from s with number q and tag t.
 pub fn read_wait(wait: Wait, request: u64, s: usize, q: u64, t: u64) -> Wait
-    requires { ⌜ (1 ≤ s) × (s ≤ 16) ⌝ }
+    requires { ⌜ (1 ≤ s) × (s ≤ nodes) ⌝ }
     ensures { λ r. ⌜ r ≡ readWait request s q t wait ⌝ }
 {
     match wait {
@@ -58,7 +58,7 @@ pub fn read_wait(wait: Wait, request: u64, s: usize, q: u64, t: u64) -> Wait
 
 // The wait after a write answer from s with number q and tag t.
 pub fn write_wait(wait: Wait, request: u64, s: usize, q: u64, t: u64) -> Wait
-    requires { ⌜ (1 ≤ s) × (s ≤ 16) ⌝ }
+    requires { ⌜ (1 ≤ s) × (s ≤ nodes) ⌝ }
     ensures { λ r. ⌜ r ≡ writeWait request s q t wait ⌝ }
 {
     match wait {

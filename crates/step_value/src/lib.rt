@@ -18,7 +18,7 @@ use wire::Message;
 ghost use mathlib.Core.Path.{_≡_};
 ghost use mathlib.Core.Bool.{true, false};
 ghost use Prim.Native.Nat.{_≤_};
-ghost use Rattle.view.specs.Size.{limit};
+ghost use Rattle.view.specs.Size.{nodes, limit};
 ghost use Rattle.record.specs.Usable.{isOpen, full, usable};
 ghost use Rattle.step.specs.Allowed.{lawful};
 ghost use Rattle.step.specs.Stale.{staleMessage, writerWithin};
@@ -62,7 +62,7 @@ pub fn begin_step(f: usize, c: Node, o: Operation) -> Step
 
 // Whether a message from s is refused with 9.
 pub fn is_stale_message(c: Node, s: usize, m: Message) -> bool
-    requires { ⌜ (1 ≤ s) × (s ≤ 16) × (writerWithin 16 m ≡ true) ⌝ }
+    requires { ⌜ (1 ≤ s) × (s ≤ nodes) × (writerWithin nodes m ≡ true) ⌝ }
     ensures { λ r. ⌜ r ≡ staleMessage c s m ⌝ }
 {
     match m {

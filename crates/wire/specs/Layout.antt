@@ -97,12 +97,24 @@ goodHead = secondAt
 abbrev pub longest : ℕ
 longest = goodHead + viewSize nodes
 
--- the seven lengths
+-- the lengths: of a message with one number after its kind, with two, of a value, of a good message
+abbrev pub oneSize : ℕ
+oneSize = firstAt + numberSize
+
+abbrev pub twoSize : ℕ
+twoSize = secondAt + numberSize
+
+abbrev pub valueSize : ℕ
+valueSize = thirdAt + reportSize
+
+abbrev pub goodSize : ℕ → ℕ
+goodSize n = goodHead + viewSize n
+
 unfoldable pub size : ℕ → Message → ℕ
-size n (Read r) = firstAt + numberSize
-size n (ReadAnswer r t) = secondAt + numberSize
-size n (Write r t) = secondAt + numberSize
-size n (WriteAnswer r t) = secondAt + numberSize
-size n (Echo t) = firstAt + numberSize
-size n (Value t w p) = thirdAt + reportSize
-size n (Good t) = goodHead + viewSize n
+size n (Read r) = oneSize
+size n (ReadAnswer r t) = twoSize
+size n (Write r t) = twoSize
+size n (WriteAnswer r t) = twoSize
+size n (Echo t) = oneSize
+size n (Value t w p) = valueSize
+size n (Good t) = goodSize n

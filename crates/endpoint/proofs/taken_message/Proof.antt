@@ -17,6 +17,8 @@ use Rattle.endpoint.proofs.Rim.{read-writer, read-lawful}
 use Rattle.endpoint.proofs.Rooms.{message-fit}
 use Rattle.endpoint.proofs.taken_message.Statement.{statement}
 use Rattle.endpoint.proofs.taken_message.Tie as tie
+use Rattle.record.specs.Record.{faultsOf}
+use Rattle.view.specs.Size.{nodes}
 
 -- the lengths that the type says
 long : (c : tie.Start) → Long (c .args .c)
@@ -31,7 +33,7 @@ is-stale-message-requires : tie.Need-is-stale-message-requires
 is-stale-message-requires c κs =
     let a = c .before .before .args in
     let p = c .before .before .pre in
-    let small : a .c .n ≤ 16 = parts _ (p .0) .n-high in
+    let small : a .c .n ≤ nodes = parts _ (p .0) .n-high in
     (p .1, omega (arith, p .2, small), read-writer (a .c .n) (a .v .now) (a .m) (p .3) small)
 
 returns : tie.Need-returns
@@ -73,7 +75,7 @@ returns-2 c =
     let e = taken-goes (a .c) (a .s) (a .v .now) (a .out .now) (a .m) new in
     let s = c .before .before .before .before .message-step .ensures
     ∙ ap (λ (f : ℕ). messageStep f (a .c) (a .s) (a .m) (view .result)) (c5 .most-faults .ensures)
-    ∙ ap (λ (v : View). messageStep (faults (a .c .n)) (a .c) (a .s) (a .m) v) (view .ensures) in
+    ∙ ap (λ (v : View). messageStep (faultsOf (a .c)) (a .c) (a .s) (a .m) v) (view .ensures) in
     let out = c .before .before .let-out in
     subst (tells (out .result) _) (ap (λ (x : Step). letOut x (a .out .now)) s ∙ sym e) (out .ensures)
 
