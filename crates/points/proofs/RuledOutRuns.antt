@@ -24,12 +24,12 @@ use Rattle.cluster.specs.Event.{isCut}
 use Rattle.cluster.specs.declared.Extent.{Extent}
 use Rattle.cluster.specs.declared.Extent.the-variants.{Whole, Cut}
 use Rattle.history.specs.Message.{Entry, absent, read}
-use Rattle.eqaso.specs.Algorithm as A
-use Rattle.eqaso.specs.Algorithm.{same}
-use Rattle.eqaso.specs.Cluster as K
 use Rattle.history.specs.Event as H
 use Rattle.history.specs.Trace as T
 use Rattle.history.specs.Order.{OneTo, Finished}
+use Rattle.eqaso.specs.Algorithm as A
+use Rattle.eqaso.specs.Algorithm.{same}
+use Rattle.eqaso.specs.Cluster as K
 use Rattle.mirror.specs.Mirrors.{channelRoom}
 use Rattle.mirror.specs.Run as R
 use Rattle.mirror.proofs.Demand2.{demand2}
