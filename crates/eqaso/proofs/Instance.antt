@@ -1,7 +1,7 @@
 -- Demand 3 at document 01's session: one node, an update, a scan, and a delivery with nothing to deliver.
 use native.Mathlib.Omega.{arith}
-use Rattle.eqaso.specs.Claims.{sixteen}
 use Rattle.history.specs.Order.{SingleOrder, Quiet}
+use Rattle.eqaso.specs.Claims.{sixteen}
 use Rattle.eqaso.specs.Cluster.{trace}
 use Rattle.eqaso.proofs.Runs.{session}
 use Rattle.eqaso.proofs.Claims.{claim3}

@@ -3,11 +3,11 @@ use Prim.Native.Nat.{ℕ, _+_, _<_}
 use mathlib.Core.Path.{_≡_, refl, sym, subst, ap, _∙_}
 use mathlib.Core.Bool.{Bool, false}
 use mathlib.Core.List.{List}
-use Rattle.eqaso.specs.Algorithm.{idle}
 use Rattle.history.specs.Event.{Event}
 use Rattle.history.specs.Trace.{Trace, Begun, nothing, updating, scanning, begun, Fate, unfinished, ended, fate}
 use Rattle.history.specs.Trace.{stopped}
 use Rattle.history.specs.Order.{OneTo, Finished, ClosedBy, NothingWaits, Quiet}
+use Rattle.eqaso.specs.Algorithm.{idle}
 use Rattle.eqaso.specs.Cluster.{Cluster, start, after, trace}
 use Rattle.eqaso.proofs.Linked.{Linked, linked, waits-is}
 use Rattle.eqaso.proofs.Book.{bookOf, At}

@@ -5,11 +5,11 @@ use mathlib.Core.Bool.{decide}
 use mathlib.Core.List.{[], _∷_}
 use Rattle.theory.specs.Count.{count}
 use Rattle.theory.specs.Update.{upd, upd2}
-use Rattle.history.specs.Message.{absent, same}
+use Rattle.history.specs.Message.{absent}
 use Rattle.history.specs.Event.{round1, done, shown, direct, sentTo}
 use Rattle.history.specs.Trace.{updating, scanning, begun, unfinished, ended, firstEnding, fate, tagsSent, ownTags}
 use Rattle.history.specs.Trace.{largest, firstAbove, tagAt}
-use Rattle.eqaso.specs.Algorithm.{limit, has, within, newest, table, kept, moveOn}
+use Rattle.eqaso.specs.Algorithm.{same, limit, has, within, newest, table, kept, moveOn}
 use Rattle.eqaso.specs.Cluster.{entries, roomy, event, traceFrom, trace}
 use Rattle.eqaso.specs.Claims.{sixteen}
 use Rattle.eqaso.proofs.Runs.{session, cut-but-shown}

@@ -8,11 +8,11 @@ use mathlib.Core.List.{List, [], _∷_, _++_}
 use lib.ListN.{replicate, length}
 use Rattle.theory.specs.Count.{count}
 use Rattle.theory.specs.Update.{upd, upd2}
-use Rattle.history.specs.Message.{Entry, absent, same}
+use Rattle.history.specs.Message.{Entry, absent}
 use Rattle.history.specs.Event.{update, scan, round1, none, done, shown, spent, direct, borrowed, Event, begin, deliver}
 use Rattle.history.specs.Event.{whole, cut, Answer, refused, accepted, Sent, sentTo}
 use Rattle.history.specs.Trace.{Trace}
-use Rattle.eqaso.specs.Algorithm.{limit, has, within, newest, table, kept, moveOn}
+use Rattle.eqaso.specs.Algorithm.{same, limit, has, within, newest, table, kept, moveOn}
 use Rattle.eqaso.specs.Cluster.{entries, roomy, event, traceFrom, trace}
 use Rattle.eqaso.specs.Claims.{sixteen}
 

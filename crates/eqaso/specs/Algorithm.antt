@@ -13,7 +13,7 @@ use Rattle.history.specs.Event.{Ending, none, done, shown, spent}
 pub use Rattle.eqaso.specs.Node.{Nodes, nobody, Wait, idle, reading, writing, comparing, borrowing, Good, Node}
 pub use Rattle.eqaso.specs.Node.{fresh, turned, topping, holding, keep, waiting, asking, latest, viewUpto, agrees}
 pub use Rattle.eqaso.specs.Node.{quorum?}
-unfoldable pub use Rattle.eqaso.specs.Node.{has, within, newest, highest, table, kept}
+unfoldable pub use Rattle.eqaso.specs.Node.{same, has, within, newest, highest, table, kept}
 
 -- The largest tag, and the largest request number.
 unfoldable pub limit : ℕ

@@ -2,12 +2,13 @@
 -- here. Lines are those of Algorithm 1 in the source, amendments are the five of document 01.
 use Prim.Native.Nat.{ℕ, zero, suc, _-_, _≤_, max}
 use native.Mathlib.Decide.{ℕ-discrete, decLe, decLt}
+use mathlib.Core.Path.{_≡_, _∙_, ap}
 use mathlib.Core.Logic.{ite}
 use mathlib.Core.Bool.{Bool, true, false, cond, decide, _&&_, _||_}
 use mathlib.Core.List.{List, [], _∷_, _++_}
 use lib.ListN.{replicate}
 use Rattle.theory.specs.Count.{count}
-use Rattle.history.specs.Message.{Value, same, Entry, absent, View}
+use Rattle.history.specs.Message.{Value, of, Entry, absent, View}
 use Rattle.history.specs.Event.{Operation, Round}
 
 -- Who has answered the current request.
@@ -78,6 +79,18 @@ abbrev pub asking : Wait → Node → Node
 asking w ν = turned (suc (ν .request)) w ν
 
 -- Sets of values.
+
+abbrev same-by : (a b : Value) → Dec (a .tag ≡ b .tag) → Dec (a .writer ≡ b .writer) → Dec (a .report ≡ b .report)
+    → Dec (a ≡ b)
+same-by a b (yes p) (yes q) (yes r) = yes
+    (ap (λ x. of x (a .writer) (a .report)) p ∙ ap (λ x. of (b .tag) x (a .report)) q ∙ ap (of (b .tag) (b .writer)) r)
+same-by a b (no p) q r = no λ e. p (ap (λ v. v .tag) e)
+same-by a b (yes p) (no q) r = no λ e. q (ap (λ v. v .writer) e)
+same-by a b (yes p) (yes q) (no r) = no λ e. r (ap (λ v. v .report) e)
+
+-- Whether two values are the same one.
+unfoldable pub same : (a b : Value) → Dec (a ≡ b)
+same a b = same-by a b (ℕ-discrete (a .tag) (b .tag)) (ℕ-discrete (a .writer) (b .writer)) (ℕ-discrete (a .report) (b .report))
 
 unfoldable pub has : List Value → Value → Bool
 has [] v = false

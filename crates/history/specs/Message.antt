@@ -1,9 +1,7 @@
 -- What the nodes of a cluster send to each other, as values: the messages of Algorithm 1 of the source with document
 -- 01's amendments. A report is an opaque number here. How a message stands in bytes is another layer's matter.
 use Prim.Native.Nat.{ℕ}
-use native.Mathlib.Decide.{ℕ-discrete}
 use mathlib.Core.List.{List}
-use mathlib.Core.Path.{_≡_, _∙_, ap}
 
 -- One written value: ⟨v, ⟨r, j⟩⟩ of the source. The tag is document 01's stamp; the writer is a node from 1 to n.
 pub record Value : Type 0 where
@@ -13,18 +11,6 @@ pub record Value : Type 0 where
 
 abbrev pub of : ℕ → ℕ → ℕ → Value
 of t w r = record { tag = t; writer = w; report = r }
-
-abbrev same-by : (a b : Value) → Dec (a .tag ≡ b .tag) → Dec (a .writer ≡ b .writer) → Dec (a .report ≡ b .report)
-    → Dec (a ≡ b)
-same-by a b (yes p) (yes q) (yes r) = yes
-    (ap (λ x. of x (a .writer) (a .report)) p ∙ ap (λ x. of (b .tag) x (a .report)) q ∙ ap (of (b .tag) (b .writer)) r)
-same-by a b (no p) q r = no λ e. p (ap (λ v. v .tag) e)
-same-by a b (yes p) (no q) r = no λ e. q (ap (λ v. v .writer) e)
-same-by a b (yes p) (yes q) (no r) = no λ e. r (ap (λ v. v .report) e)
-
--- Whether two values are the same one.
-unfoldable pub same : (a b : Value) → Dec (a ≡ b)
-same a b = same-by a b (ℕ-discrete (a .tag) (b .tag)) (ℕ-discrete (a .writer) (b .writer)) (ℕ-discrete (a .report) (b .report))
 
 -- What a view has of one node: the tag and report of its newest value in the view, or (0, 0) where it has none.
 pub record Entry : Type 0 where

@@ -30,9 +30,9 @@ use Rattle.history.specs.Message as M
 use Rattle.history.specs.Event as H
 use Rattle.history.specs.Trace.{stopped, letOutTo, handedOver, waits}
 use Rattle.history.specs.Order.{OneTo}
+use Rattle.eqaso.specs.Algorithm.{same, limit, table, has, newest, highest, latest, fresh, moveOn}
 use Rattle.eqaso.specs.Cluster as K
 use Rattle.eqaso.specs.Cluster.{traceFrom, trace}
-use Rattle.eqaso.specs.Algorithm.{limit, table, has, newest, highest, latest, fresh, moveOn}
 use Rattle.refine.proofs.Turned.{follows-fresh}
 use Rattle.mirror.specs.Mirrors.{channelRoom}
 use Rattle.mirror.specs.Encodes.{EachEncodes}
@@ -78,7 +78,7 @@ abbrev posting : List Event
 posting = begin 1 (Update noReport) Whole ∷ deliver 1 1 Whole ∷ deliver 1 1 Whole ∷ deliver 1 1 Whole ∷ []
 
 last-tag : latest 1 (K.after 1 0 channelRoom K.start (map meaning posting) .nodes 1 .all) .tag ≡ 1
-unfolding K.after K.event K.roomy H.sentTo K.entries moveOn table limit newest highest has M.same upd upd2 count ℕ-discrete decLe decLt decide
+unfolding K.after K.event K.roomy H.sentTo K.entries moveOn table limit newest highest has same upd upd2 count ℕ-discrete decLe decLt decide
 last-tag = refl
 
 no-last : latest 1 (fresh .all) .tag ≡ 0

@@ -11,12 +11,11 @@ use Rattle.theory.specs.Count.{count}
 use Rattle.theory.specs.Update.{upd, upd2}
 use Rattle.layout.specs.Layout.{clusterSize}
 use Rattle.cluster.specs.Event.{Result, fresh}
-use Rattle.history.specs.Message.{same}
 use Rattle.history.specs.Event.{sentTo}
 use Rattle.history.specs.Trace as T
+use Rattle.eqaso.specs.Algorithm.{same, limit, has, within, newest, table, kept, moveOn}
 use Rattle.eqaso.specs.Cluster as K
 use Rattle.eqaso.specs.Cluster.{entries, roomy, event}
-use Rattle.eqaso.specs.Algorithm.{limit, has, within, newest, table, kept, moveOn}
 use Rattle.mirror.specs.Mirrors.{channelRoom}
 use Rattle.mirror.specs.Run as R
 use Rattle.mirror.proofs.Demand2.{demand2}

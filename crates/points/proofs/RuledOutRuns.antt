@@ -23,11 +23,12 @@ use Rattle.cluster.specs.Event as E
 use Rattle.cluster.specs.Event.{isCut}
 use Rattle.cluster.specs.declared.Extent.{Extent}
 use Rattle.cluster.specs.declared.Extent.the-variants.{Whole, Cut}
-use Rattle.history.specs.Message.{Entry, absent, same, read}
+use Rattle.history.specs.Message.{Entry, absent, read}
 use Rattle.history.specs.Event as H
 use Rattle.history.specs.Trace as T
 use Rattle.history.specs.Order.{OneTo, Finished}
 use Rattle.eqaso.specs.Algorithm as A
+use Rattle.eqaso.specs.Algorithm.{same}
 use Rattle.eqaso.specs.Cluster as K
 use Rattle.mirror.specs.Mirrors.{channelRoom}
 use Rattle.mirror.specs.Run as R

@@ -24,9 +24,9 @@ use Rattle.lines.specs.declared.Extent.{Extent}
 use Rattle.lines.specs.declared.Extent.the-variants as Written
 use Rattle.input.specs.Input.{linesFrom, restFrom, joined}
 use Rattle.answers.specs.Answer.{line}
-use Rattle.eqaso.specs.Algorithm.{limit, table, moveOn}
 use Rattle.history.specs.Event as H
 use Rattle.history.specs.Trace.{Trace}
+use Rattle.eqaso.specs.Algorithm.{limit, table, moveOn}
 use Rattle.eqaso.specs.Cluster as K
 use Rattle.eqaso.specs.Cluster.{trace}
 use Rattle.mirror.specs.Mirrors.{channelRoom}

@@ -18,13 +18,12 @@ use Rattle.digits.specs.Decimal.{allDigits, value}
 use Rattle.digits.specs.Hex.{allHex, hexValue, hexBytes}
 use Rattle.lines.specs.Grammar.{numberOf, reportIn, placeOf, fieldLength, word, after, tailOf, eventOf, nodesOf}
 use Rattle.input.specs.Input.{linesFrom, restFrom}
-use Rattle.history.specs.Message.{same}
 use Rattle.history.specs.Event as H
 use Rattle.history.specs.Event.{none, done, shown, spent}
 use Rattle.history.specs.Trace.{Seen, firstEnding}
 use Rattle.history.specs.Order.{SingleOrder, Quiet}
 use Rattle.history.proofs.RuledOutOpen.{open-scan-out}
-use Rattle.eqaso.specs.Algorithm.{limit, table, moveOn, has, within, newest, kept}
+use Rattle.eqaso.specs.Algorithm.{same, limit, table, moveOn, has, within, newest, kept}
 use Rattle.eqaso.specs.Cluster as K
 use Rattle.eqaso.specs.Cluster.{traceFrom, trace}
 use Rattle.mirror.specs.Mirrors.{channelRoom}
