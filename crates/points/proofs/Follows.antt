@@ -1,5 +1,6 @@
--- The clauses of the points that follow from others, of any calls: they say a case in document 01's words, and rule out
--- no call that the others do not. Of the law on channels `only` follows from `full` by `only-if-full`.
+-- The clauses of the points that follow from others, of any calls: from which single fact. They say a case in document
+-- 01's words, and rule out no call that that fact does not. In the law on channels `only` follows from `full`, by
+-- `only-if-full`.
 use Prim.Native.Nat.{ℕ, _+_, _*_, _≤_, _<_}
 use native.Mathlib.Omega.{arith}
 use mathlib.Core.Path.{_≡_, refl, sym, ap, _∙_}
@@ -7,7 +8,7 @@ use mathlib.Core.Bool.{true, false}
 use mathlib.Core.List.{List, [], _∷_, map}
 use lib.ListN.{length, replicate, length-replicate}
 use Rattle.octets.specs.Answer.{Answer, result}
-use Rattle.octets.specs.Bytes.{part}
+use Rattle.octets.specs.Bytes.{part, put}
 use Rattle.octets.specs.Loop.{allTo, sumTo}
 use Rattle.octets.proofs.Put.{put-over}
 use Rattle.view.specs.Report.{reportOf}
@@ -15,6 +16,7 @@ use Rattle.view.specs.Size.{limit}
 use Rattle.view.specs.View.{viewOk}
 use Rattle.view.specs.declared.Report.{Report}
 use Rattle.wire.specs.Layout.{encode, allowed, size}
+use Rattle.wire.specs.declared.Message.{Message}
 use Rattle.wire.specs.declared.Message.the-variants.{Read, Write, Good}
 use Rattle.wire.proofs.Numbers.{length-encode}
 use Rattle.figures.specs.Figures.{totals}
@@ -22,8 +24,8 @@ use Rattle.record.specs.Usable.{isOpen}
 use Rattle.record.specs.declared.Node.{Node}
 use Rattle.record.specs.declared.Operation.{Operation}
 use Rattle.record.specs.declared.Operation.the-variants.{Update}
-use Rattle.node.specs.declared.Ending.the-variants.{None}
 use Rattle.region.specs.Channel.{countOf}
+use Rattle.entries.specs.Entries.{goTo}
 use Rattle.layout.specs.Layout.{stated, stopped, node, channel}
 use Rattle.cluster.specs.Event.{refuse}
 use Rattle.cluster.specs.declared.Extent.the-variants.{Whole}
@@ -32,12 +34,12 @@ use Rattle.eqaso.specs.Cluster as K
 use Rattle.eqaso.specs.Message.{absent}
 use Rattle.eqaso.specs.Order.{OneTo, Finished}
 use Rattle.eqaso.specs.Trace as T
-use Rattle.mirror.specs.Run as R
 use Rattle.points.specs.Absences.{Delivery, scanThen, AllWhole, NothingWaits, ShowsNone}
 use Rattle.points.specs.Calls.{Calls, traceFrom, traceOf}
-use Rattle.points.specs.Channels.{MayBegin, MayDeliver, Judged, waits, stillWaits, begun, handled, filled}
+use Rattle.points.specs.Channels.{MayBegin, MayDeliver, StandsAfter, Room, waits, stillWaits, begun, handled}
+use Rattle.points.specs.Channels.{filled}
 use Rattle.points.specs.LastTag.{LastAnswer, used, spentBy}
-use Rattle.points.specs.Messages.{Taken, zeros, readOne}
+use Rattle.points.specs.Messages.{zeros, readOne}
 use Rattle.points.proofs.Absences.{stands}
 use Rattle.points.proofs.Begins.{still-stands, one-each, no-room}
 use Rattle.points.proofs.Channels.{own-count, no-place}
@@ -46,13 +48,16 @@ use Rattle.points.proofs.LastTag.{used-by-answer, used-by-own}
 module _ (calls : Calls) where
   -- ---- n, f and messages
 
-  absent-one : Taken calls 1 → calls .figures 1 (replicate 16 0) ≡ result zeros
-  unfolding viewOk allTo sumTo totals reportOf part
-  absent-one T = T .figures (replicate 16 0) refl refl
+  abbrev Sums : ℕ → Type 0
+  Sums n = (v : List ℕ) → length v ≡ 16 * n → viewOk n limit v ≡ true → calls .figures n v ≡ result (totals n v)
 
-  absent-sixteen : Taken calls 16 → calls .figures 16 (replicate 256 0) ≡ result zeros
+  absent-one : Sums 1 → calls .figures 1 (replicate 16 0) ≡ result zeros
   unfolding viewOk allTo sumTo totals reportOf part
-  absent-sixteen T = T .figures (replicate 256 0) refl refl
+  absent-one figures = figures (replicate 16 0) refl refl
+
+  absent-sixteen : Sums 16 → calls .figures 16 (replicate 256 0) ≡ result zeros
+  unfolding viewOk allTo sumTo totals reportOf part
+  absent-sixteen figures = figures (replicate 256 0) refl refl
 
   values : ((n : ℕ) → 1 ≤ n → (2 * calls .faults n < n) × (n ≤ 2 * (calls .faults n + 1)))
       → map (calls .faults) (1 ∷ 2 ∷ 3 ∷ 4 ∷ 5 ∷ 16 ∷ []) ≡ 0 ∷ 0 ∷ 1 ∷ 1 ∷ 2 ∷ 7 ∷ []
@@ -68,22 +73,23 @@ module _ (calls : Calls) where
       is : (n f : ℕ) → 2 * f < n → n ≤ 2 * (f + 1) → calls .faults n ≡ f
       is n f lo hi = omega (arith, largest n (omega arith) .0, largest n (omega arith) .1)
 
-  read-one : {n : ℕ} → Taken calls n → calls .read n readOne ≡ result (Read 1)
+  read-one : {n : ℕ} → ((m : Message) (v : List ℕ) → allowed n m v ≡ true → calls .read n (encode m v) ≡ result m)
+      → calls .read n readOne ≡ result (Read 1)
   unfolding allowed encode
-  read-one T = T .read (Read 1) [] refl
+  read-one read = read (Read 1) [] refl
 
-  written : {n : ℕ} → Taken calls n → (v out : List ℕ) → length out ≡ 15
-      → calls .write n (Read 1) v out ≡ (result 15, readOne)
-  unfolding allowed encode
-  written T v out e = T .write (Read 1) v out refl (omega arith)
-      ∙ ap (λ l. (result 15, l)) (put-over out readOne (sym e))
+  module _ {n : ℕ} (write : (m : Message) (v out : List ℕ) → allowed n m v ≡ true → length (encode m v) ≤ length out
+      → calls .write n m v out ≡ (result (length (encode m v)), put out 0 (encode m v))) where
+    written : (v out : List ℕ) → length out ≡ 15 → calls .write n (Read 1) v out ≡ (result 15, readOne)
+    unfolding allowed encode
+    written v out e = write (Read 1) v out refl (omega arith) ∙ ap (λ l. (result 15, l)) (put-over out readOne (sym e))
 
-  long : {n : ℕ} → Taken calls n → (t : ℕ) (v out : List ℕ) → allowed n (Good t) v ≡ true → 18 + 16 * n ≤ length out
-      → calls .write n (Good t) v out .0 ≡ result (18 + 16 * n)
-  unfolding size
-  long {n} T t v out h l =
-      let e : length (encode (Good t) v) ≡ 18 + 16 * n = length-encode n (Good t) v h in
-      ap (λ (p : Answer ℕ × List ℕ). p .0) (T .write (Good t) v out h (omega (arith, e))) ∙ ap result e
+    long : (t : ℕ) (v out : List ℕ) → allowed n (Good t) v ≡ true → 18 + 16 * n ≤ length out
+        → calls .write n (Good t) v out .0 ≡ result (18 + 16 * n)
+    unfolding size
+    long t v out h l =
+        let e : length (encode (Good t) v) ≡ 18 + 16 * n = length-encode n (Good t) v h in
+        ap (λ (p : Answer ℕ × List ℕ). p .0) (write (Good t) v out h (omega (arith, e))) ∙ ap result e
 
   -- ---- the largest tag
 
@@ -127,25 +133,25 @@ module _ (calls : Calls) where
   -- ---- channels
 
   module _ (b : List ℕ) (c d : ℕ) (o : Operation) (M : MayBegin b c Whole) (at : OneTo (stated b) d)
-      (up : stopped b d ≡ false)
-      (J : Judged calls (R.begin c o Whole) b c Whole (waits b c) (begun b c o Whole)) where
-    sixteenth-waits : countOf (channel b c d) ≡ 15 → calls .begin c o Whole b .answer ≡ result None
+      (up : stopped b d ≡ false) where
+    sixteenth-waits : ((k : ℕ) → StandsAfter b c Whole k → countOf (channel (calls .begin c o Whole b .bytes) c k)
+        ≡ waits b c k + goTo k (begun b c o Whole)) → countOf (channel b c d) ≡ 15
         → countOf (channel (calls .begin c o Whole b .bytes) c d) ≡ 16
-    sixteenth-waits e h = omega (arith, J .holds (None, h) d (still-stands b c d at up), one-each b c o M d at)
+    sixteenth-waits holds e = omega (arith, holds d (still-stands b c d at up), one-each b c o M d at)
 
-    seventeenth : countOf (channel b c d) ≡ 16 → calls .begin c o Whole b ≡ refuse 11 b
-    seventeenth e = J .full (no-room b c o M d at up e)
+    seventeenth : ((Room b c Whole (waits b c) (begun b c o Whole) → ⊥) → calls .begin c o Whole b ≡ refuse 11 b)
+        → countOf (channel b c d) ≡ 16 → calls .begin c o Whole b ≡ refuse 11 b
+    seventeenth full e = full (no-room b c o M d at up e)
 
   own-waits : (b : List ℕ) (c q : ℕ) → MayDeliver b c c Whole (Read q) → isOpen (node b c .wait) ≡ false
-      → Judged calls (R.deliver c c Whole) b c Whole (stillWaits b c c) (handled b c c Whole (Read q))
-      → countOf (channel b c c) ≡ 16 → calls .deliver c c Whole b .answer ≡ result None
+      → ((k : ℕ) → StandsAfter b c Whole k → countOf (channel (calls .deliver c c Whole b .bytes) c k)
+      ≡ stillWaits b c c k + goTo k (handled b c c Whole (Read q))) → countOf (channel b c c) ≡ 16
       → countOf (channel (calls .deliver c c Whole b .bytes) c c) ≡ 16
-  own-waits b c q M idle J e h = J .holds (None, h) c (still-stands b c c (M .receiver) (M .stands))
-      ∙ own-count b c q M idle ∙ e
+  own-waits b c q M idle holds e = holds c (still-stands b c c (M .receiver) (M .stands)) ∙ own-count b c q M idle ∙ e
 
   abbrev writes : List ℕ
   writes = filled 1 1 16 (Write 1 1)
 
-  overflow : Judged calls (R.deliver 1 1 Whole) writes 1 Whole (stillWaits writes 1 1)
-      (handled writes 1 1 Whole (Write 1 1)) → calls .deliver 1 1 Whole writes ≡ refuse 11 writes
-  overflow J = J .full (no-place 1 (omega arith, omega arith))
+  overflow : ((Room writes 1 Whole (stillWaits writes 1 1) (handled writes 1 1 Whole (Write 1 1)) → ⊥)
+      → calls .deliver 1 1 Whole writes ≡ refuse 11 writes) → calls .deliver 1 1 Whole writes ≡ refuse 11 writes
+  overflow full = full (no-place 1 (omega arith, omega arith))

@@ -167,9 +167,13 @@ first-only P =
 abbrev untold : ℕ → List ℕ → E.Result
 untold n b = record { bytes = E.fresh n b .bytes; answer = refused 12; view = noView; sent = [] }
 
+untold-at : (b : List ℕ) → length b ≡ code .size 16
+    → RuledOut (starts (λ n b. pick (isSize n) (untold n b) (E.fresh n b)))
+untold-at b long P = apart (ap (λ (r : E.Result). r .answer)
+    (P .sizes .taken 16 (omega arith, omega arith) .fresh-cluster b long)) refl
+
 start-untold : RuledOut (starts (λ n b. pick (isSize n) (untold n b) (E.fresh n b)))
-start-untold P = apart (ap (λ (r : E.Result). r .answer)
-    (P .sizes .taken 16 (omega arith, omega arith) .fresh-cluster (lent 16) (long-lent 16))) refl
+start-untold P = untold-at (lent 16) (long-lent 16) P
 
 no-size : RuledOut (lends (λ n. 0))
 unfolding E.fresh
