@@ -47,7 +47,7 @@ use Rattle.cluster.proofs.Room.{goneIn}
 use Rattle.eqaso.specs.Order.{OneTo}
 use Rattle.mirror.specs.Run as R
 use Rattle.points.specs.Calls.{code}
-use Rattle.points.specs.Channels.{MayDeliver, Room, Judged, stillWaits, handled, filled, Filled, Channels}
+use Rattle.points.specs.Channels.{MayDeliver, Room, Judged, stillWaits, handled, Filled, Channels}
 use Rattle.points.proofs.Filled.{filled-reads, filled-writes}
 use Rattle.points.proofs.Stops.{node-is}
 use Rattle.points.proofs.Judged.{commits, judged}
@@ -191,35 +191,29 @@ writes-two f d v e h = go (d .wait) refl
     go (Comparing k i r) z = true-false (isOpen (d .wait)) (rw z refl) e
     go (Borrowing k r) z = true-false (isOpen (d .wait)) (rw z refl) e
 
-module _ (n : ℕ) (size : OneTo 16 n) where
-  abbrev writes : List ℕ
-  writes = filled n 1 16 (Write 1 1)
-
-  F : Filled n 1 16 (Write 1 1)
-  F = filled-writes n size 1 (omega arith, size .0) 15 (omega arith)
-
-  two : goTo 1 (handled writes 1 1 Whole (Write 1 1)) ≡ 2
+module _ {n : ℕ} (b : List ℕ) (F : Filled n 1 16 (Write 1 1) b) where
+  two : goTo 1 (handled b 1 1 Whole (Write 1 1)) ≡ 2
   unfolding addressed goTo
   two =
-      let v = handling writes 1 1 Whole (Write 1 1) (F .delivers) .outbox .view in
-      ap (λ ms. goTo 1 (entriesOf (stated writes) 1 v ms))
-      (writes-two (faults (stated writes)) (node writes 1) (beside writes 1 1 Whole (Write 1 1) (F .delivers))
-      (F .begins .idle) (F .maxtag))
-      ∙ ap (goTo 1) (entries-two (stated writes) 1 v (Echo 1) (WriteAnswer 1 1))
-      ∙ goTo-append 1 (addressed (stated writes) 1 v (Echo 1)) (addressed (stated writes) 1 v (WriteAnswer 1 1))
-      ∙ ap (λ k. k + 1) (goTo-once v (Echo 1) 1 (stated writes) (F .begins .at .0) (F .begins .at .1))
+      let v = handling b 1 1 Whole (Write 1 1) (F .delivers) .outbox .view in
+      ap (λ ms. goTo 1 (entriesOf (stated b) 1 v ms))
+      (writes-two (faults (stated b)) (node b 1) (beside b 1 1 Whole (Write 1 1) (F .delivers)) (F .begins .idle)
+      (F .maxtag))
+      ∙ ap (goTo 1) (entries-two (stated b) 1 v (Echo 1) (WriteAnswer 1 1))
+      ∙ goTo-append 1 (addressed (stated b) 1 v (Echo 1)) (addressed (stated b) 1 v (WriteAnswer 1 1))
+      ∙ ap (λ k. k + 1) (goTo-once v (Echo 1) 1 (stated b) (F .begins .at .0) (F .begins .at .1))
 
-  pub no-place : Room writes 1 Whole (stillWaits writes 1 1) (handled writes 1 1 Whole (Write 1 1)) → ⊥
+  pub no-place : Room b 1 Whole (stillWaits b 1 1) (handled b 1 1 Whole (Write 1 1)) → ⊥
   no-place room = omega (
     arith,
-    room 1 (still-stands writes 1 1 (F .begins .at) (F .begins .stands)),
-    own-left writes 1 1 Whole (Write 1 1) (F .delivers),
+    room 1 (still-stands b 1 1 (F .begins .at) (F .begins .stands)),
+    own-left b 1 1 Whole (Write 1 1) (F .delivers),
     F .holds,
     two,
   )
 
-  pub overflows : deliver 1 1 Whole writes ≡ refuse 11 writes
-  overflows = deliver-judged writes 1 1 Whole (Write 1 1) (F .delivers) .full no-place
+  pub overflows : deliver 1 1 Whole b ≡ refuse 11 b
+  overflows = deliver-judged b 1 1 Whole (Write 1 1) (F .delivers) .full no-place
 
 -- ---- the point
 
@@ -233,7 +227,7 @@ channels-hold = record {
       (accepts b c o M room, counts b c o M room d p up ∙ ap (λ k. k + 1) e);
   seventeenth = λ b c d o M p up e. begin-judged b c o Whole M .full (no-room b c o M d p up e);
   own-place = place;
-  overflow = overflows 1 (omega arith, omega arith);
+  overflow = overflows;
   fifteen-reads = filled-reads 1 (omega arith, omega arith) 1 (omega arith, omega arith) 14 (omega arith);
   sixteen-reads = filled-reads 1 (omega arith, omega arith) 1 (omega arith, omega arith) 15 (omega arith);
   sixteen-writes = filled-writes 1 (omega arith, omega arith) 1 (omega arith, omega arith) 15 (omega arith);

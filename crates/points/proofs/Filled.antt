@@ -25,7 +25,7 @@ use Rattle.node.specs.Stale.{staleMessage}
 use Rattle.region.specs.Channel.{capacity, countOf, first}
 use Rattle.entries.specs.Entries.{Entry, entry, goTo}
 use Rattle.layout.specs.Layout.{clusterSize, stated, channel}
-use Rattle.cluster.specs.Event.{freshBytes}
+use Rattle.cluster.specs.Event.{letOut, freshBytes}
 use Rattle.eqaso.specs.Algorithm as A
 use Rattle.eqaso.specs.Cluster as K
 use Rattle.eqaso.specs.Message as M
@@ -40,7 +40,10 @@ use Rattle.mirror.proofs.Fresh.{fresh-mirrors}
 use Rattle.mirror.proofs.LetOut.{shows-out}
 use Rattle.mirror.proofs.Says.{says-count, says-first}
 use Rattle.mirror.proofs.Shows.{Fit}
-use Rattle.points.specs.Channels.{filled, Filled}
+use Rattle.points.specs.Channels.{Filled}
+
+abbrev filled : (n d k : ℕ) → Message → List ℕ
+filled n d k m = letOut n 1 (replicate k (entry noView m d)) (freshBytes n (clusterSize n))
 
 -- The message is known by what it means for the algorithm, and is never stale.
 module _ (n : ℕ) (size : OneTo 16 n) (d : ℕ) (at : OneTo n d) (m : Message)
@@ -144,7 +147,7 @@ module _ (n : ℕ) (size : OneTo 16 n) (d : ℕ) (at : OneTo n d) (m : Message)
             let same : messageOf n d v (p .0) ≡ meaning = cc h in
             (p .1, f ∙ ap (λ z. result (z, p .1)) (known (p .0) v same))
 
-    is-filled : Filled n d (suc j) m
+    is-filled : Filled n d (suc j) m b
     unfolding A.limit
     is-filled = record {
       begins = record {
@@ -193,11 +196,18 @@ known-write n d (Echo t) v e = cc
 known-write n d (Value t w p) v e = cc
 known-write n d (Good t) v e = cc
 
-pub filled-reads : (n : ℕ) → OneTo 16 n → (d : ℕ) → OneTo n d → (j : ℕ) → suc j ≤ capacity → Filled n d (suc j) (Read 1)
+pub filled-reads : (n : ℕ) → OneTo 16 n → (d : ℕ) → OneTo n d → (j : ℕ) → suc j ≤ capacity
+    → (b : List ℕ) × Filled n d (suc j) (Read 1) b
 unfolding allowed
-filled-reads n size d at j h = is-filled n size d at (Read 1) refl (known-read n d) (λ k. refl) j h
+filled-reads n size d at j h = (
+  filled n d (suc j) (Read 1),
+  is-filled n size d at (Read 1) refl (known-read n d) (λ k. refl) j h,
+)
 
 pub filled-writes : (n : ℕ) → OneTo 16 n → (d : ℕ) → OneTo n d → (j : ℕ) → suc j ≤ capacity
-    → Filled n d (suc j) (Write 1 1)
+    → (b : List ℕ) × Filled n d (suc j) (Write 1 1) b
 unfolding allowed
-filled-writes n size d at j h = is-filled n size d at (Write 1 1) refl (known-write n d) (λ k. refl) j h
+filled-writes n size d at j h = (
+  filled n d (suc j) (Write 1 1),
+  is-filled n size d at (Write 1 1) refl (known-write n d) (λ k. refl) j h,
+)

@@ -37,7 +37,7 @@ use Rattle.eqaso.specs.Trace as T
 use Rattle.points.specs.Absences.{Delivery, scanThen, AllWhole, NothingWaits, ShowsNone}
 use Rattle.points.specs.Calls.{Calls, traceFrom, traceOf}
 use Rattle.points.specs.Channels.{MayBegin, MayDeliver, StandsAfter, Room, waits, stillWaits, begun, handled}
-use Rattle.points.specs.Channels.{filled}
+use Rattle.points.specs.Channels.{Filled}
 use Rattle.points.specs.LastTag.{LastAnswer, used, spentBy}
 use Rattle.points.specs.Messages.{zeros, readOne}
 use Rattle.points.proofs.Absences.{stands}
@@ -149,9 +149,7 @@ module _ (calls : Calls) where
       → countOf (channel (calls .deliver c c Whole b .bytes) c c) ≡ 16
   own-waits b c q M idle holds e = holds c (still-stands b c c (M .receiver) (M .stands)) ∙ own-count b c q M idle ∙ e
 
-  abbrev writes : List ℕ
-  writes = filled 1 1 16 (Write 1 1)
-
-  overflow : ((Room writes 1 Whole (stillWaits writes 1 1) (handled writes 1 1 Whole (Write 1 1)) → ⊥)
-      → calls .deliver 1 1 Whole writes ≡ refuse 11 writes) → calls .deliver 1 1 Whole writes ≡ refuse 11 writes
-  overflow full = full (no-place 1 (omega arith, omega arith))
+  overflow : (b : List ℕ) → Filled 1 1 16 (Write 1 1) b
+      → ((Room b 1 Whole (stillWaits b 1 1) (handled b 1 1 Whole (Write 1 1)) → ⊥)
+      → calls .deliver 1 1 Whole b ≡ refuse 11 b) → calls .deliver 1 1 Whole b ≡ refuse 11 b
+  overflow b F full = full (no-place b F)

@@ -148,13 +148,13 @@ figures-seventeen P =
 abbrev isEcho : ℕ → List ℕ → Bool
 isEcho n b = both (isSize n) (eqb (getD b 3 0) 5)
 
-read-none : RuledOut (reads (λ n b. pick (isEcho n b) (refused 7) (decode n b)))
+echo-unread : RuledOut (reads (λ n b. pick (isEcho n b) (refused 7) (decode n b)))
 unfolding allowed encode
-read-none P = apart (P .sizes .taken 16 (omega arith, omega arith) .read (Echo 1) [] refl) refl
+echo-unread P = apart (P .sizes .taken 16 (omega arith, omega arith) .read (Echo 1) [] refl) refl
 
-write-none : RuledOut (writes (λ n m v out. pick (isEcho n (encode m v)) (refused 12, out) (code .write n m v out)))
+echo-unwritten : RuledOut (writes (λ n m v out. pick (isEcho n (encode m v)) (refused 12, out) (code .write n m v out)))
 unfolding allowed encode fifteen
-write-none P = apart (ap (λ (p : Answer ℕ × List ℕ). p .0)
+echo-unwritten P = apart (ap (λ (p : Answer ℕ × List ℕ). p .0)
     (P .sizes .taken 16 (omega arith, omega arith) .write (Echo 1) [] fifteen refl (omega arith))) refl
 
 first-only : RuledOut (makes (λ n own. N.fresh n 1))

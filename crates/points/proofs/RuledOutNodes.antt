@@ -198,8 +198,8 @@ stops-again P = answers (instead (λ c b. stopped b c) halts 1 left (stopped-one
 abbrev untold : ℕ → List ℕ → E.Result
 untold c b = record { bytes = stop c b .bytes; answer = refused 10; view = noView; sent = [] }
 
-none-stops : RuledOut (stops (but standsOfThree untold))
-none-stops P = apart (P .stops .first (space 3) (long-space 3) 1 one .answer)
+first-untold : RuledOut (stops (but standsOfThree untold))
+first-untold P = apart (P .stops .first (space 3) (long-space 3) 1 one .answer)
     (instead standsOfThree untold 1 three (rw (fresh-states, fresh-stands) refl))
 
 -- a stop that answers as it should, and changes nothing

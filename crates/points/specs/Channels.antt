@@ -4,10 +4,9 @@ use mathlib.Core.Path.{_≡_}
 use mathlib.Core.Bool.{true, false}
 use mathlib.Core.List.{List}
 use lib.Dec.{eqb}
-use lib.ListN.{replicate}
 use Rattle.octets.specs.Answer.{result}
 use Rattle.octets.specs.Test.{pick, both}
-use Rattle.view.specs.View.{noView, viewOf}
+use Rattle.view.specs.View.{viewOf}
 use Rattle.wire.specs.Codec.{front, viewAt}
 use Rattle.wire.specs.declared.Message.{Message}
 use Rattle.wire.specs.declared.Message.the-variants.{Read, Write}
@@ -20,9 +19,9 @@ use Rattle.node.specs.Stale.{staleMessage}
 use Rattle.node.specs.declared.Ending.{Ending}
 use Rattle.node.specs.declared.Ending.the-variants.{None}
 use Rattle.region.specs.Channel.{countOf, first}
-use Rattle.entries.specs.Entries.{Entry, entry, entries, goTo}
-use Rattle.layout.specs.Layout.{clusterSize, stated, stopped, node, channel, fits, sound}
-use Rattle.cluster.specs.Event.{Result, refuse, within, isCut, letOut, freshBytes}
+use Rattle.entries.specs.Entries.{Entry, entries, goTo}
+use Rattle.layout.specs.Layout.{stated, stopped, node, channel, fits, sound}
+use Rattle.cluster.specs.Event.{Result, refuse, within, isCut}
 use Rattle.cluster.specs.declared.Extent.{Extent}
 use Rattle.cluster.specs.declared.Extent.the-variants.{Whole}
 use Rattle.eqaso.specs.Order.{OneTo}
@@ -104,17 +103,14 @@ pub record Judged (calls : Calls) (e : R.Event) (b : List ℕ) (c : ℕ) (x : Ex
 -- ---- the cases
 
 -- A cluster of n nodes, in which k messages m wait from node 1 to node d.
-abbrev pub filled : (n d k : ℕ) → Message → List ℕ
-filled n d k m = letOut n 1 (replicate k (entry noView m d)) (freshBytes n (clusterSize n))
-
-pub record Filled (n d k : ℕ) (m : Message) : Type 0 where
-  pub begins : MayBegin (filled n d k m) 1 Whole
-  pub delivers : MayDeliver (filled n d k m) 1 d Whole m
-  pub states : stated (filled n d k m) ≡ n
-  pub stands : (c : ℕ) → OneTo n c → stopped (filled n d k m) c ≡ false
-  pub holds : countOf (channel (filled n d k m) 1 d) ≡ k
-  pub no-more : (c : ℕ) → OneTo n c → countOf (channel (filled n d k m) 1 c) ≤ k
-  pub maxtag : node (filled n d k m) 1 .maxtag ≡ 0
+pub record Filled (n d k : ℕ) (m : Message) (b : List ℕ) : Type 0 where
+  pub begins : MayBegin b 1 Whole
+  pub delivers : MayDeliver b 1 d Whole m
+  pub states : stated b ≡ n
+  pub stands : (c : ℕ) → OneTo n c → stopped b c ≡ false
+  pub holds : countOf (channel b 1 d) ≡ k
+  pub no-more : (c : ℕ) → OneTo n c → countOf (channel b 1 c) ≤ k
+  pub maxtag : node b 1 .maxtag ≡ 0
 
 pub record Channels (calls : Calls) : Type 0 where
   pub begin : (b : List ℕ) (c : ℕ) (o : Operation) (x : Extent) → MayBegin b c x
@@ -137,8 +133,8 @@ pub record Channels (calls : Calls) : Type 0 where
       → (calls .deliver c c Whole b .answer ≡ result None)
       × (countOf (channel (calls .deliver c c Whole b .bytes) c c) ≡ 16)
   -- It frees no more: a write with a tag above maxtag is echoed and answered, and of sixteen such none is delivered.
-  pub overflow : calls .deliver 1 1 Whole (filled 1 1 16 (Write 1 1)) ≡ refuse 11 (filled 1 1 16 (Write 1 1))
+  pub overflow : (b : List ℕ) → Filled 1 1 16 (Write 1 1) b → calls .deliver 1 1 Whole b ≡ refuse 11 b
   -- There are such clusters.
-  pub fifteen-reads : Filled 1 1 15 (Read 1)
-  pub sixteen-reads : Filled 1 1 16 (Read 1)
-  pub sixteen-writes : Filled 1 1 16 (Write 1 1)
+  pub fifteen-reads : (b : List ℕ) × Filled 1 1 15 (Read 1) b
+  pub sixteen-reads : (b : List ℕ) × Filled 1 1 16 (Read 1) b
+  pub sixteen-writes : (b : List ℕ) × Filled 1 1 16 (Write 1 1) b
