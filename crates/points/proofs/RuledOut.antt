@@ -194,6 +194,7 @@ all-zero P =
     let f : zeros ≡ totals 1 busy = value (P .sizes .taken 1 (omega arith, omega arith) .figures busy refl refl) in
     let z : _≡_ {A = ℕ} 0 1 = ap (λ (t : Totals). t .extensions) f in omega arith
 
+-- The length of a view is judged after n.
 n-first : RuledOut (sums (λ n v. pick (isSize n) (figuresOf n v) (refused 1)))
 n-first P = let e : _≡_ {A = ℕ} 1 12 = number (P .sizes .length-first 17 [] (λ h. omega arith)) in omega arith
 

@@ -90,10 +90,10 @@ begin-most P =
     let (b, F) = pair in
     let none = begin-none F (omega arith) in
     let d = does-both F (and (ofFirst 1) roomy) loads (E.begin 1 Scan Whole b) (rw none refl) in
-    over b (E.begin 1 Scan Whole b) d (P .channels .begin b 1 Scan Whole (F .begins) .most (None, answer-of d ∙ none) 2 1
-    (second F) (F .begins .at))
+    over b (E.begin 1 Scan Whole b) d (P .channels .begin b 1 Scan Whole (F .begins) .most
+    (None, answer-of d ∙ none) 2 1 (second F) (F .begins .at))
 
--- ---- deliveries: the same; without room in a cluster of two nodes, since of one node the case of the overflow says it
+-- ---- deliveries: the same; without room of two nodes, since of one the case of the overflow says it
 
 deliver-refused : RuledOut (delivers (λ a c x b. but (holding 1 14) is11 b (E.deliver a c x b)))
 deliver-refused P =
