@@ -28,7 +28,8 @@ use Rattle.mirror.specs.Run as R
 use Rattle.mirror.proofs.Checks.{is-fit, is-sound}
 use Rattle.mirror.proofs.Says.{says-count}
 use Rattle.mirror.proofs.Demand3.{demand3}
-use Rattle.points.specs.Absences.{Delivery, delivery, scanThen, AllWhole, NothingWaits, ShowsNone}
+use Rattle.points.specs.Calls.{Calls, event, traceFrom, traceOf}
+use Rattle.points.specs.Absences.{Delivery, delivery, scanThen, AllWhole, NothingWaits}
 use Rattle.points.proofs.Stops.{start-mirrors}
 use Rattle.points.proofs.Begins.{accepts}
 
@@ -45,6 +46,30 @@ stops-none : (a b : ℕ) (y : H.Answer) (c : ℕ) → T.stopsBy (H.deliver a b H
 stops-none a b (H.refused k) c = refl
 stops-none a b (H.accepted e) c = refl
 
+begin-stops-none : (d : ℕ) (y : H.Answer) (c : ℕ) → T.stopsBy (H.begin d H.scan H.whole) y c ≡ false
+begin-stops-none d (H.refused k) c = refl
+begin-stops-none d (H.accepted e) c = refl
+
+-- Of any calls.
+module _ (calls : Calls) (n : ℕ) where
+  abbrev answered : R.Event → List ℕ → H.Answer
+  answered e b = answerOf n (event calls e b .view) (event calls e b .answer)
+
+  deliveries-stop : (ds : List Delivery) → AllWhole ds → (b : List ℕ) (c : ℕ)
+      → T.stopped (traceFrom calls n b (delivers ds)) c ≡ false
+  unfolding traceFrom T.stopped
+  deliveries-stop [] w b c = refl
+  deliveries-stop (d ∷ ds) (e, w) b c = ap₂ _||_
+      (ap (λ x. T.stopsBy (H.deliver (d .sender) (d .receiver) (extentOf x)) (answered (delivery d) b) c) e
+      ∙ stops-none (d .sender) (d .receiver) (answered (delivery d) b) c)
+      (deliveries-stop ds w (event calls (delivery d) b .bytes) c)
+
+  pub stands : (ds : List Delivery) → AllWhole ds → (b : List ℕ) (c : ℕ)
+      → T.stopped (traceOf calls n b (scanThen c ds)) c ≡ false
+  unfolding traceFrom T.stopped
+  stands ds w b c = ap₂ _||_ (begin-stops-none c (answered (R.begin c Scan Whole) (calls .fresh n b .bytes)) c)
+      (deliveries-stop ds w (event calls (R.begin c Scan Whole) (calls .fresh n b .bytes) .bytes) c)
+
 abbrev Updates : T.Begun → Type 0
 Updates T.nothing = ⊥
 Updates (T.updating c p) = Unit {0}
@@ -60,23 +85,14 @@ module _ (n : ℕ) where
   deliveries-begin (d ∷ ds) b zero = begins-none (d .sender) (d .receiver) (extentOf (d .extent)) (answers d b)
   deliveries-begin (d ∷ ds) b (suc u) = deliveries-begin ds (R.event (delivery d) b .bytes) u
 
-  deliveries-stop : (ds : List Delivery) → AllWhole ds → (b : List ℕ) (c : ℕ)
-      → T.stopped (R.traceFrom n b (delivers ds)) c ≡ false
-  unfolding R.traceFrom T.stopped
-  deliveries-stop [] w b c = refl
-  deliveries-stop (d ∷ ds) (e, w) b c = ap₂ _||_
-      (ap (λ x. T.stopsBy (H.deliver (d .sender) (d .receiver) (extentOf x)) (answers d b) c) e
-      ∙ stops-none (d .sender) (d .receiver) (answers d b) c)
-      (deliveries-stop ds w (R.event (delivery d) b .bytes) c)
-
 -- A list of which every entry is absent.
 all-absent : (v : List Entry) → ((i : ℕ) → i < length v → getD v i absent ≡ absent) → v ≡ replicate (length v) absent
 all-absent [] h = refl
 all-absent (x ∷ v) h = ap₂ (λ y l. y ∷ l) (h 0 (omega arith)) (all-absent v (λ i l. h (suc i) (omega arith)))
 
-none-shown : (n c : ℕ) (x : T.Fate) → EndsInKind n (T.scanning c) x → Finished x
+absent-view : (n c : ℕ) (x : T.Fate) → EndsInKind n (T.scanning c) x → Finished x
     → ((w : ℕ) → OneTo n w → T.entryAt (T.viewOf x) w ≡ absent) → T.viewOf x ≡ replicate n absent
-none-shown n c (T.ended k (H.shown r v)) long end each = all-absent v
+absent-view n c (T.ended k (H.shown r v)) long end each = all-absent v
     (λ i h.
     let e : i ≡ suc i - 1 = omega arith in
     ap (λ j. getD v j absent) e ∙ each (suc i) (omega arith, omega arith))
@@ -120,7 +136,7 @@ module _ (n c : ℕ) (size : OneTo 16 n) (at : OneTo n c) (b : List ℕ) (long :
     abbrev later : List ℕ
     later = E.begin c Scan Whole start .bytes
 
-    scans : T.begun tr 0 ≡ T.scanning c
+    pub scans : T.begun tr 0 ≡ T.scanning c
     unfolding R.traceFrom
     scans = ap (λ y. T.begunBy (H.begin c H.scan H.whole) (answerOf n (E.begin c Scan Whole start .view) y)) begins
 
@@ -129,14 +145,8 @@ module _ (n c : ℕ) (size : OneTo 16 n) (at : OneTo n c) (b : List ℕ) (long :
     no-update zero d p e = subst Updates (sym e ∙ scans) tt
     no-update (suc u) d p e = subst Updates (sym e ∙ deliveries-begin n ds later u) tt
 
-    pub stands : AllWhole ds → T.stopped tr c ≡ false
-    unfolding R.traceFrom T.stopped
-    stands w = ap₂ _||_
-        (ap (λ y. T.stopsBy (H.begin c H.scan H.whole) (answerOf n (E.begin c Scan Whole start .view) y) c) begins)
-        (deliveries-stop n ds w later c)
-
     module _ (up : T.stopped tr c ≡ false) (quiet : NothingWaits n tr) where
-      finished : Finished (T.fate tr 0)
+      pub finished : Finished (T.fate tr 0)
       finished = subst (ClosedBy tr 0) scans (demand3 n size b long (scanThen c ds) .1 quiet 0) up
 
       order : SingleOrder n tr
@@ -145,10 +155,6 @@ module _ (n c : ℕ) (size : OneTo 16 n) (at : OneTo n c) (b : List ℕ) (long :
       is-scan : IsScan (T.begun tr 0)
       is-scan = subst IsScan (sym scans) tt
 
-      pub shows-none : ShowsNone n c tr
-      shows-none = record {
-        begun = scans;
-        finished = finished;
-        view = none-shown n c (T.fate tr 0) (subst (λ x. EndsInKind n x (T.fate tr 0)) scans (order .kinds 0)) finished
-            (scan-without-updates order no-update 0 is-scan finished);
-      }
+      pub none-shown : T.viewOf (T.fate tr 0) ≡ replicate n absent
+      none-shown = absent-view n c (T.fate tr 0) (subst (λ x. EndsInKind n x (T.fate tr 0)) scans (order .kinds 0))
+          finished (scan-without-updates order no-update 0 is-scan finished)

@@ -1,11 +1,11 @@
 -- The begin of an operation on the channels of a cluster: it is judged as document 01 says, and lets one message out to
 -- every node.
-use Prim.Native.Nat.{ℕ, _+_, _-_, _*_, _<_}
+use Prim.Native.Nat.{ℕ, _+_, _-_, _*_, _≤_, _<_}
 use native.Mathlib.Omega.{arith}
 use mathlib.Core.Path.{_≡_, refl, ap, _∙_}
 use mathlib.Core.Bool.{true, false}
 use mathlib.Core.List.{List}
-use lib.ListN.{length}
+use lib.ListN.{length, take}
 use borrow.Author.Tests.{lt-ltb}
 use Rattle.octets.specs.Answer.{result}
 use Rattle.octets.specs.Word.{word}
@@ -15,10 +15,8 @@ use Rattle.view.specs.View.{noView}
 use Rattle.wire.specs.declared.Message.the-variants.{Read}
 use Rattle.table.specs.Loop.{count}
 use Rattle.table.specs.Quorum.{faults}
-use Rattle.record.specs.Usable.{full}
 use Rattle.record.specs.declared.Operation.{Operation}
 use Rattle.step.specs.Move.{begun, beginStep}
-use Rattle.step.specs.declared.Sent.the-variants.{One}
 use Rattle.step.specs.declared.Step.{Step}
 use Rattle.step.specs.declared.Ending.the-variants.{None}
 use Rattle.step.proofs.Waits.{begin-asks}
@@ -26,15 +24,17 @@ use Rattle.region.specs.Channel.{capacity, countOf}
 use Rattle.region.specs.Record.{heardPlace, recordOf}
 use Rattle.block.specs.Block.{recordIn}
 use Rattle.entries.specs.Entries.{addressed, entries, goTo}
-use Rattle.entries.proofs.Laws.{entries-one, goTo-once}
+use Rattle.entries.proofs.Laws.{entries-one, goTo-once, others-reach}
 use Rattle.layout.specs.Layout.{stated, block, stopped, node, channel}
-use Rattle.cluster.specs.Event.{Result, refuse, mayCut, begin, settle}
+use Rattle.cluster.specs.Event.{Result, mayCut, begin, settle}
 use Rattle.cluster.specs.declared.Extent.{Extent}
 use Rattle.cluster.specs.declared.Extent.the-variants.{Whole, Cut}
 use Rattle.cluster.proofs.Handed.{sound-n}
 use Rattle.cluster.proofs.Settled.{open-settles}
 use Rattle.cluster.proofs.Told.{begin-is, begin-opens}
 use Rattle.history.specs.Order.{OneTo}
+use Rattle.mirror.specs.Run as R
+use Rattle.points.specs.Calls.{code}
 use Rattle.points.specs.Channels as P
 use Rattle.points.specs.Channels.{MayCut, MayBegin, StandsAfter, Room, Judged, waits}
 use Rattle.points.proofs.Stops.{node-is}
@@ -77,13 +77,22 @@ module _ (b : List ℕ) (c : ℕ) (o : Operation) (x : Extent) (M : MayBegin b c
   less-none : (k : ℕ) → k ≡ k - 0
   less-none k = omega arith
 
-  pub begin-judged : Judged b c x (waits b c) (P.begun b c o x) (begin c o x b)
+  pub begin-judged : Judged code (R.begin c o x) b c x (waits b c) (P.begun b c o x)
   begin-judged = judged b (M .fit) (M .usable) false c c (M .at) (M .at) (λ e. true-false false e refl) x step heard
-      (waits b c) (less-none (waits b c c)) (λ k e. refl) (begin c o x b) settles
+      (waits b c) (less-none (waits b c c)) (λ k e. refl) (R.begin c o x) settles
+
+-- Of a begin that is cut the first nodes get one each.
+pub one-in-cut : (b : List ℕ) (c : ℕ) (o : Operation) (m : ℕ) → MayBegin b c (Cut m) → (k : ℕ) → OneTo (stated b) k
+    → k ≤ m → goTo k (P.begun b c o (Cut m)) ≡ 1
+unfolding begun
+one-in-cut b c o m M k (lo, hi) h =
+    ap (λ (s : Step). goTo k (take m (entries (stated b) c (s .outbox)))) (asks b c o (Cut m) M)
+    ∙ ap (λ l. goTo k (take m l)) (entries-one (stated b) c noView (Read (node b c .request + 1)))
+    ∙ others-reach k m (stated b) c noView (Read (node b c .request + 1)) refl lo hi h
 
 module _ (b : List ℕ) (c : ℕ) (o : Operation) (M : MayBegin b c Whole) where
   -- One message goes to each node.
-  one-each : (k : ℕ) → OneTo (stated b) k → goTo k (P.begun b c o Whole) ≡ 1
+  pub one-each : (k : ℕ) → OneTo (stated b) k → goTo k (P.begun b c o Whole) ≡ 1
   unfolding begun addressed
   one-each k (lo, hi) = ap (λ (s : Step). goTo k (entries (stated b) c (s .outbox))) (asks b c o Whole M)
       ∙ ap (goTo k) (entries-one (stated b) c noView (Read (node b c .request + 1)))
@@ -97,7 +106,7 @@ module _ (b : List ℕ) (c : ℕ) (o : Operation) (M : MayBegin b c Whole) where
     unfolding begun
     accepts = ap (λ (r : Result). r .answer) (commits b (M .fit) (M .usable) false c c (M .at) (M .at)
         (λ e. true-false false e refl) Whole (step b c o Whole M) (heard b c o Whole M) (waits b c)
-        (less-none b c o Whole M (waits b c c)) (λ k e. refl) (begin c o Whole b) (settles b c o Whole M) room)
+        (less-none b c o Whole M (waits b c c)) (λ k e. refl) (R.begin c o Whole) (settles b c o Whole M) room)
         ∙ ap (λ (s : Step). result (s .ending)) (asks b c o Whole M)
 
     pub counts : (d : ℕ) → OneTo (stated b) d → stopped b d ≡ false
@@ -105,10 +114,11 @@ module _ (b : List ℕ) (c : ℕ) (o : Operation) (M : MayBegin b c Whole) where
     counts d p up = begin-judged b c o Whole M .holds (None, accepts) d (still-stands b c d p up)
         ∙ ap (λ k. countOf (channel b c d) + k) (one-each d p)
 
-  pub fills : (d : ℕ) → OneTo (stated b) d → stopped b d ≡ false → countOf (channel b c d) ≡ 16
-      → begin c o Whole b ≡ refuse 11 b
-  fills d p up e = begin-judged b c o Whole M .full (λ h. omega (
+  -- A channel with sixteen has no room.
+  pub no-room : (d : ℕ) → OneTo (stated b) d → stopped b d ≡ false → countOf (channel b c d) ≡ 16
+      → Room b c Whole (waits b c) (P.begun b c o Whole) → ⊥
+  no-room d p up e h = omega (
     arith,
     h d (still-stands b c d p up),
     one-each d p,
-  ))
+  )

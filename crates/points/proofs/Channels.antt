@@ -45,12 +45,13 @@ use Rattle.cluster.specs.declared.Extent.the-variants.{Whole}
 use Rattle.cluster.proofs.Handed.{deliver-hands, hand-settles}
 use Rattle.cluster.proofs.Room.{goneIn}
 use Rattle.history.specs.Order.{OneTo}
+use Rattle.mirror.specs.Run as R
 use Rattle.points.specs.Calls.{code}
-use Rattle.points.specs.Channels.{MayDeliver, Room, Judged, stillWaits, handled, filled, Filled, Channels}
+use Rattle.points.specs.Channels.{MayDeliver, Room, Judged, stillWaits, handled, Filled, Channels}
 use Rattle.points.proofs.Filled.{filled-reads, filled-writes}
 use Rattle.points.proofs.Stops.{node-is}
 use Rattle.points.proofs.Judged.{commits, judged}
-use Rattle.points.proofs.Begins.{may-cut, heard-read, still-stands, begin-judged, accepts, counts, fills}
+use Rattle.points.proofs.Begins.{may-cut, heard-read, still-stands, begin-judged, accepts, counts, no-room}
 
 sized-view : (n : ℕ) (b : List ℕ) → n ≤ 16 → Sized (viewOf n b)
 sized-view n b small = let v = view-absent n b small in record { tags = v .tags-length; reports = v .reports-length }
@@ -102,9 +103,9 @@ module _ (b : List ℕ) (a c : ℕ) (x : Extent) (m : Message) (M : MayDeliver b
       less : countOf (channel b c k) - 0 ≡ countOf (channel b c k)
       less = omega arith
 
-  deliver-judged : Judged b c x (stillWaits b a c) (handled b a c x m) (deliver a c x b)
+  deliver-judged : Judged code (R.deliver a c x) b c x (stillWaits b a c) (handled b a c x m)
   deliver-judged = judged b (M .fit) (M .usable) true a c (M .sender) (M .receiver) (λ e. M .some) x handling
-      heard-after (stillWaits b a c) own-left other-left (deliver a c x b) delivers
+      heard-after (stillWaits b a c) own-left other-left (R.deliver a c x) delivers
 
 -- An idle node answers a read, and does no more.
 answers-only : (f : ℕ) (d : Node) (a q : ℕ) (v : View) → isOpen (d .wait) ≡ false
@@ -159,7 +160,7 @@ module _ (b : List ℕ) (c q : ℕ) (M : MayDeliver b c c Whole (Read q)) (idle 
   pub answer-none : deliver c c Whole b .answer ≡ result None
   answer-none = ap (λ (r : Result). r .answer) (commits b (M .fit) (M .usable) true c c (M .sender) (M .receiver)
       (λ e. M .some) Whole (handling b c c Whole (Read q) M) (heard-after b c c Whole (Read q) M) (stillWaits b c c)
-      (own-left b c c Whole (Read q) M) (other-left b c c Whole (Read q) M) (deliver c c Whole b)
+      (own-left b c c Whole (Read q) M) (other-left b c c Whole (Read q) M) (R.deliver c c Whole)
       (delivers b c c Whole (Read q) M) own-room)
       ∙ ap (λ (s : Step). result (s .ending))
       (answers-only (faults (stated b)) (node b c) c q (beside b c c Whole (Read q) M) idle)
@@ -190,32 +191,29 @@ writes-two f d v e h = go (d .wait) refl
     go (Comparing k i r) z = true-false (isOpen (d .wait)) (rw z refl) e
     go (Borrowing k r) z = true-false (isOpen (d .wait)) (rw z refl) e
 
-pub overflows : (n : ℕ) → OneTo 16 n
-    → deliver 1 1 Whole (filled n 16 (Write 1 1)) ≡ refuse 11 (filled n 16 (Write 1 1))
-unfolding addressed goTo
-overflows n size = deliver-judged b 1 1 Whole (Write 1 1) (F .delivers) .full (λ room. omega (
-  arith,
-  room 1 (still-stands b 1 1 (F .begins .at) (F .begins .stands)),
-  own-left b 1 1 Whole (Write 1 1) (F .delivers),
-  F .holds,
-  two,
-))
-  where
-    b : List ℕ
-    b = filled n 16 (Write 1 1)
+module _ {n : ℕ} (b : List ℕ) (F : Filled n 1 16 (Write 1 1) b) where
+  two : goTo 1 (handled b 1 1 Whole (Write 1 1)) ≡ 2
+  unfolding addressed goTo
+  two =
+      let v = handling b 1 1 Whole (Write 1 1) (F .delivers) .outbox .view in
+      ap (λ ms. goTo 1 (entriesOf (stated b) 1 v ms))
+      (writes-two (faults (stated b)) (node b 1) (beside b 1 1 Whole (Write 1 1) (F .delivers)) (F .begins .idle)
+      (F .maxtag))
+      ∙ ap (goTo 1) (entries-two (stated b) 1 v (Echo 1) (WriteAnswer 1 1))
+      ∙ goTo-append 1 (addressed (stated b) 1 v (Echo 1)) (addressed (stated b) 1 v (WriteAnswer 1 1))
+      ∙ ap (λ k. k + 1) (goTo-once v (Echo 1) 1 (stated b) (F .begins .at .0) (F .begins .at .1))
 
-    F : Filled n 16 (Write 1 1)
-    F = filled-writes n size 15 (omega arith)
+  pub no-place : Room b 1 Whole (stillWaits b 1 1) (handled b 1 1 Whole (Write 1 1)) → ⊥
+  no-place room = omega (
+    arith,
+    room 1 (still-stands b 1 1 (F .begins .at) (F .begins .stands)),
+    own-left b 1 1 Whole (Write 1 1) (F .delivers),
+    F .holds,
+    two,
+  )
 
-    two : goTo 1 (handled b 1 1 Whole (Write 1 1)) ≡ 2
-    two =
-        let v = handling b 1 1 Whole (Write 1 1) (F .delivers) .outbox .view in
-        ap (λ ms. goTo 1 (entriesOf (stated b) 1 v ms))
-        (writes-two (faults (stated b)) (node b 1) (beside b 1 1 Whole (Write 1 1) (F .delivers)) (F .begins .idle)
-        (F .maxtag))
-        ∙ ap (goTo 1) (entries-two (stated b) 1 v (Echo 1) (WriteAnswer 1 1))
-        ∙ goTo-append 1 (addressed (stated b) 1 v (Echo 1)) (addressed (stated b) 1 v (WriteAnswer 1 1))
-        ∙ ap (λ k. k + 1) (goTo-once v (Echo 1) 1 (stated b) (F .begins .at .0) (F .begins .at .1))
+  pub overflows : deliver 1 1 Whole b ≡ refuse 11 b
+  overflows = deliver-judged b 1 1 Whole (Write 1 1) (F .delivers) .full no-place
 
 -- ---- the point
 
@@ -227,10 +225,10 @@ channels-hold = record {
       let room : (k : ℕ) → OneTo (stated b) k → stopped b k ≡ false → countOf (channel b c k) < capacity
       = λ k q s. omega (arith, low k q s) in
       (accepts b c o M room, counts b c o M room d p up ∙ ap (λ k. k + 1) e);
-  seventeenth = λ b c d o M p up e. fills b c o M d p up e;
+  seventeenth = λ b c d o M p up e. begin-judged b c o Whole M .full (no-room b c o M d p up e);
   own-place = place;
-  overflow = overflows 1 (omega arith, omega arith);
-  fifteen-reads = filled-reads 1 (omega arith, omega arith) 14 (omega arith);
-  sixteen-reads = filled-reads 1 (omega arith, omega arith) 15 (omega arith);
-  sixteen-writes = filled-writes 1 (omega arith, omega arith) 15 (omega arith);
+  overflow = overflows;
+  fifteen-reads = filled-reads 1 (omega arith, omega arith) 1 (omega arith, omega arith) 14 (omega arith);
+  sixteen-reads = filled-reads 1 (omega arith, omega arith) 1 (omega arith, omega arith) 15 (omega arith);
+  sixteen-writes = filled-writes 1 (omega arith, omega arith) 1 (omega arith, omega arith) 15 (omega arith);
 }

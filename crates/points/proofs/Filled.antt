@@ -1,4 +1,4 @@
--- A cluster in which messages wait from node 1 to itself: the fresh one, with copies of a message let out.
+-- A cluster in which messages wait from node 1 to node d: the fresh one, with copies of a message let out.
 use Prim.Native.Nat.{ℕ, zero, suc, _+_, _≤_}
 use native.Mathlib.Omega.{arith}
 use native.Mathlib.Decide.{ℕ-discrete}
@@ -25,7 +25,7 @@ use Rattle.step.specs.Stale.{staleMessage}
 use Rattle.region.specs.Channel.{capacity, countOf, first}
 use Rattle.entries.specs.Entries.{Entry, entry, goTo}
 use Rattle.layout.specs.Layout.{clusterSize, stated, channel}
-use Rattle.cluster.specs.Event.{freshBytes}
+use Rattle.cluster.specs.Event.{letOut, freshBytes}
 use Rattle.history.specs.Message as M
 use Rattle.history.specs.Event as H
 use Rattle.history.specs.Order.{OneTo}
@@ -41,17 +41,21 @@ use Rattle.mirror.proofs.Fresh.{fresh-mirrors}
 use Rattle.mirror.proofs.LetOut.{shows-out}
 use Rattle.mirror.proofs.Says.{says-count, says-first}
 use Rattle.mirror.proofs.Shows.{Fit}
-use Rattle.points.specs.Channels.{filled, Filled}
+use Rattle.points.specs.Channels.{Filled}
+
+abbrev filled : (n d k : ℕ) → Message → List ℕ
+filled n d k m = letOut n 1 (replicate k (entry noView m d)) (freshBytes n (clusterSize n))
 
 -- The message is known by what it means for the algorithm, and is never stale.
-module _ (n : ℕ) (size : OneTo 16 n) (m : Message) (ok : allowed n m (viewBytes n noView) ≡ true)
-    (known : (k : Message) (v : View) → messageOf n 1 v k ≡ messageOf n 1 noView m → k ≡ m)
-    (new : (d : Node) → staleMessage d 1 m ≡ false) where
+module _ (n : ℕ) (size : OneTo 16 n) (d : ℕ) (at : OneTo n d) (m : Message)
+    (ok : allowed n m (viewBytes n noView) ≡ true)
+    (known : (k : Message) (v : View) → messageOf n d v k ≡ messageOf n d noView m → k ≡ m)
+    (new : (k : Node) → staleMessage k 1 m ≡ false) where
   abbrev e : Entry
-  e = entry noView m 1
+  e = entry noView m d
 
   abbrev meaning : M.Message
-  meaning = messageOf n 1 noView m
+  meaning = messageOf n d noView m
 
   one : OneTo n 1
   one = (omega arith, size .0)
@@ -61,19 +65,19 @@ module _ (n : ℕ) (size : OneTo 16 n) (m : Message) (ok : allowed n m (viewByte
   more false j k h = omega arith
 
   -- To no node goes more than all.
-  goes-most : (d k : ℕ) → goTo d (replicate k e) ≤ k
+  goes-most : (c k : ℕ) → goTo c (replicate k e) ≤ k
   unfolding goTo
-  goes-most d zero = omega arith
-  goes-most d (suc k) = more (eqb 1 d) (goTo d (replicate k e)) k (goes-most d k)
+  goes-most c zero = omega arith
+  goes-most c (suc k) = more (eqb d c) (goTo c (replicate k e)) k (goes-most c k)
 
   fits-all : (k : ℕ) (x : Entry) → x ∈ replicate k e → Fit n x
   fits-all zero x i = elim i [ ]
-  fits-all (suc k) x (List·Memᴰ·head h) = subst (Fit n) (sym h) (record { to = one; layout = ok })
+  fits-all (suc k) x (List·Memᴰ·head h) = subst (Fit n) (sym h) (record { to = at; layout = ok })
   fits-all (suc k) x (List·Memᴰ·tail i) = fits-all k x i
 
-  sent-all : (k : ℕ) → H.sentTo 1 (map (mail n) (replicate k e)) ≡ replicate k meaning
-  sent-all zero = sent-none 1
-  sent-all (suc k) = sent-here 1 (mail n e) (map (mail n) (replicate k e)) refl ∙ ap (λ l. meaning ∷ l) (sent-all k)
+  sent-all : (k : ℕ) → H.sentTo d (map (mail n) (replicate k e)) ≡ replicate k meaning
+  sent-all zero = sent-none d
+  sent-all (suc k) = sent-here d (mail n e) (map (mail n) (replicate k e)) refl ∙ ap (λ l. meaning ∷ l) (sent-all k)
 
   small : n ≤ 16
   small = size .1
@@ -90,28 +94,28 @@ module _ (n : ℕ) (size : OneTo 16 n) (m : Message) (ok : allowed n m (viewByte
 
   module _ (j : ℕ) (few : suc j ≤ capacity) where
     abbrev b : List ℕ
-    b = filled n (suc j) m
+    b = filled n d (suc j) m
 
     abbrev q : ℕ → ℕ → List M.Message
     q = K.channels (λ c. false) 1 (map (mail n) (replicate (suc j) e)) (λ a d. [])
 
     shows : Shows n b (λ c. A.fresh) (λ c. false) q
     shows = shows-out small sized 1 one (replicate (suc j) e) (start .shows) (λ a d h. refl) (fits-all (suc j))
-        (λ d o s. omega (arith, goes-most d (suc j)))
+        (λ c o s. omega (arith, goes-most c (suc j)))
 
-    waiting : q 1 1 ≡ replicate (suc j) meaning
-    waiting = channel-own (λ c. false) 1 (map (mail n) (replicate (suc j) e)) (λ a d. []) 1 1 refl refl
+    waiting : q 1 d ≡ replicate (suc j) meaning
+    waiting = channel-own (λ c. false) 1 (map (mail n) (replicate (suc j) e)) (λ a d. []) 1 d refl refl
         ∙ sent-all (suc j)
 
-    few-wait : (a d : ℕ) → length (q a d) ≤ suc j
-    few-wait a d =
+    few-wait : (a c : ℕ) → length (q a c) ≤ suc j
+    few-wait a c =
         let l = map (mail n) (replicate (suc j) e) in
         elim (ℕ-discrete a 1) [
           | yes h ↦ rw (
-            channel-own (λ c. false) 1 l (λ a d. []) a d refl h,
-            sym (same-goTo n d (replicate (suc j) e)),
-          ) (goes-most d (suc j))
-          | no h ↦ rw (channel-other (λ c. false) 1 l (λ a d. []) a d refl h) (omega arith)
+            channel-own (λ c. false) 1 l (λ a d. []) a c refl h,
+            sym (same-goTo n c (replicate (suc j) e)),
+          ) (goes-most c (suc j))
+          | no h ↦ rw (channel-other (λ c. false) 1 l (λ a d. []) a c refl h) (omega arith)
         ]
 
     mirrors : Mirrors n b (record { nodes = λ c. A.fresh; stopped = λ c. false; channel = q })
@@ -122,35 +126,35 @@ module _ (n : ℕ) (size : OneTo 16 n) (m : Message) (ok : allowed n m (viewByte
       few = omega (arith, count-none n);
     }
 
-    there : OneTo (stated b) 1
-    there = subst (λ k. OneTo k 1) (sym (shows .states)) one
+    there : (c : ℕ) → OneTo n c → OneTo (stated b) c
+    there c o = subst (λ k. OneTo k c) (sym (shows .states)) o
 
-    holds : countOf (channel b 1 1) ≡ suc j
-    holds = says-count small (shows .says 1 one) 1 one ∙ ap length waiting ∙ length-replicate (suc j) meaning
+    holds : countOf (channel b 1 d) ≡ suc j
+    holds = says-count small (shows .says d at) 1 one ∙ ap length waiting ∙ length-replicate (suc j) meaning
 
     abbrev slot : List ℕ
-    slot = first (channel b 1 1)
+    slot = first (channel b 1 d)
 
     reads : (k : ℕ) × (front n slot ≡ result (m, k))
-    reads = go (front n slot) refl (says-first small (shows .says 1 one) 1 one waiting .0)
+    reads = go (front n slot) refl (says-first small (shows .says d at) 1 one waiting .0)
       where
         v : View
         v = viewOf n (viewAt n slot)
 
-        go : (r : Answer (Message × ℕ)) → front n slot ≡ r → meantBy n 1 v r ≡ result meaning
+        go : (r : Answer (Message × ℕ)) → front n slot ≡ r → meantBy n d v r ≡ result meaning
             → (k : ℕ) × (front n slot ≡ result (m, k))
         go (refused k) f h = absurd (subst IsResult (sym h) tt)
         go (result p) f h =
-            let same : messageOf n 1 v (p .0) ≡ meaning = cc h in
+            let same : messageOf n d v (p .0) ≡ meaning = cc h in
             (p .1, f ∙ ap (λ z. result (z, p .1)) (known (p .0) v same))
 
-    is-filled : Filled n (suc j) m
+    is-filled : Filled n d (suc j) m b
     unfolding A.limit
     is-filled = record {
       begins = record {
         fit = is-fit (size .0) small mirrors;
         usable = is-sound (size .0) small mirrors;
-        at = there;
+        at = there 1 one;
         stands = shows .says 1 one .stop;
         idle = same-idle (shows .says 1 one .node .wait);
         left = not-full (shows .says 1 one .node) (omega arith);
@@ -159,9 +163,9 @@ module _ (n : ℕ) (size : OneTo 16 n) (m : Message) (ok : allowed n m (viewByte
       delivers = record {
         fit = is-fit (size .0) small mirrors;
         usable = is-sound (size .0) small mirrors;
-        sender = there;
-        receiver = there;
-        stands = shows .says 1 one .stop;
+        sender = there 1 one;
+        receiver = there d at;
+        stands = shows .says d at .stop;
         some = omega (arith, holds);
         size = reads .0;
         says = subst (λ k. front k slot ≡ result (m, reads .0)) (sym (shows .states)) (reads .1);
@@ -169,33 +173,42 @@ module _ (n : ℕ) (size : OneTo 16 n) (m : Message) (ok : allowed n m (viewByte
         cut = λ h. true-false false h refl;
       };
       states = shows .states;
+      stands = λ c o. shows .says c o .stop;
       holds = holds;
       no-more = λ c o. omega (arith, says-count small (shows .says c o) 1 one, few-wait 1 c);
       maxtag = shows .says 1 one .node .maxtag;
     }
 
-known-read : (n : ℕ) (k : Message) (v : View) → messageOf n 1 v k ≡ M.read 1 → k ≡ Read 1
-known-read n (Read r) v e = cc
-known-read n (ReadAnswer r t) v e = cc
-known-read n (Write r t) v e = cc
-known-read n (WriteAnswer r t) v e = cc
-known-read n (Echo t) v e = cc
-known-read n (Value t w p) v e = cc
-known-read n (Good t) v e = cc
+known-read : (n d : ℕ) (k : Message) (v : View) → messageOf n d v k ≡ M.read 1 → k ≡ Read 1
+known-read n d (Read r) v e = cc
+known-read n d (ReadAnswer r t) v e = cc
+known-read n d (Write r t) v e = cc
+known-read n d (WriteAnswer r t) v e = cc
+known-read n d (Echo t) v e = cc
+known-read n d (Value t w p) v e = cc
+known-read n d (Good t) v e = cc
 
-known-write : (n : ℕ) (k : Message) (v : View) → messageOf n 1 v k ≡ M.write 1 1 → k ≡ Write 1 1
-known-write n (Read r) v e = cc
-known-write n (ReadAnswer r t) v e = cc
-known-write n (Write r t) v e = cc
-known-write n (WriteAnswer r t) v e = cc
-known-write n (Echo t) v e = cc
-known-write n (Value t w p) v e = cc
-known-write n (Good t) v e = cc
+known-write : (n d : ℕ) (k : Message) (v : View) → messageOf n d v k ≡ M.write 1 1 → k ≡ Write 1 1
+known-write n d (Read r) v e = cc
+known-write n d (ReadAnswer r t) v e = cc
+known-write n d (Write r t) v e = cc
+known-write n d (WriteAnswer r t) v e = cc
+known-write n d (Echo t) v e = cc
+known-write n d (Value t w p) v e = cc
+known-write n d (Good t) v e = cc
 
-pub filled-reads : (n : ℕ) → OneTo 16 n → (j : ℕ) → suc j ≤ capacity → Filled n (suc j) (Read 1)
+pub filled-reads : (n : ℕ) → OneTo 16 n → (d : ℕ) → OneTo n d → (j : ℕ) → suc j ≤ capacity
+    → (b : List ℕ) × Filled n d (suc j) (Read 1) b
 unfolding allowed
-filled-reads n size j h = is-filled n size (Read 1) refl (known-read n) (λ d. refl) j h
+filled-reads n size d at j h = (
+  filled n d (suc j) (Read 1),
+  is-filled n size d at (Read 1) refl (known-read n d) (λ k. refl) j h,
+)
 
-pub filled-writes : (n : ℕ) → OneTo 16 n → (j : ℕ) → suc j ≤ capacity → Filled n (suc j) (Write 1 1)
+pub filled-writes : (n : ℕ) → OneTo 16 n → (d : ℕ) → OneTo n d → (j : ℕ) → suc j ≤ capacity
+    → (b : List ℕ) × Filled n d (suc j) (Write 1 1) b
 unfolding allowed
-filled-writes n size j h = is-filled n size (Write 1 1) refl (known-write n) (λ d. refl) j h
+filled-writes n size d at j h = (
+  filled n d (suc j) (Write 1 1),
+  is-filled n size d at (Write 1 1) refl (known-write n d) (λ k. refl) j h,
+)

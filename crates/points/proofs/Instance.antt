@@ -13,6 +13,7 @@ use Rattle.layout.specs.Layout.{clusterSize}
 use Rattle.cluster.specs.Event.{Result, fresh}
 use Rattle.history.specs.Event.{sentTo}
 use Rattle.history.specs.Trace as T
+use Rattle.history.specs.Order.{OneTo, Finished}
 use Rattle.eqaso.specs.Algorithm.{same, limit, has, within, newest, table, kept, moveOn}
 use Rattle.eqaso.specs.Cluster as K
 use Rattle.eqaso.specs.Cluster.{entries, roomy, event}
@@ -20,8 +21,8 @@ use Rattle.mirror.specs.Mirrors.{channelRoom}
 use Rattle.mirror.specs.Run as R
 use Rattle.mirror.proofs.Demand2.{demand2}
 use Rattle.points.specs.Calls as C
-use Rattle.points.specs.Absences.{scanThen, five, NothingWaits, ShowsNone, Absences}
-use Rattle.points.proofs.Absences.{stands, shows-none}
+use Rattle.points.specs.Absences.{Delivery, scanThen, five, NothingWaits, ShowsNone, Absences}
+use Rattle.points.proofs.Absences.{stands, scans, finished, none-shown}
 
 -- The run of the code's calls is the run on bytes.
 same-event : (e : R.Event) (b : List ℕ) → C.event C.code e b ≡ R.event e b
@@ -47,16 +48,28 @@ nothing-waits b long a c (lo, hi) (low, high) up =
     ap₂ (λ x y. T.waits (R.traceOf 1 b (scanThen 1 five)) x y) first second
     ∙ ap (λ tr. T.waits tr 1 1) (demand2 1 (omega arith, omega arith) b long .same (scanThen 1 five)) ∙ all-handed
 
+none-of-code : (n c : ℕ) → OneTo 16 n → OneTo n c → (b : List ℕ) → length b ≡ clusterSize n → (ds : List Delivery)
+    → T.stopped (C.traceOf C.code n b (scanThen c ds)) c ≡ false
+    → NothingWaits n (C.traceOf C.code n b (scanThen c ds)) → ShowsNone C.code n c b ds
+none-of-code n c size at b long ds up quiet = record {
+  begun = ap (λ tr. T.begun tr 0) e ∙ scans n c size at b long ds;
+  finished = subst (λ tr. Finished (T.fate tr 0)) (sym e) (finished n c size at b long ds stands-still none-waits);
+  view = ap (λ tr. T.viewOf (T.fate tr 0)) e ∙ none-shown n c size at b long ds stands-still none-waits;
+}
+  where
+    e : C.traceOf C.code n b (scanThen c ds) ≡ R.traceOf n b (scanThen c ds)
+    e = same-trace n (fresh n b .bytes) (scanThen c ds)
+
+    stands-still : T.stopped (R.traceOf n b (scanThen c ds)) c ≡ false
+    stands-still = subst (λ tr. T.stopped tr c ≡ false) e up
+
+    none-waits : NothingWaits n (R.traceOf n b (scanThen c ds))
+    none-waits = subst (NothingWaits n) e quiet
+
 pub absences-hold : Absences C.code
 absences-hold = record {
-  whole = λ n c size at b long ds w quiet.
-      let e = same-trace n (fresh n b .bytes) (scanThen c ds) in
-      subst (ShowsNone n c) (sym e) (shows-none n c size at b long ds (stands n c size at b long ds w)
-      (subst (NothingWaits n) e quiet));
-  cut = λ n c size at b long ds up quiet.
-      let e = same-trace n (fresh n b .bytes) (scanThen c ds) in
-      subst (ShowsNone n c) (sym e) (shows-none n c size at b long ds (subst (λ tr. T.stopped tr c ≡ false) e up)
-      (subst (NothingWaits n) e quiet));
+  whole = λ n c size at b long ds w quiet. none-of-code n c size at b long ds (stands C.code n ds w b c) quiet;
+  cut = none-of-code;
   all-delivered = λ b long.
       subst (NothingWaits 1) (sym (same-trace 1 (fresh 1 b .bytes) (scanThen 1 five))) (nothing-waits b long);
 }

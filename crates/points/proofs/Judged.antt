@@ -2,7 +2,7 @@
 -- sixteen messages; and what the channels hold after the event.
 use Prim.Native.Nat.{ℕ, _+_, _-_, _≤_, _<_}
 use native.Mathlib.Omega.{arith}
-use native.Mathlib.Decide.{ℕ-discrete}
+use native.Mathlib.Decide.{ℕ-discrete, decLe}
 use mathlib.Core.Path.{_≡_, refl, sym, ap, _∙_, subst}
 use mathlib.Core.Bool.{Bool, true, false}
 use mathlib.Core.List.{List}
@@ -31,10 +31,22 @@ use Rattle.cluster.specs.declared.Extent.the-variants.{Whole, Cut}
 use Rattle.cluster.proofs.Room.{foundIn, goneIn, room-before}
 use Rattle.cluster.proofs.Settled.{settle-full, settle-commits}
 use Rattle.history.specs.Order.{OneTo}
+use Rattle.mirror.specs.Run as R
+use Rattle.points.specs.Calls.{code, event}
 use Rattle.points.specs.Channels.{StandsAfter, Room, Accepted, Judged}
 use Rattle.points.proofs.Stops.{node-is}
 use Rattle.points.proofs.Counts.{ToNodes, to-nodes, to-take, count-pop, Held, own, size-of, on-same, on-other}
 use Rattle.points.proofs.Counts.{held-keep, held-take, held-halt, held-out, Waits, waits-out}
+
+-- Where an event that has no room is refused, one that is accepted had room.
+pub only-if-full : (b : List ℕ) (c : ℕ) (x : Extent) (waits : ℕ → ℕ) (l : List Entry) (r : Result)
+    → ((Room b c x waits l → ⊥) → r ≡ refuse 11 b) → Accepted r → Room b c x waits l
+only-if-full b c x waits l r full (e, h) k S = elim (decLe (waits k + goTo k l) 16) [
+  | yes y ↦ y
+  | no y ↦
+      let z : refused 11 ≡ result e = sym (ap (λ (q : Result). q .answer) (full (λ room. y (room k S)))) ∙ h in
+      let f : _≡_ {A = ℕ} 0 1 = cc z in absurd (omega arith)
+]
 
 -- Node c of a usable cluster takes step s; a message from a was taken off before, if `took`. `waits k` is how many
 -- messages are left then from c to k.
@@ -213,25 +225,18 @@ module _ (b : List ℕ) (fit : fits b ≡ true) (usable : sound b ≡ true) (too
 
   -- ---- the event
 
-  module _ (r : Result) (settles : r ≡ settle n a c x s found b) where
-    pub commits : Room b c x waits l → r ≡ commit n c x s l found
+  module _ (e : R.Event) (settles : event code e b ≡ settle n a c x s found b) where
+    pub commits : Room b c x waits l → event code e b ≡ commit n c x s l found
     commits h = settles ∙ settle-commits n a c x s found b (sym judges ∙ says-room h)
 
-    refuses : (Room b c x waits l → ⊥) → r ≡ refuse 11 b
+    refuses : (Room b c x waits l → ⊥) → event code e b ≡ refuse 11 b
     refuses h = settles ∙ settle-full n a c x s found b
         (sym judges ∙ not-true-false (all n test) (λ e. h (room-says e)))
 
-    only : Accepted r → Room b c x waits l
-    only (e, h) = go (all n test) refl
-      where
-        go : (y : Bool) → all n test ≡ y → Room b c x waits l
-        go true t = room-says t
-        go false t =
-            let z : refused 11 ≡ result e = sym (ap (λ (q : Result). q .answer)
-            (refuses (λ y. true-false (all n test) (says-room y) t))) ∙ h in
-            let f : _≡_ {A = ℕ} 0 1 = cc z in absurd (omega arith)
+    only : Accepted (event code e b) → Room b c x waits l
+    only h = only-if-full b c x waits l (event code e b) refuses h
 
-    pub judged : Judged b c x waits l r
+    pub judged : Judged code e b c x waits l
     judged = record {
       accepted = λ h. (pick (isCut x) None (s .ending), ap (λ (q : Result). q .answer) (commits h));
       only = only;

@@ -173,21 +173,29 @@ meets m top t low h k o = record {
   says = read-back 3 (ReadAnswer 1 t) [] refl (both-true refl (le-leb t limit k));
 }
 
-pub last-tag-holds : LastTag code
-last-tag-holds = record {
-  spent = ends;
-  by-answer = λ c p m s t b out L h. ends c p m s t b out L (omega (
+-- The largest tag is used if it is in the answer, or is the own maxtag.
+module _ (c : Node) (p : Report) (m s t : ℕ) (b out : List ℕ) (L : LastAnswer c (Update p) m s t b out) where
+  pub used-by-answer : t ≡ limit → used c m t ≡ limit
+  used-by-answer h = omega (
     arith,
     h,
     largest-most c (Update p) m s t b out L,
     own-most c (Update p) m s t b out L,
-  ));
-  by-own = λ c p m s t b out L h. ends c p m s t b out L (omega (
+  )
+
+  pub used-by-own : c .maxtag ≡ limit → used c m t ≡ limit
+  used-by-own h = omega (
     arith,
     h,
     largest-most c (Update p) m s t b out L,
     answer-most c (Update p) m s t b out L,
-  ));
+  )
+
+pub last-tag-holds : LastTag code
+last-tag-holds = record {
+  spent = ends;
+  by-answer = λ c p m s t b out L h. ends c p m s t b out L (used-by-answer c p m s t b out L h);
+  by-own = λ c p m s t b out L h. ends c p m s t b out L (used-by-own c p m s t b out L h);
   one-less = one-more;
   scan-goes-on = scans;
   a-before = meets limit 0 0 (omega arith) (omega arith) (omega arith) (Update noReport);

@@ -3,6 +3,7 @@ pub mod Begins
 pub mod Channels
 pub mod Counts
 pub mod Filled
+pub mod Follows
 pub mod Instance
 pub mod Judged
 pub mod LastTag

@@ -1,21 +1,25 @@
--- For every clause of the points a wrong call that it rules out: no calls with that one in them have the points. Here
--- for n, f and messages.
-use Prim.Native.Nat.{ℕ, _+_, _*_, _≤_, min, max}
+-- For every clause of the points a wrong call that it rules out: no calls with that one in them have the points. It is
+-- the code's call but where a test says so, and no other clause rules it out; this is not proved. Only a clause that
+-- follows from others (`Follows`) rules out no call alone; it has a wrong call where it has document 01's words. Here
+-- for n, f and messages: `absent-1` and `absent-16`, `values`, `written`, `read` and `long` follow.
+use Prim.Native.Nat.{ℕ, _+_, _*_, _≤_, _<_, min, max}
 use native.Mathlib.Omega.{arith}
 use mathlib.Core.Path.{_≡_, refl, sym, ap, _∙_}
+use mathlib.Core.Bool.{Bool, not}
 use mathlib.Core.List.{List, [], _∷_}
 use lib.Dec.{eqb}
 use lib.ListN.{length, getD, replicate, length-replicate}
 use Rattle.octets.specs.Answer.{Answer, result, refused}
 use Rattle.octets.specs.Bytes.{part}
 use Rattle.octets.specs.Loop.{allTo, sumTo}
-use Rattle.octets.specs.Test.{pick}
+use Rattle.octets.specs.Test.{pick, both}
 use Rattle.view.specs.Report.{reportOf}
 use Rattle.view.specs.Size.{isSize}
-use Rattle.view.specs.View.{viewOk}
-use Rattle.wire.specs.Codec.{decode, answer}
+use Rattle.view.specs.View.{noView, viewOk}
+use Rattle.wire.specs.Codec.{decode, answer, isGood}
 use Rattle.wire.specs.Layout.{encode, allowed}
-use Rattle.wire.specs.declared.Message.the-variants.{Read, Good}
+use Rattle.wire.specs.declared.Message.{Message}
+use Rattle.wire.specs.declared.Message.the-variants.{Read, Echo, Good}
 use Rattle.figures.specs.Figures.{totals, figuresOf}
 use Rattle.figures.specs.declared.Totals.{Totals}
 use Rattle.table.specs.Quorum.{faults}
@@ -27,10 +31,10 @@ use Rattle.layout.specs.Layout.{clusterSize}
 use Rattle.cluster.specs.Event as E
 use Rattle.history.specs.Order.{OneTo}
 use Rattle.points.specs.Calls.{Calls, code}
-use Rattle.points.specs.Messages.{zeros, readOne}
+use Rattle.points.specs.Messages.{Refused, Taken, zeros}
 use Rattle.points.specs.Points.{PointsOf}
 use Rattle.points.proofs.Proved.{points}
-use Rattle.points.proofs.Wrong.{reads, writes, sums, fails, makes, starts}
+use Rattle.points.proofs.Wrong.{reads, writes, sums, fails, lends, makes, starts}
 
 abbrev pub RuledOut : Calls → Type 0
 RuledOut calls = PointsOf calls → ⊥
@@ -65,44 +69,93 @@ pub long-space : (n : ℕ) → length (space n) ≡ clusterSize n
 unfolding space
 long-space n = length-replicate {A = ℕ} (clusterSize n) 0
 
--- ---- n 0 and 17 refused: a call that takes 0 for 1, or 17 for 16, or judges the length of a view alone
+-- Bytes of the length that is stated for n.
+lent : ℕ → List ℕ
+lent n = replicate (code .size n) 0
 
-read-zero : RuledOut (reads (λ n b. decode (max n 1) b))
-read-zero P = apart (points .read-one 1 refl .read) (P .sizes .none .read readOne)
-
-write-seventeen : RuledOut (writes (λ n m v out. code .write (min n 16) m v out))
-unfolding fifteen
-write-seventeen P = apart (ap (λ (p : Answer ℕ × List ℕ). p .0) (points .read-one 16 refl .written [] fifteen refl))
-    (ap (λ (p : Answer ℕ × List ℕ). p .0) (P .sizes .seventeen .write (Read 1) [] fifteen))
-
-node-seventeen : RuledOut (makes (λ n own. N.fresh (min n 16) own))
-node-seventeen P =
-    let made = points .sizes .taken 16 (omega arith, omega arith) .fresh-node 1 (omega arith, omega arith) in
-    not-refused (ap (λ (x : Outcome). x .answer) (sym made ∙ P .sizes .seventeen .fresh-node 1))
-
-lent : List ℕ
-lent = replicate (code .size 1) 0
-
-cluster-zero : RuledOut (starts (λ n b. E.fresh (max n 1) b))
+long-lent : (n : ℕ) → length (lent n) ≡ code .size n
 unfolding lent
-cluster-zero P =
-    let long : length lent ≡ code .size 1 = length-replicate {A = ℕ} (code .size 1) 0 in
-    let made = points .sizes .taken 1 (omega arith, omega arith) .fresh-cluster lent long in
-    answers (ap (λ (r : E.Result). r .answer) made) (P .sizes .none .fresh-cluster lent)
+long-lent n = length-replicate {A = ℕ} (code .size n) 0
 
-figures-zero : RuledOut (sums (λ n v. pick (isSize n) (figuresOf n v) (refused 12)))
+-- ---- n 0 and 17 refused: each call in turn takes 0 for 1, or 17 for 16
+
+-- The number that n is taken for is not refused.
+module _ (f : ℕ → ℕ) (k : ℕ) (size : OneTo 16 (f k)) where
+  abbrev taken : Taken code (f k)
+  taken = points .sizes .taken (f k) size
+
+  reads-it : Refused (reads (λ n b. decode (f n) b)) k → ⊥
+  unfolding allowed
+  reads-it R = apart (taken .read (Read 1) [] refl) (R .read (encode (Read 1) []))
+
+  writes-it : Refused (writes (λ n m v out. code .write (f n) m v out)) k → ⊥
+  unfolding allowed encode fifteen
+  writes-it R = apart (ap (λ (p : Answer ℕ × List ℕ). p .0) (taken .write (Read 1) [] fifteen refl (omega arith)))
+      (ap (λ (p : Answer ℕ × List ℕ). p .0) (R .write (Read 1) [] fifteen))
+
+  makes-it : Refused (makes (λ n own. N.fresh (f n) own)) k → ⊥
+  makes-it R = not-refused (ap (λ (x : Outcome). x .answer)
+      (sym (taken .fresh-node 1 (omega arith, size .0)) ∙ R .fresh-node 1))
+
+  starts-it : Refused (starts (λ n b. E.fresh (f n) b)) k → ⊥
+  starts-it R = answers (ap (λ (r : E.Result). r .answer) (taken .fresh-cluster (lent (f k)) (long-lent (f k))))
+      (R .fresh-cluster (lent (f k)))
+
+abbrev up : ℕ → ℕ
+up n = max n 1
+
+abbrev down : ℕ → ℕ
+down n = min n 16
+
+read-zero : RuledOut (reads (λ n b. decode (up n) b))
+read-zero P = reads-it up 0 (omega arith, omega arith) (P .sizes .none)
+
+read-seventeen : RuledOut (reads (λ n b. decode (down n) b))
+read-seventeen P = reads-it down 17 (omega arith, omega arith) (P .sizes .seventeen)
+
+write-zero : RuledOut (writes (λ n m v out. code .write (up n) m v out))
+write-zero P = writes-it up 0 (omega arith, omega arith) (P .sizes .none)
+
+write-seventeen : RuledOut (writes (λ n m v out. code .write (down n) m v out))
+write-seventeen P = writes-it down 17 (omega arith, omega arith) (P .sizes .seventeen)
+
+node-zero : RuledOut (makes (λ n own. N.fresh (up n) own))
+node-zero P = makes-it up 0 (omega arith, omega arith) (P .sizes .none)
+
+node-seventeen : RuledOut (makes (λ n own. N.fresh (down n) own))
+node-seventeen P = makes-it down 17 (omega arith, omega arith) (P .sizes .seventeen)
+
+cluster-zero : RuledOut (starts (λ n b. E.fresh (up n) b))
+cluster-zero P = starts-it up 0 (omega arith, omega arith) (P .sizes .none)
+
+cluster-seventeen : RuledOut (starts (λ n b. E.fresh (down n) b))
+cluster-seventeen P = starts-it down 17 (omega arith, omega arith) (P .sizes .seventeen)
+
+-- The figures for n = k are 12, whatever the length of the view.
+abbrev short : ℕ → ℕ → List ℕ → Answer Totals
+short k n v = pick (eqb n k) (refused 12) (figuresOf n v)
+
+figures-zero : RuledOut (sums (short 0))
 figures-zero P = let e : _≡_ {A = ℕ} 12 1 = number (P .sizes .none .figures [] refl) in omega arith
 
--- ---- 1 and 16 taken: a call that turns all away, or makes every node the first
+figures-seventeen : RuledOut (sums (short 17))
+figures-seventeen P =
+    let e : _≡_ {A = ℕ} 12 1 = number (P .sizes .seventeen .figures (replicate 272 0) refl) in omega arith
 
-read-none : RuledOut (reads (λ n b. refused 7))
-unfolding allowed
-read-none P = apart (P .sizes .taken 1 (omega arith, omega arith) .read (Read 1) [] refl) refl
+-- ---- 1 and 16 taken: no echo is read, or written; every node is the first; a cluster is made, and the answer is 12;
+-- no length is stated for it; the figures are zero
 
-write-none : RuledOut (writes (λ n m v out. (refused 12, out)))
+abbrev isEcho : ℕ → List ℕ → Bool
+isEcho n b = both (isSize n) (eqb (getD b 3 0) 5)
+
+echo-unread : RuledOut (reads (λ n b. pick (isEcho n b) (refused 7) (decode n b)))
+unfolding allowed encode
+echo-unread P = apart (P .sizes .taken 16 (omega arith, omega arith) .read (Echo 1) [] refl) refl
+
+echo-unwritten : RuledOut (writes (λ n m v out. pick (isEcho n (encode m v)) (refused 12, out) (code .write n m v out)))
 unfolding allowed encode fifteen
-write-none P = apart (ap (λ (p : Answer ℕ × List ℕ). p .0)
-    (P .sizes .taken 1 (omega arith, omega arith) .write (Read 1) [] fifteen refl (omega arith))) refl
+echo-unwritten P = apart (ap (λ (p : Answer ℕ × List ℕ). p .0)
+    (P .sizes .taken 16 (omega arith, omega arith) .write (Echo 1) [] fifteen refl (omega arith))) refl
 
 first-only : RuledOut (makes (λ n own. N.fresh n 1))
 first-only P =
@@ -111,40 +164,47 @@ first-only P =
     (sym (points .sizes .taken 2 size .fresh-node 1 (omega arith, omega arith))
     ∙ P .sizes .taken 2 size .fresh-node 2 (omega arith, omega arith)) in omega arith
 
-start-none : RuledOut (starts (λ n b. E.refuse 12 b))
-unfolding lent
-start-none P =
-    let long : length lent ≡ code .size 1 = length-replicate {A = ℕ} (code .size 1) 0 in
-    let made = P .sizes .taken 1 (omega arith, omega arith) .fresh-cluster lent long in
-    apart (ap (λ (r : E.Result). r .answer) made) refl
+abbrev untold : ℕ → List ℕ → E.Result
+untold n b = record { bytes = E.fresh n b .bytes; answer = refused 12; view = noView; sent = [] }
+
+untold-at : (b : List ℕ) → length b ≡ code .size 16
+    → RuledOut (starts (λ n b. pick (isSize n) (untold n b) (E.fresh n b)))
+untold-at b long P = apart (ap (λ (r : E.Result). r .answer)
+    (P .sizes .taken 16 (omega arith, omega arith) .fresh-cluster b long)) refl
+
+start-untold : RuledOut (starts (λ n b. pick (isSize n) (untold n b) (E.fresh n b)))
+start-untold P = untold-at (lent 16) (long-lent 16) P
+
+no-size : RuledOut (lends (λ n. 0))
+unfolding E.fresh
+no-size P = apart (ap (λ (r : E.Result). r .answer)
+    (P .sizes .taken 16 (omega arith, omega arith) .fresh-cluster [] refl)) refl
 
 -- the view of one node whose report has one extension busy
 busy : List ℕ
 busy = 0 ∷ 0 ∷ 0 ∷ 0 ∷ 0 ∷ 0 ∷ 0 ∷ 1 ∷ 0 ∷ 1 ∷ 0 ∷ 0 ∷ 0 ∷ 0 ∷ 0 ∷ 0 ∷ []
 
-all-zero : RuledOut (sums (λ n v. result zeros))
-unfolding busy viewOk allTo sumTo totals reportOf part
+abbrev zeroed : Answer Totals → Answer Totals
+zeroed (result t) = result zeros
+zeroed (refused k) = refused k
+
+all-zero : RuledOut (sums (λ n v. zeroed (figuresOf n v)))
+unfolding figuresOf busy viewOk allTo sumTo totals reportOf part
 all-zero P =
     let f : zeros ≡ totals 1 busy = value (P .sizes .taken 1 (omega arith, omega arith) .figures busy refl refl) in
     let z : _≡_ {A = ℕ} 0 1 = ap (λ (t : Totals). t .extensions) f in omega arith
 
--- a sum that refuses n = k
-abbrev but : ℕ → ℕ → List ℕ → Answer Totals
-but k n v = pick (eqb n k) (refused 7) (figuresOf n v)
-
-absent-one : RuledOut (sums (but 1))
-absent-one P = apart (P .sizes .absent-1) refl
-
-absent-sixteen : RuledOut (sums (but 16))
-absent-sixteen P = apart (P .sizes .absent-16) refl
-
+-- The length of a view is judged after n.
 n-first : RuledOut (sums (λ n v. pick (isSize n) (figuresOf n v) (refused 1)))
 n-first P = let e : _≡_ {A = ℕ} 1 12 = number (P .sizes .length-first 17 [] (λ h. omega arith)) in omega arith
 
--- ---- f: one too many of sixteen, none of seven
+-- ---- f: one too many of sixteen; one too many of seven, and none
 
 eight-of-sixteen : RuledOut (fails (λ n. pick (eqb n 16) 8 (faults n)))
 eight-of-sixteen P = let e : _≡_ {A = ℕ} 8 7 = ap (λ (l : List ℕ). getD l 5 0) (P .faults .values) in omega arith
+
+four-of-seven : RuledOut (fails (λ n. pick (eqb n 7) 4 (faults n)))
+four-of-seven P = let e : 2 * 4 < 7 = P .faults .largest 7 (omega arith) .0 in omega arith
 
 none-of-seven : RuledOut (fails (λ n. pick (eqb n 7) 0 (faults n)))
 none-of-seven P = let e : 7 ≤ 2 * (0 + 1) = P .faults .largest 7 (omega arith) .1 in omega arith
@@ -160,10 +220,14 @@ unwritten P =
 read-two : RuledOut (reads (λ n b. result (Read 2)))
 read-two P = let e : _≡_ {A = ℕ} 2 1 = request (value (P .read-one 1 refl .read)) in omega arith
 
-read-less : RuledOut (reads (λ n b. result (Read 1)))
+-- Fourteen bytes of kind 1.
+abbrev isLess : ℕ → List ℕ → Bool
+isLess n b = both (isSize n) (both (eqb (length b) 14) (eqb (getD b 3 0) 1))
+
+read-less : RuledOut (reads (λ n b. pick (isLess n b) (result (Read 1)) (decode n b)))
 read-less P = apart refl (P .read-one 1 refl .less)
 
--- ---- good messages: another length, bytes and views of any length
+-- ---- good messages: another length; bytes, or views, of any length for one n
 
 no-length : RuledOut (writes (λ n m v out. (result 0, out)))
 unfolding allowed viewOk allTo reportOf part
@@ -171,8 +235,25 @@ no-length P =
     let e : _≡_ {A = ℕ} 0 34 = value (P .good-1 .long 0 (replicate 16 0) (replicate 34 0) refl (omega arith)) in
     omega arith
 
-any-bytes : RuledOut (reads (λ n b. result (Good 0)))
-any-bytes P = apart refl (P .good-16 .other-bytes (0 ∷ 0 ∷ 0 ∷ 7 ∷ []) refl (λ h. omega arith))
+-- For n = j bytes of kind 7, unless they are k.
+abbrev anyBytes : (j k : ℕ) → ℕ → List ℕ → Answer Message
+anyBytes j k n b =
+    pick (both (eqb n j) (both (eqb (getD b 3 0) 7) (not (eqb (length b) k)))) (result (Good 0)) (decode n b)
 
-any-view : RuledOut (writes (λ n m v out. (result (18 + length v), out)))
-any-view P = apart refl (ap (λ (p : Answer ℕ × List ℕ). p .0) (P .good-16 .other-view 0 [] [] (λ h. omega arith)))
+any-bytes-1 : RuledOut (reads (anyBytes 1 34))
+any-bytes-1 P = apart refl (P .good-1 .other-bytes (0 ∷ 0 ∷ 0 ∷ 7 ∷ []) refl (λ h. omega arith))
+
+any-bytes-16 : RuledOut (reads (anyBytes 16 274))
+any-bytes-16 P = apart refl (P .good-16 .other-bytes (0 ∷ 0 ∷ 0 ∷ 7 ∷ []) refl (λ h. omega arith))
+
+-- For n = j good messages, unless they have k bytes.
+abbrev anyView : (j k : ℕ) → ℕ → Message → List ℕ → List ℕ → Answer ℕ × List ℕ
+anyView j k n m v out =
+    pick (both (eqb n j) (both (isGood m) (not (eqb (18 + length v) k)))) (result (18 + length v), out)
+    (code .write n m v out)
+
+any-view-1 : RuledOut (writes (anyView 1 34))
+any-view-1 P = apart refl (ap (λ (p : Answer ℕ × List ℕ). p .0) (P .good-1 .other-view 0 [] [] (λ h. omega arith)))
+
+any-view-16 : RuledOut (writes (anyView 16 274))
+any-view-16 P = apart refl (ap (λ (p : Answer ℕ × List ℕ). p .0) (P .good-16 .other-view 0 [] [] (λ h. omega arith)))

@@ -1,5 +1,5 @@
 -- For every clause of the points on the largest tag and stops a wrong call that it rules out: the code's call, but
--- where a test says so.
+-- where a test says so. `by-answer` and `by-own` follow from `spent`.
 use Prim.Native.Nat.{ℕ, _-_, max}
 use native.Mathlib.Omega.{arith}
 use mathlib.Core.Path.{_≡_, refl, sym, ap, _∙_}
@@ -35,7 +35,7 @@ use Rattle.points.specs.Stops.{OneStopped}
 use Rattle.points.proofs.Proved.{points}
 use Rattle.points.proofs.RuledOut.{RuledOut, apart, answers, number, space, long-space}
 use Rattle.points.proofs.Stops.{start-mirrors}
-use Rattle.points.proofs.Wrong.{hands, starts, stops}
+use Rattle.points.proofs.Wrong.{hands, stops}
 
 -- ---- the largest tag: an answer changes nothing, or spends what it should not
 
@@ -135,7 +135,7 @@ scan-spent P =
     told-apart (P .last-tag .scan-goes-on _ 0 2 limit _ _ L (omega arith))
     (does scanToo spentBy _ _ 0 2 limit _ _ L (eq-eqb (max (max 0 limit) 0) limit (omega arith)))
 
--- ---- stops: one that must not stop does, or the first does not; fresh leaves no cluster
+-- ---- stops: one that must not stop does; the first is not told, or does not
 
 abbrev halts : ℕ → List ℕ → E.Result
 halts c b = record { bytes = onBlock c (halt (stated b)) b; answer = result None; view = noView; sent = [] }
@@ -194,18 +194,15 @@ stops-again : RuledOut (stops (but (λ c b. stopped b c) halts))
 stops-again P = answers (instead (λ c b. stopped b c) halts 1 left (stopped-one .stop))
     (P .stops .again left 1 stopped-one)
 
-abbrev stopsNot : ℕ → List ℕ → E.Result
-stopsNot c b = E.refuse 10 b
+-- A stop that does what it should, and answers 10.
+abbrev untold : ℕ → List ℕ → E.Result
+untold c b = record { bytes = stop c b .bytes; answer = refused 10; view = noView; sent = [] }
 
-none-stops : RuledOut (stops (but standsOfThree stopsNot))
-none-stops P = apart (P .stops .first (space 3) (long-space 3) 1 one .answer)
-    (instead standsOfThree stopsNot 1 three (rw (fresh-states, fresh-stands) refl))
+first-untold : RuledOut (stops (but standsOfThree untold))
+first-untold P = apart (P .stops .first (space 3) (long-space 3) 1 one .answer)
+    (instead standsOfThree untold 1 three (rw (fresh-states, fresh-stands) refl))
 
 -- a stop that answers as it should, and changes nothing
 stops-nothing : RuledOut (stops (λ c b. record { bytes = b; answer = stop c b .answer; view = noView; sent = [] }))
 stops-nothing P = true-false (stopped three 1)
     (P .stops .first (space 3) (long-space 3) 1 one .leaves .stop) fresh-stands
-
-no-cluster : RuledOut (starts (λ n b. pick (eqb n 1) (E.refuse 12 []) (E.fresh n b)))
-no-cluster P =
-    let z : _≡_ {A = ℕ} 0 1 = P .stops .fresh-single (space 1) (long-space 1) .states in omega arith

@@ -1,4 +1,5 @@
--- For every clause of the point on absences a wrong call that it rules out.
+-- For every clause of the point on absences a wrong call that it rules out. `whole` follows from `cut`, and of what is
+-- shown `begun` and `finished` follow from `view`.
 use Prim.Native.Nat.{ℕ}
 use native.Mathlib.Omega.{arith}
 use native.Mathlib.Decide.{ℕ-discrete, decLe, decLt}
@@ -9,7 +10,7 @@ use lib.Dec.{eqb}
 use lib.ListN.{getD}
 use Rattle.theory.specs.Count.{count}
 use Rattle.theory.specs.Update.{upd, upd2}
-use Rattle.octets.specs.Answer.{Answer, result, refused}
+use Rattle.octets.specs.Answer.{Answer, result}
 use Rattle.octets.specs.Test.{pick, both}
 use Rattle.view.specs.View.{noView}
 use Rattle.view.specs.declared.View.{View}
@@ -34,13 +35,12 @@ use Rattle.mirror.specs.Mirrors.{channelRoom}
 use Rattle.mirror.specs.Run as R
 use Rattle.mirror.proofs.Demand2.{demand2}
 use Rattle.mirror.proofs.Says.{says-count}
-use Rattle.points.specs.Absences.{Delivery, scanThen, NothingWaits, ShowsNone}
+use Rattle.points.specs.Absences.{Delivery, scanThen, NothingWaits}
 use Rattle.points.specs.Calls.{Calls, traceFrom, traceOf}
-use Rattle.points.specs.Points.{PointsOf}
 use Rattle.points.proofs.RuledOut.{RuledOut, space, long-space}
 use Rattle.points.proofs.Stops.{start-mirrors}
 use Rattle.points.proofs.Wrong.{begins, delivers}
-use Rattle.points.proofs.WrongEvents.{Event, but, holding}
+use Rattle.points.proofs.WrongEvents.{but, holding}
 
 -- An event that answers so, and lets nothing out.
 abbrev silent : Answer Ending → View → List ℕ → E.Result
@@ -59,7 +59,7 @@ of-one tr e a d (lo, hi) (low, high) up =
     let q : d ≡ 1 = omega arith in
     ap₂ (λ i j. T.waits tr i j) p q ∙ e
 
--- ---- a begin that is refused, or that shows at once what was not reported, where nothing waits
+-- ---- a begin that shows at once what was not reported, where nothing waits
 
 abbrev start : List ℕ
 start = E.fresh 1 (space 1) .bytes
@@ -69,45 +69,39 @@ fresh-one =
     let S = start-mirrors 1 size (space 1) (long-space 1) .shows in
     rw (S .states, says-count (size .1) (S .says 1 one) 1 one) refl
 
--- The code's begin, with another answer and nothing let out.
-abbrev tells : Answer Ending → View → Event
-tells y v b r = silent y v (r .bytes)
-
-module _ (y : Answer Ending) (v : View) where
-  abbrev told : Calls
-  told = begins (λ c o x b. but (holding 0) (tells y v) b (E.begin c o x b))
-
-  abbrev seen : T.Trace
-  seen = R.seen 1 (R.begin 1 Scan Whole) (silent y v []) ∷ []
-
-  scans : traceOf told 1 (space 1) (scanThen 1 []) ≡ seen
-  unfolding traceFrom
-  scans = rw fresh-one refl
-
-  quiet : (y : Answer Ending) → T.waits (R.seen 1 (R.begin 1 Scan Whole) (silent y v []) ∷ []) 1 1 ≡ []
-  unfolding T.letOutTo T.handedOver H.sentTo ℕ-discrete decide
-  quiet (result e) = refl
-  quiet (refused k) = refl
-
-  shows : PointsOf told → ShowsNone 1 1 seen
-  shows P = subst (ShowsNone 1 1) scans (P .absences .whole 1 1 size one (space 1) (long-space 1) [] tt
-      (subst (NothingWaits 1) (sym scans) (of-one seen (quiet y))))
-
-not-begun : {c : ℕ} → T.nothing ≡ T.scanning c → ⊥
-not-begun e = let z : _≡_ {A = ℕ} 0 1 = cc in omega arith
-
-never-begins : RuledOut (told (refused 5) noView)
-never-begins P = not-begun (shows (refused 5) noView P .begun)
-
 -- a view with tag 1 of node 1
 shown : View
 shown = record { tags = 1 ∷ []; reports = [] }
 
-shows-some : RuledOut (told (result (Scanned (Direct 1))) shown)
+-- The code's begin, but it ends the scan and lets nothing out.
+abbrev ends : List ℕ → E.Result
+ends b = silent (result (Scanned (Direct 1))) shown b
+
+abbrev told : Calls
+told = begins (λ c o x b. but (holding 1 0) (λ b r. ends (r .bytes)) b (E.begin c o x b))
+
+abbrev seen : T.Trace
+seen = R.seen 1 (R.begin 1 Scan Whole) (ends []) ∷ []
+
+scans : traceOf told 1 (space 1) (scanThen 1 []) ≡ seen
+unfolding traceFrom
+scans = rw fresh-one refl
+
+quiet : T.waits seen 1 1 ≡ []
+unfolding T.letOutTo T.handedOver H.sentTo ℕ-discrete decide
+quiet = refl
+
+up : T.stopped seen 1 ≡ false
+unfolding T.stopped
+up = refl
+
+shows-some : RuledOut told
 unfolding shown T.firstEnding ℕ-discrete decide A.table
 shows-some P =
-    let e = shows (result (Scanned (Direct 1))) shown P .view in
-    let z : _≡_ {A = ℕ} 1 0 = ap (λ (l : List Entry). getD l 0 absent .tag) e in omega arith
+    let e = P .absences .cut 1 1 size one (space 1) (long-space 1) [] (ap (λ tr. T.stopped tr 1) scans ∙ up)
+    (subst (NothingWaits 1) (sym scans) (of-one seen quiet)) .view in
+    let z : _≡_ {A = ℕ} 1 0 = ap (λ (l : List Entry). getD l 0 absent .tag)
+    (sym (ap (λ tr. T.viewOf (T.fate tr 0)) scans) ∙ e) in omega arith
 
 -- ---- a scan that never finishes: the cluster is lost with a delivery that is refused
 

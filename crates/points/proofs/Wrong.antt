@@ -71,6 +71,21 @@ fails f = record {
   stop = code .stop;
 }
 
+abbrev pub lends : (ℕ → ℕ) → Calls
+lends f = record {
+  read = code .read;
+  write = code .write;
+  figures = code .figures;
+  faults = code .faults;
+  size = f;
+  fresh-node = code .fresh-node;
+  message = code .message;
+  fresh = code .fresh;
+  begin = code .begin;
+  deliver = code .deliver;
+  stop = code .stop;
+}
+
 abbrev pub makes : (ℕ → ℕ → Outcome) → Calls
 makes f = record {
   read = code .read;

@@ -32,24 +32,25 @@ abbrev pub AllWhole : List Delivery → Type 0
 AllWhole [] = Unit {0}
 AllWhole (d ∷ ds) = (d .extent ≡ Whole) × AllWhole ds
 
--- The operation that began at index 0 is a scan that has finished, and its view is n times no report.
-pub record ShowsNone (n c : ℕ) (tr : T.Trace) : Type 0 where
-  pub begun : T.begun tr 0 ≡ T.scanning c
-  pub finished : Finished (T.fate tr 0)
-  pub view : T.viewOf (T.fate tr 0) ≡ replicate n absent
+-- The operation that began at index 0 is a scan that has finished, and its view is n times no report. As n is not 0,
+-- `begun` and `finished` follow from `view`.
+pub record ShowsNone (calls : Calls) (n c : ℕ) (b : List ℕ) (ds : List Delivery) : Type 0 where
+  pub begun : T.begun (traceOf calls n b (scanThen c ds)) 0 ≡ T.scanning c
+  pub finished : Finished (T.fate (traceOf calls n b (scanThen c ds)) 0)
+  pub view : T.viewOf (T.fate (traceOf calls n b (scanThen c ds)) 0) ≡ replicate n absent
 
 -- Five deliveries at a cluster of one node.
 abbrev pub five : List Delivery
 five = replicate 5 (record { sender = 1; receiver = 1; extent = Whole })
 
 pub record Absences (calls : Calls) : Type 0 where
-  -- With whole deliveries. It follows from the next clause, since these stop no node.
+  -- With whole deliveries. It follows from the next clause, since these stop no node, and rules out no call that that
+  -- one does not.
   pub whole : (n c : ℕ) → OneTo 16 n → OneTo n c → (b : List ℕ) → length b ≡ clusterSize n → (ds : List Delivery)
-      → AllWhole ds → NothingWaits n (traceOf calls n b (scanThen c ds))
-      → ShowsNone n c (traceOf calls n b (scanThen c ds))
+      → AllWhole ds → NothingWaits n (traceOf calls n b (scanThen c ds)) → ShowsNone calls n c b ds
   -- With cut deliveries too, where the scan's node has not stopped.
   pub cut : (n c : ℕ) → OneTo 16 n → OneTo n c → (b : List ℕ) → length b ≡ clusterSize n → (ds : List Delivery)
       → T.stopped (traceOf calls n b (scanThen c ds)) c ≡ false
-      → NothingWaits n (traceOf calls n b (scanThen c ds)) → ShowsNone n c (traceOf calls n b (scanThen c ds))
+      → NothingWaits n (traceOf calls n b (scanThen c ds)) → ShowsNone calls n c b ds
   -- There is such a list: at the code's cluster of one node, the scan and its five deliveries.
   pub all-delivered : (b : List ℕ) → length b ≡ clusterSize 1 → NothingWaits 1 (traceOf code 1 b (scanThen 1 five))

@@ -4,10 +4,9 @@ use mathlib.Core.Path.{_≡_}
 use mathlib.Core.Bool.{true, false}
 use mathlib.Core.List.{List}
 use lib.Dec.{eqb}
-use lib.ListN.{replicate}
 use Rattle.octets.specs.Answer.{result}
 use Rattle.octets.specs.Test.{pick, both}
-use Rattle.view.specs.View.{noView, viewOf}
+use Rattle.view.specs.View.{viewOf}
 use Rattle.wire.specs.Codec.{front, viewAt}
 use Rattle.wire.specs.declared.Message.{Message}
 use Rattle.wire.specs.declared.Message.the-variants.{Read, Write}
@@ -20,13 +19,14 @@ use Rattle.step.specs.Stale.{staleMessage}
 use Rattle.step.specs.declared.Ending.{Ending}
 use Rattle.step.specs.declared.Ending.the-variants.{None}
 use Rattle.region.specs.Channel.{countOf, first}
-use Rattle.entries.specs.Entries.{Entry, entry, entries, goTo}
-use Rattle.layout.specs.Layout.{clusterSize, stated, stopped, node, channel, fits, sound}
-use Rattle.cluster.specs.Event.{Result, refuse, within, isCut, letOut, freshBytes}
+use Rattle.entries.specs.Entries.{Entry, entries, goTo}
+use Rattle.layout.specs.Layout.{stated, stopped, node, channel, fits, sound}
+use Rattle.cluster.specs.Event.{Result, refuse, within, isCut}
 use Rattle.cluster.specs.declared.Extent.{Extent}
 use Rattle.cluster.specs.declared.Extent.the-variants.{Whole}
 use Rattle.history.specs.Order.{OneTo}
-use Rattle.points.specs.Calls.{Calls}
+use Rattle.mirror.specs.Run as R
+use Rattle.points.specs.Calls.{Calls, event}
 
 -- ---- where no refusal before 11 applies
 
@@ -88,36 +88,38 @@ Room b c x waits l = (k : ℕ) → StandsAfter b c x k → waits k + goTo k l �
 abbrev pub Accepted : Result → Type 0
 Accepted r = (e : Ending) × (r .answer ≡ result e)
 
--- Event r of node c on bytes b: accepted just if there is room, else 11 and every byte as before. Then the channels
+-- Event e of node c on bytes b: accepted just if there is room, else 11 and every byte as before. Then the channels
 -- hold what waited and what was let out, and none more than sixteen. `only` follows from `full`.
-pub record Judged (b : List ℕ) (c : ℕ) (x : Extent) (waits : ℕ → ℕ) (l : List Entry) (r : Result) : Type 0 where
-  pub accepted : Room b c x waits l → Accepted r
-  pub only : Accepted r → Room b c x waits l
-  pub full : (Room b c x waits l → ⊥) → r ≡ refuse 11 b
-  pub holds : Accepted r → (k : ℕ) → StandsAfter b c x k → countOf (channel (r .bytes) c k) ≡ waits k + goTo k l
-  pub most : Accepted r → (a k : ℕ) → OneTo (stated b) a → OneTo (stated b) k → countOf (channel (r .bytes) a k) ≤ 16
+pub record Judged (calls : Calls) (e : R.Event) (b : List ℕ) (c : ℕ) (x : Extent) (waits : ℕ → ℕ) (l : List Entry)
+    : Type 0 where
+  pub accepted : Room b c x waits l → Accepted (event calls e b)
+  pub only : Accepted (event calls e b) → Room b c x waits l
+  pub full : (Room b c x waits l → ⊥) → event calls e b ≡ refuse 11 b
+  pub holds : Accepted (event calls e b) → (k : ℕ) → StandsAfter b c x k
+      → countOf (channel (event calls e b .bytes) c k) ≡ waits k + goTo k l
+  pub most : Accepted (event calls e b) → (a k : ℕ) → OneTo (stated b) a → OneTo (stated b) k
+      → countOf (channel (event calls e b .bytes) a k) ≤ 16
 
 -- ---- the cases
 
--- A cluster of n nodes, in which k messages m wait from node 1 to itself.
-abbrev pub filled : (n k : ℕ) → Message → List ℕ
-filled n k m = letOut n 1 (replicate k (entry noView m 1)) (freshBytes n (clusterSize n))
-
-pub record Filled (n k : ℕ) (m : Message) : Type 0 where
-  pub begins : MayBegin (filled n k m) 1 Whole
-  pub delivers : MayDeliver (filled n k m) 1 1 Whole m
-  pub states : stated (filled n k m) ≡ n
-  pub holds : countOf (channel (filled n k m) 1 1) ≡ k
-  pub no-more : (c : ℕ) → OneTo n c → countOf (channel (filled n k m) 1 c) ≤ k
-  pub maxtag : node (filled n k m) 1 .maxtag ≡ 0
+-- A cluster of n nodes, in which k messages m wait from node 1 to node d.
+pub record Filled (n d k : ℕ) (m : Message) (b : List ℕ) : Type 0 where
+  pub begins : MayBegin b 1 Whole
+  pub delivers : MayDeliver b 1 d Whole m
+  pub states : stated b ≡ n
+  pub stands : (c : ℕ) → OneTo n c → stopped b c ≡ false
+  pub holds : countOf (channel b 1 d) ≡ k
+  pub no-more : (c : ℕ) → OneTo n c → countOf (channel b 1 c) ≤ k
+  pub maxtag : node b 1 .maxtag ≡ 0
 
 pub record Channels (calls : Calls) : Type 0 where
   pub begin : (b : List ℕ) (c : ℕ) (o : Operation) (x : Extent) → MayBegin b c x
-      → Judged b c x (waits b c) (begun b c o x) (calls .begin c o x b)
+      → Judged calls (R.begin c o x) b c x (waits b c) (begun b c o x)
   pub deliver : (b : List ℕ) (a c : ℕ) (x : Extent) (m : Message) → MayDeliver b a c x m
-      → Judged b c x (stillWaits b a c) (handled b a c x m) (calls .deliver a c x b)
-  -- The cases below follow from these two laws, and rule out no call that the laws do not. A begin lets one message out
-  -- to each node: the sixteenth is taken, the seventeenth is not.
+      → Judged calls (R.deliver a c x) b c x (stillWaits b a c) (handled b a c x m)
+  -- Cases of these two laws. `seventeenth` and `overflow` follow from them, and rule out no call that they do not. Of
+  -- `sixteenth` and `own-place` the count follows; that nothing ends there is said here alone.
+  -- A begin lets one message out to each node: the sixteenth is taken, the seventeenth is not.
   pub sixteenth : (b : List ℕ) (c d : ℕ) (o : Operation) → MayBegin b c Whole → OneTo (stated b) d
       → stopped b d ≡ false → countOf (channel b c d) ≡ 15
       → ((k : ℕ) → OneTo (stated b) k → stopped b k ≡ false → countOf (channel b c k) ≤ 15)
@@ -131,8 +133,8 @@ pub record Channels (calls : Calls) : Type 0 where
       → (calls .deliver c c Whole b .answer ≡ result None)
       × (countOf (channel (calls .deliver c c Whole b .bytes) c c) ≡ 16)
   -- It frees no more: a write with a tag above maxtag is echoed and answered, and of sixteen such none is delivered.
-  pub overflow : calls .deliver 1 1 Whole (filled 1 16 (Write 1 1)) ≡ refuse 11 (filled 1 16 (Write 1 1))
+  pub overflow : (b : List ℕ) → Filled 1 1 16 (Write 1 1) b → calls .deliver 1 1 Whole b ≡ refuse 11 b
   -- There are such clusters.
-  pub fifteen-reads : Filled 1 15 (Read 1)
-  pub sixteen-reads : Filled 1 16 (Read 1)
-  pub sixteen-writes : Filled 1 16 (Write 1 1)
+  pub fifteen-reads : (b : List ℕ) × Filled 1 1 15 (Read 1) b
+  pub sixteen-reads : (b : List ℕ) × Filled 1 1 16 (Read 1) b
+  pub sixteen-writes : (b : List ℕ) × Filled 1 1 16 (Write 1 1) b

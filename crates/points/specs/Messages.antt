@@ -52,7 +52,7 @@ pub record Sizes (calls : Calls) : Type 0 where
   pub seventeen : Refused calls 17
   -- 1 and 16, and all between.
   pub taken : (n : ℕ) → OneTo 16 n → Taken calls n
-  -- The figures of no report.
+  -- The figures of no report. They follow from `taken`, and rule out no call that it does not.
   pub absent-1 : calls .figures 1 (replicate 16 0) ≡ result zeros
   pub absent-16 : calls .figures 16 (replicate 256 0) ≡ result zeros
   -- The length of a view is judged before n, whatever n is.
@@ -61,6 +61,7 @@ pub record Sizes (calls : Calls) : Type 0 where
 -- ---- f is 0, 0, 1, 1, 2, 7 for n 1, 2, 3, 4, 5, 16
 
 pub record Faults (calls : Calls) : Type 0 where
+  -- These follow from `largest`, and rule out no call that it does not.
   pub values : map (calls .faults) (1 ∷ 2 ∷ 3 ∷ 4 ∷ 5 ∷ 16 ∷ []) ≡ 0 ∷ 0 ∷ 1 ∷ 1 ∷ 2 ∷ 7 ∷ []
   -- f is the largest number with 2 f < n.
   pub largest : (n : ℕ) → 1 ≤ n → (2 * calls .faults n < n) × (n ≤ 2 * (calls .faults n + 1))
@@ -71,7 +72,7 @@ abbrev pub readOne : List ℕ
 readOne = 1 ∷ 0 ∷ 1 ∷ 1 ∷ 2 ∷ 0 ∷ 8 ∷ 0 ∷ 0 ∷ 0 ∷ 0 ∷ 0 ∷ 0 ∷ 0 ∷ 1 ∷ []
 
 pub record ReadOne (calls : Calls) (n : ℕ) : Type 0 where
-  -- written into a buffer of 15 bytes
+  -- Written into a buffer of 15 bytes, and read. Both follow from `taken`, and rule out no call that it does not.
   pub written : (v out : List ℕ) → length out ≡ 15 → calls .write n (Read 1) v out ≡ (result 15, readOne)
   pub read : calls .read n readOne ≡ result (Read 1)
   pub less : calls .read n (take 14 readOne) ≡ refused 7
@@ -79,6 +80,7 @@ pub record ReadOne (calls : Calls) (n : ℕ) : Type 0 where
 -- ---- good for n = 1 has 34 bytes, for n = 16 has 274
 
 pub record GoodBytes (calls : Calls) (n k : ℕ) : Type 0 where
+  -- It follows from `taken`, and rules out no call that that does not.
   pub long : (t : ℕ) (v out : List ℕ) → allowed n (Good t) v ≡ true → k ≤ length out
       → calls .write n (Good t) v out .0 ≡ result k
   -- Bytes of that kind and another length are no message, and a view of another length is not written.
