@@ -1,7 +1,7 @@
 //! The differential run: both sides get the same events on their own copy of a cluster, and every answer, every lent
 //! view and every byte must be the same. Some clusters are damaged on the way.
 use crate::dice::Dice;
-use crate::side::{Event, Numbers, Plain, Proved, Side, View};
+use crate::side::{Event, Numbers, Plain, Proved, Side, View, SCAN};
 use crate::workload::waiting;
 
 /// Numbers near the limits.
@@ -118,7 +118,7 @@ impl Pair {
             Plain::apply(&mut self.plain, event, &mut self.views.1),
         );
         let past = 16 * self.proved.first().map_or(0, |&n| n as usize);
-        if (30..=33).contains(&told.0) {
+        if told.0 >= SCAN {
             assert!(self.views.0[past..].iter().all(|&x| x == 0), "a report past n after {event:?}");
         }
         self.same(told, event)

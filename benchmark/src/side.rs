@@ -20,7 +20,13 @@ pub type Numbers = [u64; 5];
 
 pub type View = [u8; 256];
 
-/// An answer is a code: 0, a refusal from 1 to 12, 13 for spent, 20 and more for done, 30 and more for a scan.
+/// The codes of an ending: spent, and the first for done and for a scan, to which the rule is added. A refusal is its own
+/// code, below these, and 0 is for all else.
+const SPENT: u8 = 13;
+const DONE: u8 = 100;
+pub const SCAN: u8 = 110;
+
+/// The calls; each answers a code.
 pub trait Side {
     fn size(n: usize) -> usize;
     fn fresh(n: usize, b: &mut [u8]) -> u8;
@@ -106,9 +112,9 @@ fn code(answer: Result<Ending, Refusal>) -> u8 {
     match answer {
         Err(refusal) => refusal,
         Ok(Ending::None) => 0,
-        Ok(Ending::Spent) => 13,
-        Ok(Ending::Done(r)) => 20 + rule(r),
-        Ok(Ending::Scan(r)) => 30 + rule(r),
+        Ok(Ending::Spent) => SPENT,
+        Ok(Ending::Done(r)) => DONE + rule(r),
+        Ok(Ending::Scan(r)) => SCAN + rule(r),
     }
 }
 

@@ -1,12 +1,12 @@
 -- The codes at the border to C are told apart: by cases of what is told, and by the refusals of each event in turn.
-use Prim.Native.Nat.{ℕ, _+_, _≤_}
+use Prim.Native.Nat.{ℕ, _+_, _≤_, _<_}
 use native.Mathlib.Omega.{arith}
 use mathlib.Core.Path.{_≡_, refl, ap, subst}
 use mathlib.Core.Bool.{Bool, true, false, not}
 use mathlib.Core.List.{List}
 use lib.ListN.{length}
 use lib.Dec.{leb, ltb, eqb}
-use borrow.Author.Tests.{ne-eqb, le-leb, lt-leb, leb-true}
+use borrow.Author.Tests.{ne-eqb, lt-ltb, le-ltb, leb-true}
 use Rattle.octets.specs.Answer.{Answer, result, refused}
 use Rattle.octets.specs.Test.{both}
 use Rattle.octets.proofs.Test.{both-left, both-right}
@@ -34,14 +34,14 @@ use Rattle.cluster.specs.declared.Extent.{Extent}
 use Rattle.cluster.specs.Event.{Result, demand, checked, within, mayStop, mayCut, stepped, roomy, settle}
 use Rattle.cluster.specs.Event.{deliverMessage, fresh, begin, deliver}
 use Rattle.halting.specs.Stop.{stop}
-use Rattle.exports.specs.Code.{ruleCode, eventCode, ruleIn, codeOf}
+use Rattle.exports.specs.Code.{lastRefusal, doneFrom, scanFrom, ruleCode, eventCode, ruleIn, codeOf}
 use Rattle.exports.specs.Apart.{meant, ruleMeant, Called, by-fresh, by-begin, by-deliver, by-stop, Apart}
 
 -- ---- the codes
 
 -- A refusal has a number of document 01's.
 abbrev Numbered : Answer Ending → Type 0
-Numbered (refused k) = (1 ≤ k) × (k ≤ 12)
+Numbered (refused k) = (1 ≤ k) × (k ≤ lastRefusal)
 Numbered (result e) = Unit {0}
 
 rule-most : (r : Rule) → ruleCode r ≤ 3
@@ -49,42 +49,46 @@ rule-most (Direct i) = omega arith
 rule-most Borrowed = omega arith
 
 -- what a code of done, and of a scan, means
-meant-done : (i : ℕ) → i ≤ 3 → (v : View) → meant (20 + i) v ≡ told (result (Done Borrowed)) v
+meant-done : (i : ℕ) → i ≤ 3 → (v : View) → meant (doneFrom + i) v ≡ told (result (Done Borrowed)) v
 meant-done i h v = rw (
-  ne-eqb (20 + i) 0 (λ e. omega (arith, e)),
-  lt-leb (20 + i) 12 (omega arith),
-  ne-eqb (20 + i) spentNumber (λ e. omega (arith, e)),
-  le-leb (20 + i) 23 (omega (arith, h)),
+  ne-eqb (doneFrom + i) 0 (λ e. omega (arith, e)),
+  ne-eqb (doneFrom + i) spentNumber (λ e. omega (arith, e)),
+  le-ltb (doneFrom + i) doneFrom (omega arith),
+  lt-ltb (doneFrom + i) scanFrom (omega (arith, h)),
 ) refl
 
-meant-scan : (i : ℕ) → (v : View) → meant (30 + i) v ≡ told (result (Scan Borrowed)) v
+meant-scan : (i : ℕ) → (v : View) → meant (scanFrom + i) v ≡ told (result (Scan Borrowed)) v
 meant-scan i v = rw (
-  ne-eqb (30 + i) 0 (λ e. omega (arith, e)),
-  lt-leb (30 + i) 12 (omega arith),
-  ne-eqb (30 + i) spentNumber (λ e. omega (arith, e)),
-  lt-leb (30 + i) 23 (omega arith),
+  ne-eqb (scanFrom + i) 0 (λ e. omega (arith, e)),
+  ne-eqb (scanFrom + i) spentNumber (λ e. omega (arith, e)),
+  le-ltb (scanFrom + i) doneFrom (omega arith),
+  le-ltb (scanFrom + i) scanFrom (omega arith),
 ) refl
 
 told-back : (a : Answer Ending) (v : View) → Numbered a → meant (eventCode (told a v) (ruleIn a)) v ≡ told a v
-told-back (refused k) v (low, high) = rw (ne-eqb k 0 (λ e. omega (arith, e, low)), le-leb k 12 high) refl
+told-back (refused k) v (low, high) = rw (
+  ne-eqb k 0 (λ e. omega (arith, e, low)),
+  ne-eqb k spentNumber (λ e. omega (arith, e, high)),
+  lt-ltb k doneFrom (omega (arith, high)),
+) refl
 told-back (result None) v h = refl
 told-back (result (Done r)) v h = meant-done (ruleCode r) (rule-most r) v
 told-back (result (Scan r)) v h = meant-scan (ruleCode r) v
 told-back (result Spent) v h = refl
 
 ruled : (a : Answer Ending) (v : View) → Numbered a → ruleMeant (eventCode (told a v) (ruleIn a)) ≡ ruleIn a
-ruled (refused k) v (low, high) = rw (le-leb k 23 (omega (arith, high))) (omega (arith, high))
+ruled (refused k) v (low, high) = rw (lt-ltb k scanFrom (omega (arith, high))) (omega (arith, high))
 ruled (result None) v h = refl
-ruled (result (Done r)) v h = rw (le-leb (20 + ruleCode r) 23 (omega (arith, rule-most r))) (omega arith)
-ruled (result (Scan r)) v h = rw (lt-leb (30 + ruleCode r) 23 (omega arith)) (omega arith)
+ruled (result (Done r)) v h = rw (lt-ltb (doneFrom + ruleCode r) scanFrom (omega (arith, rule-most r))) (omega arith)
+ruled (result (Scan r)) v h = rw (le-ltb (scanFrom + ruleCode r) scanFrom (omega arith)) (omega arith)
 ruled (result Spent) v h = refl
 
-no-ending : (k : ℕ) → 1 ≤ k → k ≤ 12 → (x : Ending) (v : View)
+no-ending : (k : ℕ) → 1 ≤ k → k < doneFrom → (k ≡ spentNumber → ⊥) → (x : Ending) (v : View)
     → k ≡ eventCode (told (result x) v) (ruleIn (result x)) → ⊥
-no-ending k low high None v e = omega (arith, e, low)
-no-ending k low high (Done r) v e = omega (arith, e, high)
-no-ending k low high (Scan r) v e = omega (arith, e, high)
-no-ending k low high Spent v e = omega (arith, e, high)
+no-ending k low high other None v e = omega (arith, e, low)
+no-ending k low high other (Done r) v e = omega (arith, e, high)
+no-ending k low high other (Scan r) v e = omega (arith, e, high)
+no-ending k low high other Spent v e = other e
 
 -- ---- the refusals of the events
 
@@ -92,13 +96,13 @@ no-ending k low high Spent v e = omega (arith, e, high)
 record Proper (e : Result) : Type 0 where
   numbered : Numbered (e .answer)
 
-demanded : (b : List ℕ) (t : Bool) (k : ℕ) {next : Result} → both (leb 1 k) (leb k 12) ≡ true → Proper next
+demanded : (b : List ℕ) (t : Bool) (k : ℕ) {next : Result} → both (leb 1 k) (leb k lastRefusal) ≡ true → Proper next
     → Proper (demand t k b next)
 demanded b true k in-range h = h
 demanded b false k in-range h = record {
   numbered = (
-    leb-true 1 k (both-left (leb 1 k) (leb k 12) in-range),
-    leb-true k 12 (both-right (leb 1 k) (leb k 12) in-range),
+    leb-true 1 k (both-left (leb 1 k) (leb k lastRefusal) in-range),
+    leb-true k lastRefusal (both-right (leb 1 k) (leb k lastRefusal) in-range),
   );
 }
 
@@ -160,10 +164,11 @@ proper (by-begin c o x b) = of-begin c o x b
 proper (by-deliver a c x b) = of-deliver a c x b
 proper (by-stop c b) = of-stop c b
 
-its-number : (e : Result) (k : ℕ) → e .answer ≡ refused k → Proper e → (1 ≤ k) × (k ≤ 12) × (codeOf e ≡ k)
+its-number : (e : Result) (k : ℕ) → e .answer ≡ refused k → Proper e
+    → (1 ≤ k) × (k ≤ lastRefusal) × (k < doneFrom) × (codeOf e ≡ k)
 its-number e k is h =
-    let r = subst Numbered is (h .numbered) in
-    (r .0, r .1, ap (λ (a : Answer Ending). eventCode (told a (e .view)) (ruleIn a)) is)
+    let (low, high) = subst Numbered is (h .numbered) in
+    (low, high, omega (arith, high), ap (λ (a : Answer Ending). eventCode (told a (e .view)) (ruleIn a)) is)
 
 pub apart : Apart
 apart =

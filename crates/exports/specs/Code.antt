@@ -34,13 +34,24 @@ abbrev pub ruleCode : Rule → ℕ
 ruleCode (Direct i) = min i 3
 ruleCode Borrowed = 0
 
--- An event's answer, by what it tells: 0 where nothing ended, the number of a refusal (1 to 12) or of spent, 20 to 23
--- for done and 30 to 33 for a scan, each with its rule.
+-- The greatest refusal of document 01. Others may come: every refusal stands below the codes of done.
+abbrev pub lastRefusal : ℕ
+lastRefusal = 12
+
+-- The first code of done and of a scan, to which the rule is added.
+abbrev pub doneFrom : ℕ
+doneFrom = 100
+
+abbrev pub scanFrom : ℕ
+scanFrom = 110
+
+-- An event's answer, by what it tells: 0 where nothing ended, the number of a refusal or of spent, or the code of an
+-- ending with its rule.
 abbrev pub eventCode : Told → (rule : ℕ) → ℕ
 eventCode (refusal k) i = k
 eventCode nothing i = 0
-eventCode done i = 20 + i
-eventCode (scan v) i = 30 + i
+eventCode done i = doneFrom + i
+eventCode (scan v) i = scanFrom + i
 eventCode (spent k) i = k
 
 -- the rule of an ending, which document 01 does not ask for

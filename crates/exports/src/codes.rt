@@ -15,6 +15,12 @@ ghost use Rattle.cluster.specs.Outcome.{said, toldBy};
 ghost use Rattle.exports.specs.Code.{numbers, messageOf};
 ghost use Rattle.exports.specs.Code.{extentOf, ruleCode, ruleIn, eventCode, eventView};
 
+// The first code of an update done and of a scan ended, to which the rule is added. Below them stand 0, where nothing
+// ended, the refusals and spent.
+const DONE: u8 = 100;
+
+const SCAN: u8 = 110;
+
 pub(crate) fn extent_of(cut: bool, m: usize) -> Extent
     ensures { λ r. ⌜ r ≡ extentOf cut m ⌝ }
 {
@@ -35,8 +41,8 @@ fn ending_code(e: Ending) -> u8
 {
     match e {
         Ending::None => 0,
-        Ending::Done(r) => 20 + rule_code(r),
-        Ending::Scan(r) => 30 + rule_code(r),
+        Ending::Done(r) => DONE + rule_code(r),
+        Ending::Scan(r) => SCAN + rule_code(r),
         Ending::Spent => SPENT,
     }
 }
