@@ -1,5 +1,5 @@
 //! The record of a node in its own run of bytes: words, the report of an update that reads, the tags heard, four views.
-use super::bytes::{put_word, view_ok, word, LIMIT, VIEW};
+use super::bytes::{put_word, view_ok, word, Report, LIMIT, VIEW};
 use std::borrow::{Borrow, BorrowMut};
 
 pub const SIZE: usize = 3168;
@@ -21,7 +21,7 @@ pub const KEPTVIEW: usize = 2912;
 
 #[derive(Clone, Copy)]
 pub enum Operation {
-    Update([u8; 8]),
+    Update(Report),
     Scan,
 }
 
@@ -202,7 +202,7 @@ impl<B: BorrowMut<[u8; SIZE]>> Record<B> {
     }
 
     /// Puts an entry of writer w into a view.
-    pub fn put_entry(&mut self, place: usize, w: usize, tag: u64, report: [u8; 8]) {
+    pub fn put_entry(&mut self, place: usize, w: usize, tag: u64, report: Report) {
         let at = place + 16 * (w - 1);
         put_word(self.bytes_mut(), at, tag);
         self.bytes_mut()[at + 8..at + 16].copy_from_slice(&report);

@@ -4,9 +4,12 @@ use Prim.Native.Nat.{ℕ, _-_, _≤_, _<_}
 use mathlib.Core.Path.{_≡_}
 use mathlib.Core.List.{List}
 use lib.Dec.{eqb, ltb}
-use Rattle.octets.specs.Answer.{result, refused}
+use Rattle.octets.specs.Answer.{Answer, result, refused}
 use Rattle.octets.specs.Test.{pick}
 use Rattle.view.specs.declared.View.{View}
+use Rattle.wire.specs.Codec.{decode, answer}
+use Rattle.wire.specs.declared.Message.{Message}
+use Rattle.figures.specs.Figures.{figuresOf}
 use Rattle.record.specs.declared.Operation.{Operation}
 use Rattle.node.specs.declared.Ending.{Ending}
 use Rattle.node.specs.Told.{Told, refusal, nothing, done, scan, spent, spentNumber, told}
@@ -35,11 +38,18 @@ pub data Called : Result → Type 0 where
   by-deliver : (a c : ℕ) (x : Extent) (b : List ℕ) → Called (deliver a c x b)
   by-stop : (c : ℕ) (b : List ℕ) → Called (stop c b)
 
+-- If an answer is a refusal, its number is 1 to 12, which is below the codes of done.
+pub record Numbered {A : Type 0} (a : Answer A) : Type 0 where
+  pub number : (k : ℕ) → a ≡ refused k → (1 ≤ k) × (k ≤ lastRefusal) × (k < doneFrom)
+
 pub record Apart : Type 0 where
-  -- The refusals of the calls are 1 to 12, which is below the codes of done, and each is its own code.
-  pub refusals : {e : Result} → Called e → (k : ℕ) → e .answer ≡ refused k
-      → (1 ≤ k) × (k ≤ lastRefusal) × (k < doneFrom) × (codeOf e ≡ k)
-  -- No ending has such a code, nor any other that is left for a refusal: below those of done, and not spent's.
+  -- The refusals of events, each its own code, and those of the other calls, of which 0 says that there is a result.
+  pub refusals : {e : Result} → Called e → Numbered (e .answer)
+  pub own-code : (e : Result) (k : ℕ) → e .answer ≡ refused k → codeOf e ≡ k
+  pub reading : (n : ℕ) (b : List ℕ) → Numbered (decode n b)
+  pub writing : (n : ℕ) (m : Message) (v : List ℕ) (room : ℕ) → Numbered (answer n m v room)
+  pub summing : (n : ℕ) (v : List ℕ) → Numbered (figuresOf n v)
+  -- No ending has a refusal's code, nor any other that is left for one: below those of done, and not spent's.
   pub endings : (k : ℕ) → 1 ≤ k → k < doneFrom → (k ≡ spentNumber → ⊥) → (x : Ending) (v : View)
       → eventCode (refusal k) 0 ≡ eventCode (told (result x) v) (ruleIn (result x)) → ⊥
   -- What is told is read back, so that no two tellings have one code, but scans with two views, which are beside it.
