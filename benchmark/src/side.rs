@@ -21,8 +21,8 @@ pub type Numbers = [u64; 4];
 
 pub type View = [u8; 256];
 
-/// The codes of an ending: spent, and the first for done and for a scan, to which the rule is added. A refusal is its own
-/// code, below these, and 0 is for all else.
+/// The codes of an ending: spent, and the first for done and for a scan, to which the rule is added. A refusal is its
+/// own code, and 0 is for all else.
 const SPENT: u8 = 13;
 const DONE: u8 = 100;
 pub const SCAN: u8 = 110;

@@ -114,8 +114,8 @@ record Proper (e : Result) : Type 0 where
 
 demanded : (b : List ℕ) (t : Bool) (k : ℕ) {next : Result} → both (leb 1 k) (leb k lastRefusal) ≡ true → Proper next
     → Proper (demand t k b next)
-demanded b true k h next = next
-demanded b false k h next = record { numbered = in-range k h }
+demanded b true k within-range h = h
+demanded b false k within-range h = record { numbered = in-range k within-range }
 
 -- what comes after 12 and 2
 of-checked : (b : List ℕ) {next : Result} → Proper next → Proper (checked b next)
@@ -185,9 +185,9 @@ picked false h g = g
 of-front : (n : ℕ) (b : List ℕ) → Numbered (front n b)
 unfolding front
 of-front n b =
-    picked (isSize n)
-    (picked (both (begins b (encode (said b) (viewAt n b))) (allowed n (said b) (viewAt n b))) accepted (in-range 7 refl))
-    (in-range 1 refl)
+    let m = said b in
+    let v = viewAt n b in
+    picked (isSize n) (picked (both (begins b (encode m v)) (allowed n m v)) accepted (in-range 7 refl)) (in-range 1 refl)
 
 of-whole : (k : ℕ) (a : Answer (Message × ℕ)) → Numbered a → Numbered (whole k a)
 of-whole k (result p) h = picked (eqb (p .1) k) accepted (in-range 7 refl)

@@ -19,8 +19,7 @@ use Rattle.cluster.specs.Outcome.{toldOf}
 use Rattle.halting.specs.Stop.{stop}
 use Rattle.exports.specs.Code.{lastRefusal, doneFrom, scanFrom, eventCode, ruleIn, codeOf}
 
--- What a code means, v the view beside it, and the rule in it. This reading knows no refusal's number, so that it stands
--- where others come.
+-- What a code means, v the view beside it, and the rule in it. It names no refusal, so that it stands where others come.
 abbrev pub meant : ℕ → View → Told
 meant k v =
     pick (eqb k 0) nothing

@@ -128,7 +128,7 @@ lent f (result x) before = f x
 lent f (refused k) before = before
 
 -- What writing a message leaves: its code, the length, which was `before`, and the buffer, which was `room`.
-abbrev pub wrote : (r length : ℕ) (out : List ℕ) (n : ℕ) → Message → (view : List ℕ) (before : ℕ) (room : List ℕ) → Type 0
+abbrev pub wrote : (r len : ℕ) (out : List ℕ) → ℕ → Message → (view : List ℕ) (before : ℕ) (room : List ℕ) → Type 0
 wrote r len out n m v before room =
     let a = answer n m v (length room) in
     (r ≡ answerCode a) × (len ≡ lent (λ k. k) a before) × (out ≡ after a (encode m v) room)

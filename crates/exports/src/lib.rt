@@ -15,8 +15,8 @@
 //   100 to 103     an update is done
 //   110 to 113     a scan has ended
 //
-// The last digit of an ending is its rule: 0 for a view borrowed from a good message, or the round, 1 to 3. Refusals that
-// later come stay below 100. A refusal leaves all that is lent as it was.
+// The last digit of an ending is its rule: 0 for a view borrowed from a good message, or the round, 1 to 3. Refusals
+// that come later stay below 100. A refusal leaves all that is lent as it was.
 mod codes;
 
 use codes::VIEW;
@@ -140,8 +140,8 @@ pub extern "C" fn snapshot_read(
     }
 }
 
-// Writes the message of these numbers at the front of `out`, and its length to `length`. The report is looked at only for
-// a value, the view only for a good one, and of the numbers those that the kind has.
+// Writes the message of these numbers at the front of `out`, and its length to `length`. The report is looked at only
+// for a value, the view only for a good one, and of the numbers those that the kind has.
 #[no_mangle]
 pub extern "C" fn snapshot_write(
     n: usize,

@@ -10,16 +10,16 @@ returns c =
     let d = c .before .before .before .before .before in
     let m = d .before .before in
     let w = d .write .ensures in
-    rw (sym (m .before .read-report .ensures), sym (m .message-of .ensures), sym (w .0), ap written (c .before .k .given .1))
-    (refl, refl, rw (ap written (c .before .k .given .1)) at (w .1))
+    let e = ap written (c .before .k .given .1) in
+    rw (sym (m .before .read-report .ensures), sym (m .message-of .ensures), sym (w .0), e) (refl, refl, rw e at (w .1))
 
 returns-2 : tie.Need-returns-2
 returns-2 c =
     let d = c .before .before .before .before .before in
     let m = d .before .before in
     let w = d .write .ensures in
-    rw (sym (m .before .read-report .ensures), sym (m .message-of .ensures), sym (w .0), ap written (c .before .k2 .given .1))
-    (refl, refl, rw (ap written (c .before .k2 .given .1)) at (w .1))
+    let e = ap written (c .before .k2 .given .1) in
+    rw (sym (m .before .read-report .ensures), sym (m .message-of .ensures), sym (w .0), e) (refl, refl, rw e at (w .1))
 
 pub snapshot-write-spec : {M : Type 1} → statement M
 snapshot-write-spec =
