@@ -243,8 +243,7 @@ fn codec(seed: u64, rounds: usize, tally: &mut Tally) {
             bytes[at] = dice.next() as u8;
         }
         let (mut one, mut two) = (([5; 4], [5; 8]), ([5; 4], [5; 8]));
-        let told =
-            (Proved::read(n, &bytes, &mut one.0, &mut one.1), Plain::read(n, &bytes, &mut two.0, &mut two.1));
+        let told = (Proved::read(n, &bytes, &mut one.0, &mut one.1), Plain::read(n, &bytes, &mut two.0, &mut two.1));
         assert_eq!((told.0, one), (told.1, two), "reading {bytes:?}");
         tally[told.0 as usize] += 1;
         let (mut one, mut two) = ([5; 4], [5; 4]);

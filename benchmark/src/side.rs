@@ -1,11 +1,11 @@
 //! The two sides behind one interface: the calls of the crate `exports`, as numbers and lent memory.
+pub use crate::plain::bytes::{Report, NO_REPORT};
 use crate::plain::cluster;
 use crate::plain::figures::figures;
 use crate::plain::message::{read, write, Message};
 use crate::plain::record::Operation;
 use crate::plain::step::{Ending, Rule};
 use crate::plain::Refusal;
-pub use crate::plain::bytes::Report;
 
 /// What a client asks of a cluster. A cut lets out its first entries, then the node stops.
 #[derive(Clone, Copy, Debug)]
@@ -26,6 +26,10 @@ pub type View = [u8; 256];
 const SPENT: u8 = 13;
 const DONE: u8 = 100;
 pub const SCAN: u8 = 110;
+
+pub fn is_refusal(code: u8) -> bool {
+    code != 0 && code != SPENT && code < DONE
+}
 
 /// The calls; each answers a code.
 pub trait Side {
@@ -150,7 +154,6 @@ impl Side for Plain {
             Ok(m) => m,
             Err(refusal) => return refusal,
         };
-        const NO_REPORT: Report = [0; 8];
         (*numbers, *report) = match m {
             Message::Read { request } => ([1, request, 0, 0], NO_REPORT),
             Message::ReadAnswer { request, tag } => ([2, request, 0, tag], NO_REPORT),

@@ -2,7 +2,7 @@
 use super::Times;
 use crate::clock::seconds;
 use crate::dice::Dice;
-use crate::side::{Numbers, Plain, Proved, Report, Side};
+use crate::side::{Numbers, Plain, Proved, Report, Side, NO_REPORT};
 use std::hint::black_box;
 
 /// How often the same inputs are gone through in one run.
@@ -72,7 +72,7 @@ fn print_row(name: &str, what: &str, bytes: f64, t: &Times) {
 }
 
 fn read_all<S: Side>(cases: &[Case]) -> f64 {
-    let (mut numbers, mut report) = ([0; 4], [0; 8]);
+    let (mut numbers, mut report) = ([0; 4], NO_REPORT);
     seconds(|| {
         for _ in 0..ROUNDS {
             for case in cases {
