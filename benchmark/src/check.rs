@@ -1,7 +1,7 @@
 //! The differential run: both sides get the same events on their own copy of a cluster, and every answer, every lent
 //! view and every byte must be the same. Some clusters are damaged on the way.
 use crate::dice::Dice;
-use crate::side::{Event, Numbers, Plain, Proved, Side, View};
+use crate::side::{Event, Numbers, Plain, Proved, Side, View, SCAN};
 use crate::workload::waiting;
 
 /// Numbers near the limits.
@@ -28,7 +28,7 @@ fn some_event(dice: &mut Dice, n: usize, habits: &Habits, b: &[u8]) -> Event {
     let cut = dice.chance(habits.stops).then(|| if odd { odd_number(dice) as usize } else { dice.below(40) });
     if dice.chance(habits.begins) {
         return match dice.below(2) {
-            0 => Event::Update { node: node(dice), report: dice.next() >> dice.below(64), cut },
+            0 => Event::Update { node: node(dice), report: (dice.next() >> dice.below(64)).to_be_bytes(), cut },
             _ => Event::Scan { node: node(dice), cut },
         };
     }
@@ -118,7 +118,7 @@ impl Pair {
             Plain::apply(&mut self.plain, event, &mut self.views.1),
         );
         let past = 16 * self.proved.first().map_or(0, |&n| n as usize);
-        if (30..=33).contains(&told.0) {
+        if told.0 >= SCAN {
             assert!(self.views.0[past..].iter().all(|&x| x == 0), "a report past n after {event:?}");
         }
         self.same(told, event)
@@ -224,21 +224,26 @@ fn codec(seed: u64, rounds: usize, tally: &mut Tally) {
         let kind = if dice.chance(950) { dice.below(7) as u64 + 1 } else { odd_number(&mut dice) };
         let number = |dice: &mut Dice| if dice.chance(800) { dice.next() >> 2 } else { odd_number(dice) };
         let writer = if dice.chance(900) { dice.below(17) as u64 } else { odd_number(&mut dice) };
-        let numbers: Numbers = [kind, number(&mut dice), writer, number(&mut dice), dice.next()];
+        let numbers: Numbers = [kind, number(&mut dice), writer, number(&mut dice)];
+        let report = dice.next().to_be_bytes();
         let room = if dice.chance(900) { 274 } else { dice.below(300) };
         let (mut one, mut two) = (vec![9; room], vec![9; room]);
-        let told = (Proved::write(n, &numbers, &view, &mut one), Plain::write(n, &numbers, &view, &mut two));
-        assert_eq!(told.0, told.1, "writing {numbers:?}");
-        assert_eq!(one, two, "written {numbers:?}");
-        tally[told.0.min(15)] += 1;
+        let mut sizes = (300, 300);
+        let told = (
+            Proved::write(n, &numbers, &report, &view, &mut one, &mut sizes.0),
+            Plain::write(n, &numbers, &report, &view, &mut two, &mut sizes.1),
+        );
+        assert_eq!((told.0, sizes.0), (told.1, sizes.1), "writing {numbers:?}");
+        assert_eq!(one, two, "written {numbers:?} {report:?}");
+        tally[told.0 as usize] += 1;
         let mut bytes = one;
-        bytes.truncate(if told.0 > 12 && dice.chance(900) { told.0 } else { dice.below(300) });
+        bytes.truncate(if told.0 == 0 && dice.chance(900) { sizes.0 } else { dice.below(300) });
         if dice.chance(300) && !bytes.is_empty() {
             let at = dice.below(bytes.len());
             bytes[at] = dice.next() as u8;
         }
-        let (mut one, mut two) = ([5; 5], [5; 5]);
-        let told = (Proved::read(n, &bytes, &mut one), Plain::read(n, &bytes, &mut two));
+        let (mut one, mut two) = (([5; 4], [5; 8]), ([5; 4], [5; 8]));
+        let told = (Proved::read(n, &bytes, &mut one.0, &mut one.1), Plain::read(n, &bytes, &mut two.0, &mut two.1));
         assert_eq!((told.0, one), (told.1, two), "reading {bytes:?}");
         tally[told.0 as usize] += 1;
         let (mut one, mut two) = ([5; 4], [5; 4]);

@@ -1,4 +1,5 @@
 //! The two sides behind one interface: the calls of the crate `exports`, as numbers and lent memory.
+pub use crate::plain::bytes::{Report, NO_REPORT};
 use crate::plain::cluster;
 use crate::plain::figures::figures;
 use crate::plain::message::{read, write, Message};
@@ -9,24 +10,34 @@ use crate::plain::Refusal;
 /// What a client asks of a cluster. A cut lets out its first entries, then the node stops.
 #[derive(Clone, Copy, Debug)]
 pub enum Event {
-    Update { node: usize, report: u64, cut: Option<usize> },
+    Update { node: usize, report: Report, cut: Option<usize> },
     Scan { node: usize, cut: Option<usize> },
     Deliver { from: usize, to: usize, cut: Option<usize> },
     Stop { node: usize },
 }
 
-/// The numbers of a message: kind, request, writer, tag, report.
-pub type Numbers = [u64; 5];
+/// The numbers of a message: kind, request, writer, tag. Its report stands beside them.
+pub type Numbers = [u64; 4];
 
 pub type View = [u8; 256];
 
-/// An answer is a code: 0, a refusal from 1 to 12, 13 for spent, 20 and more for done, 30 and more for a scan.
+/// The codes of an ending: spent, and the first for done and for a scan, to which the rule is added. A refusal is its
+/// own code, and 0 is for all else.
+const SPENT: u8 = 13;
+const DONE: u8 = 100;
+pub const SCAN: u8 = 110;
+
+pub fn is_refusal(code: u8) -> bool {
+    code != 0 && code != SPENT && code < DONE
+}
+
+/// The calls; each answers a code.
 pub trait Side {
     fn size(n: usize) -> usize;
     fn fresh(n: usize, b: &mut [u8]) -> u8;
     fn apply(b: &mut [u8], event: &Event, view: &mut View) -> u8;
-    fn read(n: usize, b: &[u8], numbers: &mut Numbers) -> u8;
-    fn write(n: usize, numbers: &Numbers, view: &[u8], out: &mut [u8]) -> usize;
+    fn read(n: usize, b: &[u8], numbers: &mut Numbers, report: &mut Report) -> u8;
+    fn write(n: usize, numbers: &Numbers, report: &Report, view: &[u8], out: &mut [u8], length: &mut usize) -> u8;
     fn figures(n: usize, view: &[u8], sums: &mut [u32; 4]) -> u8;
 }
 
@@ -36,19 +47,21 @@ pub struct Proved;
 extern "C" {
     fn snapshot_size(n: usize) -> usize;
     fn snapshot_fresh(n: usize, b: *mut u8, len: usize) -> u8;
-    fn snapshot_begin_update(b: *mut u8, len: usize, c: usize, report: u64, cut: bool, m: usize) -> u8;
+    fn snapshot_begin_update(b: *mut u8, len: usize, c: usize, report: *const Report, cut: bool, m: usize) -> u8;
     fn snapshot_begin_scan(b: *mut u8, len: usize, c: usize, cut: bool, m: usize) -> u8;
     fn snapshot_deliver(b: *mut u8, len: usize, a: usize, c: usize, cut: bool, m: usize, view: *mut View) -> u8;
     fn snapshot_stop(b: *mut u8, len: usize, c: usize) -> u8;
-    fn snapshot_read(n: usize, b: *const u8, len: usize, numbers: *mut Numbers) -> u8;
+    fn snapshot_read(n: usize, b: *const u8, len: usize, numbers: *mut Numbers, report: *mut Report) -> u8;
     fn snapshot_write(
         n: usize,
         numbers: *const Numbers,
+        report: *const Report,
         view: *const u8,
         view_len: usize,
         out: *mut u8,
         out_len: usize,
-    ) -> usize;
+        length: *mut usize,
+    ) -> u8;
     fn snapshot_figures(n: usize, view: *const u8, len: usize, sums: *mut [u32; 4]) -> u8;
 }
 
@@ -68,7 +81,7 @@ impl Side for Proved {
         match *event {
             Event::Update { node, report, cut } => {
                 let (cut, m) = extent(cut);
-                unsafe { snapshot_begin_update(p, len, node, report, cut, m) }
+                unsafe { snapshot_begin_update(p, len, node, &report, cut, m) }
             }
             Event::Scan { node, cut } => {
                 let (cut, m) = extent(cut);
@@ -82,12 +95,13 @@ impl Side for Proved {
         }
     }
 
-    fn read(n: usize, b: &[u8], numbers: &mut Numbers) -> u8 {
-        unsafe { snapshot_read(n, b.as_ptr(), b.len(), numbers) }
+    fn read(n: usize, b: &[u8], numbers: &mut Numbers, report: &mut Report) -> u8 {
+        unsafe { snapshot_read(n, b.as_ptr(), b.len(), numbers, report) }
     }
 
-    fn write(n: usize, numbers: &Numbers, view: &[u8], out: &mut [u8]) -> usize {
-        unsafe { snapshot_write(n, numbers, view.as_ptr(), view.len(), out.as_mut_ptr(), out.len()) }
+    fn write(n: usize, numbers: &Numbers, report: &Report, view: &[u8], out: &mut [u8], length: &mut usize) -> u8 {
+        let (p, len) = (out.as_mut_ptr(), out.len());
+        unsafe { snapshot_write(n, numbers, report, view.as_ptr(), view.len(), p, len, length) }
     }
 
     fn figures(n: usize, view: &[u8], sums: &mut [u32; 4]) -> u8 {
@@ -106,9 +120,9 @@ fn code(answer: Result<Ending, Refusal>) -> u8 {
     match answer {
         Err(refusal) => refusal,
         Ok(Ending::None) => 0,
-        Ok(Ending::Spent) => 13,
-        Ok(Ending::Done(r)) => 20 + rule(r),
-        Ok(Ending::Scan(r)) => 30 + rule(r),
+        Ok(Ending::Spent) => SPENT,
+        Ok(Ending::Done(r)) => DONE + rule(r),
+        Ok(Ending::Scan(r)) => SCAN + rule(r),
     }
 }
 
@@ -127,9 +141,7 @@ impl Side for Plain {
     #[inline(never)]
     fn apply(b: &mut [u8], event: &Event, view: &mut View) -> u8 {
         code(match *event {
-            Event::Update { node, report, cut } => {
-                cluster::begin(b, node, Operation::Update(report.to_be_bytes()), cut)
-            }
+            Event::Update { node, report, cut } => cluster::begin(b, node, Operation::Update(report), cut),
             Event::Scan { node, cut } => cluster::begin(b, node, Operation::Scan, cut),
             Event::Deliver { from, to, cut } => cluster::deliver(b, from, to, cut, view),
             Event::Stop { node } => cluster::stop(b, node),
@@ -137,26 +149,26 @@ impl Side for Plain {
     }
 
     #[inline(never)]
-    fn read(n: usize, b: &[u8], numbers: &mut Numbers) -> u8 {
+    fn read(n: usize, b: &[u8], numbers: &mut Numbers, report: &mut Report) -> u8 {
         let m = match read(n, b) {
             Ok(m) => m,
             Err(refusal) => return refusal,
         };
-        *numbers = match m {
-            Message::Read { request } => [1, request, 0, 0, 0],
-            Message::ReadAnswer { request, tag } => [2, request, 0, tag, 0],
-            Message::Write { request, tag } => [3, request, 0, tag, 0],
-            Message::WriteAnswer { request, tag } => [4, request, 0, tag, 0],
-            Message::Echo { tag } => [5, 0, 0, tag, 0],
-            Message::Value { tag, writer, report } => [6, 0, u64::from(writer), tag, u64::from_be_bytes(report)],
-            Message::Good { tag } => [7, 0, 0, tag, 0],
+        (*numbers, *report) = match m {
+            Message::Read { request } => ([1, request, 0, 0], NO_REPORT),
+            Message::ReadAnswer { request, tag } => ([2, request, 0, tag], NO_REPORT),
+            Message::Write { request, tag } => ([3, request, 0, tag], NO_REPORT),
+            Message::WriteAnswer { request, tag } => ([4, request, 0, tag], NO_REPORT),
+            Message::Echo { tag } => ([5, 0, 0, tag], NO_REPORT),
+            Message::Value { tag, writer, report } => ([6, 0, u64::from(writer), tag], report),
+            Message::Good { tag } => ([7, 0, 0, tag], NO_REPORT),
         };
         0
     }
 
     #[inline(never)]
-    fn write(n: usize, numbers: &Numbers, view: &[u8], out: &mut [u8]) -> usize {
-        let [kind, request, writer, tag, report] = *numbers;
+    fn write(n: usize, numbers: &Numbers, report: &Report, view: &[u8], out: &mut [u8], length: &mut usize) -> u8 {
+        let [kind, request, writer, tag] = *numbers;
         let m = match kind {
             1 => Message::Read { request },
             2 => Message::ReadAnswer { request, tag },
@@ -164,11 +176,17 @@ impl Side for Plain {
             4 => Message::WriteAnswer { request, tag },
             5 => Message::Echo { tag },
             // A writer past 255 is none of 1 to n, and 0 is none either.
-            6 => Message::Value { tag, writer: writer.try_into().unwrap_or(0), report: report.to_be_bytes() },
+            6 => Message::Value { tag, writer: writer.try_into().unwrap_or(0), report: *report },
             7 => Message::Good { tag },
             _ => return if (1..=16).contains(&n) { 7 } else { 1 },
         };
-        write(n, &m, view, out).unwrap_or_else(usize::from)
+        match write(n, &m, view, out) {
+            Ok(size) => {
+                *length = size;
+                0
+            }
+            Err(refusal) => refusal,
+        }
     }
 
     #[inline(never)]

@@ -1,7 +1,7 @@
 //! A steady workload: updates and scans at all nodes, and deliveries in a random or a round robin order. The events are
 //! chosen beforehand, so that both sides are timed on the same list.
 use crate::dice::Dice;
-use crate::side::{Event, Plain, Side, View};
+use crate::side::{is_refusal, Event, Plain, Side, View};
 
 #[derive(Clone, Copy, PartialEq)]
 pub enum Order {
@@ -48,7 +48,7 @@ impl Workload {
                 assert!(tries < 100_000, "the cluster came to a stand");
                 let Some(event) = self.choose() else { continue };
                 let code = Plain::apply(&mut self.bytes, &event, &mut view);
-                if !(1..=12).contains(&code) {
+                if !is_refusal(code) {
                     break event;
                 }
             };
@@ -61,7 +61,7 @@ impl Workload {
         if most == 0 || most <= CALM && self.dice.chance(150) {
             let node = self.dice.below(n) + 1;
             return Some(if self.dice.chance(500) {
-                Event::Update { node, report: self.dice.next(), cut: None }
+                Event::Update { node, report: self.dice.next().to_be_bytes(), cut: None }
             } else {
                 Event::Scan { node, cut: None }
             });

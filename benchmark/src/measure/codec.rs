@@ -2,7 +2,7 @@
 use super::Times;
 use crate::clock::seconds;
 use crate::dice::Dice;
-use crate::side::{Numbers, Plain, Proved, Side};
+use crate::side::{Numbers, Plain, Proved, Report, Side, NO_REPORT};
 use std::hint::black_box;
 
 /// How often the same inputs are gone through in one run.
@@ -13,6 +13,7 @@ const NODES: usize = 16;
 
 struct Case {
     numbers: Numbers,
+    report: Report,
     view: Vec<u8>,
     bytes: Vec<u8>,
 }
@@ -24,12 +25,14 @@ fn some_view(dice: &mut Dice, n: usize, top: u64) -> Vec<u8> {
 
 fn some_message(dice: &mut Dice, kind: u64) -> Case {
     let tag = dice.next() >> 2 | 1 << 62;
-    let numbers = [kind, dice.next() >> 2 | 1, dice.next() % 16 + 1, tag, dice.next()];
+    let numbers = [kind, dice.next() >> 2 | 1, dice.next() % 16 + 1, tag];
+    let report = dice.next().to_be_bytes();
     let view = some_view(dice, NODES, tag);
     let mut bytes = vec![0; 274];
-    let size = Plain::write(NODES, &numbers, &view, &mut bytes);
+    let mut size = 0;
+    Plain::write(NODES, &numbers, &report, &view, &mut bytes, &mut size);
     bytes.truncate(size);
-    Case { numbers, view, bytes }
+    Case { numbers, report, view, bytes }
 }
 
 /// Prints bytes per second by kind and of all kinds together, and answers the largest ratio of both.
@@ -69,24 +72,25 @@ fn print_row(name: &str, what: &str, bytes: f64, t: &Times) {
 }
 
 fn read_all<S: Side>(cases: &[Case]) -> f64 {
-    let mut numbers = [0; 5];
+    let (mut numbers, mut report) = ([0; 4], NO_REPORT);
     seconds(|| {
         for _ in 0..ROUNDS {
             for case in cases {
-                black_box(S::read(NODES, black_box(&case.bytes), &mut numbers));
-                black_box(&numbers);
+                black_box(S::read(NODES, black_box(&case.bytes), &mut numbers, &mut report));
+                black_box((&numbers, &report));
             }
         }
     })
 }
 
 fn write_all<S: Side>(cases: &[Case]) -> f64 {
-    let mut out = [0; 274];
+    let (mut out, mut size) = ([0; 274], 0);
     seconds(|| {
         for _ in 0..ROUNDS {
             for case in cases {
-                black_box(S::write(NODES, black_box(&case.numbers), black_box(&case.view), &mut out));
-                black_box(&out);
+                let Case { numbers, report, view, .. } = black_box(case);
+                black_box(S::write(NODES, numbers, report, view, &mut out, &mut size));
+                black_box((&out, size));
             }
         }
     })

@@ -6,6 +6,10 @@ pub const LIMIT: u64 = i64::MAX as u64;
 /// The bytes of a view of sixteen nodes.
 pub const VIEW: usize = 256;
 
+/// A report, in its bytes of the wire, and those of none.
+pub type Report = [u8; 8];
+pub const NO_REPORT: Report = [0; 8];
+
 pub fn word(b: &[u8], at: usize) -> u64 {
     u64::from_be_bytes(b[at..at + 8].try_into().unwrap())
 }

@@ -1,5 +1,5 @@
 //! Messages: tagged fields, each a mark, a length of two bytes and the contents.
-use super::bytes::{put_word, view_ok, word, LIMIT};
+use super::bytes::{put_word, view_ok, word, Report, LIMIT};
 use super::Refusal;
 
 /// The view of a good message stays in its bytes, from byte 18 on.
@@ -10,7 +10,7 @@ pub enum Message {
     Write { request: u64, tag: u64 },
     WriteAnswer { request: u64, tag: u64 },
     Echo { tag: u64 },
-    Value { tag: u64, writer: u8, report: [u8; 8] },
+    Value { tag: u64, writer: u8, report: Report },
     Good { tag: u64 },
 }
 

@@ -1,5 +1,5 @@
 //! The record of a node in its own run of bytes: words, the report of an update that reads, the tags heard, four views.
-use super::bytes::{put_word, view_ok, word, LIMIT, VIEW};
+use super::bytes::{put_word, view_ok, word, Report, LIMIT, NO_REPORT, VIEW};
 use std::borrow::{Borrow, BorrowMut};
 
 pub const SIZE: usize = 3168;
@@ -21,7 +21,7 @@ pub const KEPTVIEW: usize = 2912;
 
 #[derive(Clone, Copy)]
 pub enum Operation {
-    Update([u8; 8]),
+    Update(Report),
     Scan,
 }
 
@@ -202,7 +202,7 @@ impl<B: BorrowMut<[u8; SIZE]>> Record<B> {
     }
 
     /// Puts an entry of writer w into a view.
-    pub fn put_entry(&mut self, place: usize, w: usize, tag: u64, report: [u8; 8]) {
+    pub fn put_entry(&mut self, place: usize, w: usize, tag: u64, report: Report) {
         let at = place + 16 * (w - 1);
         put_word(self.bytes_mut(), at, tag);
         self.bytes_mut()[at + 8..at + 16].copy_from_slice(&report);
@@ -250,14 +250,14 @@ impl<B: BorrowMut<[u8; SIZE]>> Record<B> {
 
     pub fn set_wait(&mut self, wait: &Wait) {
         let (words, report) = match *wait {
-            Idle => ([0; 6], [0; 8]),
+            Idle => ([0; 6], NO_REPORT),
             Reading { operation: Operation::Update(report), answered, largest } => {
                 ([1, 1, 0, 0, answered, largest], report)
             }
-            Reading { operation: Operation::Scan, answered, largest } => ([1, 0, 0, 0, answered, largest], [0; 8]),
-            Writing { kind, round, tag, answered } => ([2, code(kind), round, tag, answered, 0], [0; 8]),
-            Comparing { kind, round, tag } => ([3, code(kind), round, tag, 0, 0], [0; 8]),
-            Borrowing { kind, tag } => ([4, code(kind), 0, tag, 0, 0], [0; 8]),
+            Reading { operation: Operation::Scan, answered, largest } => ([1, 0, 0, 0, answered, largest], NO_REPORT),
+            Writing { kind, round, tag, answered } => ([2, code(kind), round, tag, answered, 0], NO_REPORT),
+            Comparing { kind, round, tag } => ([3, code(kind), round, tag, 0, 0], NO_REPORT),
+            Borrowing { kind, tag } => ([4, code(kind), 0, tag, 0, 0], NO_REPORT),
         };
         for (i, x) in words.into_iter().enumerate() {
             put_word(self.bytes_mut(), WAIT + 8 * i, x);

@@ -9,7 +9,7 @@ returns : tie.Need-returns
 returns c =
     let d = c .before .before .before .begin in
     let x = c .before .before .before .before in
-    rw (sym (x .extent-of .ensures), sym (x .before .report-from .ensures))
+    rw (sym (x .extent-of .ensures), sym (x .before .read-report .ensures))
     (c .event-code .ensures ∙ ap₂ eventCode (d .ensures .0) (ap ruleIn (d .ensures .1)), d .ensures .3)
 
 pub snapshot-begin-update-spec : {M : Type 1} → statement M

@@ -20,7 +20,7 @@ returns-5 : tie.Need-returns-5
 returns-5 c = rw (c .before .m5 .given .1) refl
 
 returns-6 : tie.Need-returns-6
-returns-6 c = rw (c .before .before .m6 .given .1) (simp (c .report-number .ensures))
+returns-6 c = rw (c .before .m6 .given .1) refl
 
 returns-7 : tie.Need-returns-7
 returns-7 c = rw (c .before .m7 .given .1) refl
@@ -29,5 +29,5 @@ pub message-numbers-spec : {M : Type 1} → statement M
 message-numbers-spec =
     tie.close
     (tie.spec (λ c. search needs) (λ c. search needs) (λ c. search needs) (λ c. search needs)
-    (λ c. search needs) (λ c. search needs) (λ c κs. search needs) (λ c. search needs) returns returns-2
-    returns-3 returns-4 returns-5 returns-6 returns-7)
+    (λ c. search needs) (λ c. search needs) (λ c. search needs) returns returns-2 returns-3 returns-4 returns-5
+    returns-6 returns-7)

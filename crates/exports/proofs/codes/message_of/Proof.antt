@@ -21,7 +21,7 @@ returns-5 : tie.Need-returns-5
 returns-5 c = rw (c .match .keys5) refl
 
 returns-6 : tie.Need-returns-6
-returns-6 c = rw (c .before .match .keys6) (simp (c .report-from .ensures))
+returns-6 c = rw (c .match .keys6) refl
 
 returns-7 : tie.Need-returns-7
 returns-7 c = rw (c .match .keys7) refl
@@ -42,4 +42,4 @@ returns-8 c =
 pub message-of-spec : {M : Type 1} → statement M
 message-of-spec =
     tie.close
-    (tie.spec (λ c κs. search needs) returns returns-2 returns-3 returns-4 returns-5 returns-6 returns-7 returns-8)
+    (tie.spec returns returns-2 returns-3 returns-4 returns-5 returns-6 returns-7 returns-8)
