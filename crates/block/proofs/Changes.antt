@@ -27,34 +27,35 @@ use Rattle.block.specs.Block.{recordPlace}
 -- A block of the right length, and a change of a channel that keeps its length.
 module _ (k : List ℕ) (size : length k ≡ blockSize) (f : List ℕ → List ℕ)
     (same : (t : List ℕ) → length t ≡ channelSize → length (f t) ≡ channelSize) (a : ℕ) (lo : 1 ≤ a) (hi : a ≤ nodes)
-    where
-  long : length (f (part k (channelPlace a) channelSize)) ≡ channelSize
-  long = same (part k (channelPlace a) channelSize) (length-part k (channelPlace a) channelSize (omega arith))
+  where
+    long : length (f (part k (channelPlace a) channelSize)) ≡ channelSize
+    long = same (part k (channelPlace a) channelSize) (length-part k (channelPlace a) channelSize (omega arith))
 
-  pub channel-length : length (onChannel a f k) ≡ blockSize
-  channel-length =
-      length-put k (channelPlace a) (f (part k (channelPlace a) channelSize)) (omega (arith, long)) ∙ size
+    pub channel-length : length (onChannel a f k) ≡ blockSize
+    channel-length =
+        length-put k (channelPlace a) (f (part k (channelPlace a) channelSize)) (omega (arith, long)) ∙ size
 
-  pub channel-flag : getD (onChannel a f k) 0 0 ≡ getD k 0 0
-  channel-flag =
-      getD-other k (channelPlace a) (f (part k (channelPlace a) channelSize)) 0 (omega arith) (λ q. omega arith)
+    pub channel-flag : getD (onChannel a f k) 0 0 ≡ getD k 0 0
+    channel-flag =
+        getD-other k (channelPlace a) (f (part k (channelPlace a) channelSize)) 0 (omega arith) (λ q. omega arith)
 
-  pub channel-record : recordIn (onChannel a f k) ≡ recordIn k
-  unfolding recordIn
-  channel-record =
-      part-other k (channelPlace a) (f (part k (channelPlace a) channelSize)) recordPlace recordSize (omega arith)
-      (λ q. omega arith)
-      (λ q. omega arith)
+    pub channel-record : recordIn (onChannel a f k) ≡ recordIn k
+    unfolding recordIn
+    channel-record =
+        part-other k (channelPlace a) (f (part k (channelPlace a) channelSize)) recordPlace recordSize (omega arith)
+        (λ q. omega arith)
+        (λ q. omega arith)
 
-  pub channel-same : channelIn (onChannel a f k) a ≡ f (channelIn k a)
-  unfolding channelIn
-  channel-same = part-same k (channelPlace a) (f (part k (channelPlace a) channelSize)) channelSize (omega arith) long
+    pub channel-same : channelIn (onChannel a f k) a ≡ f (channelIn k a)
+    unfolding channelIn
+    channel-same = part-same k (channelPlace a) (f (part k (channelPlace a) channelSize)) channelSize (omega arith) long
 
-  pub channel-other : (d : ℕ) → 1 ≤ d → (d ≡ a → ⊥) → channelIn (onChannel a f k) d ≡ channelIn k d
-  unfolding channelIn
-  channel-other d l e =
-      part-other k (channelPlace a) (f (part k (channelPlace a) channelSize)) (channelPlace d) channelSize (omega arith)
-      (λ q. omega (arith, long)) (λ q. omega (arith, long))
+    pub channel-other : (d : ℕ) → 1 ≤ d → (d ≡ a → ⊥) → channelIn (onChannel a f k) d ≡ channelIn k d
+    unfolding channelIn
+    channel-other d l e =
+        part-other k (channelPlace a) (f (part k (channelPlace a) channelSize)) (channelPlace d) channelSize
+        (omega arith)
+        (λ q. omega (arith, long)) (λ q. omega (arith, long))
 
 -- The record written; its tables have their lengths.
 module _ (k : List ℕ) (size : length k ≡ blockSize) (d : Node) (heard : length (d .heard) ≡ cells) where

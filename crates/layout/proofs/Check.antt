@@ -21,8 +21,11 @@ use Rattle.block.specs.Block.{recordIn, recordSound, channelsSound, blockSound}
 use Rattle.layout.specs.Layout.{clusterSize, stated, block, stopped, node, channel, fits, sound, isNode, faultsIn}
 
 pub is-size : (n : ℕ) → isSize n ≡ true → (1 ≤ n) × (n ≤ nodes)
-is-size n h = (leb-true 1 n (both-left (leb 1 n) (leb n nodes) h), leb-true n nodes
-    (both-right (leb 1 n) (leb n nodes) h))
+is-size n h = (
+  leb-true 1 n (both-left (leb 1 n) (leb n nodes) h),
+  leb-true n nodes
+      (both-right (leb 1 n) (leb n nodes) h),
+)
 
 pub is-node : (n c : ℕ) → isNode n c ≡ true → (1 ≤ c) × (c ≤ n)
 is-node n c h = (leb-true 1 c (both-left (leb 1 c) (leb c n) h), leb-true c n (both-right (leb 1 c) (leb c n) h))

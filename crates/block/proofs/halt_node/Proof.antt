@@ -58,7 +58,7 @@ loop-again c = let i = c .before .before .before .before .before .loop .i in
       search needs,
       search needs,
       lent-back k (channelsPlace + channelSize * i) channelSize clear refl (omega arith)
-      (c .before .before .clear .kept .0) (c .before .before .clear .ensures)
+          (c .before .before .clear .kept .0) (c .before .before .clear .ensures)
           ∙ ap (λ (j : ℕ). change j channelSize clear k) at ∙ ap (λ (t : List ℕ). onChannel (i + 1) clear t)
           (c .before .before .before .before .before .loop .inv .2)
           ∙ sym (upTo-more i (λ j. onChannel (j + 1) clear) _),

@@ -30,7 +30,7 @@ unfolding channelIn
 returns c = let k = c .before .before .before .args .k .now in
     let at = channelPlace (c .before .before .before .args .a) in (
       c .index .ensures .0 ∙ sym (getD-part k at channelSize 0 (omega arith) ∙ ap (λ (j : ℕ). getD k j 0)
-      (add-zero at)),
+          (add-zero at)),
       c .index .ensures .1,
     )
 
