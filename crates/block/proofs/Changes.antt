@@ -14,76 +14,83 @@ use Rattle.octets.specs.Test.{pick}
 use Rattle.octets.specs.Bytes.{part, put}
 use Rattle.octets.specs.Loop.{upTo}
 use Rattle.octets.proofs.Put.{part-other, part-same, getD-other, length-put, length-part, put-one, put-over}
+use Rattle.view.specs.Size.{nodes}
+use Rattle.table.specs.Table.{cells}
 use Rattle.record.specs.declared.Node.{Node}
 use Rattle.region.specs.Channel.{channelSize, slotSize, push, pop, clear}
 use Rattle.region.specs.Record.{recordSize, recordBytes}
 use Rattle.region.proofs.Waiting.{length-push, length-pop, length-clear}
 use Rattle.region.proofs.Saved.{length-recordBytes}
 use Rattle.block.specs.Block.{blockSize, channelPlace, hasStopped, recordIn, channelIn, onChannel, keep, takeOff, receive, halt}
+use Rattle.block.specs.Block.{recordPlace}
 
 -- A block of the right length, and a change of a channel that keeps its length.
 module _ (k : List ℕ) (size : length k ≡ blockSize) (f : List ℕ → List ℕ)
-    (same : (t : List ℕ) → length t ≡ channelSize → length (f t) ≡ channelSize) (a : ℕ) (lo : 1 ≤ a) (hi : a ≤ 16) where
-  long : length (f (part k (channelPlace a) channelSize)) ≡ channelSize
-  long = same (part k (channelPlace a) channelSize) (length-part k (channelPlace a) channelSize (omega arith))
+    (same : (t : List ℕ) → length t ≡ channelSize → length (f t) ≡ channelSize) (a : ℕ) (lo : 1 ≤ a) (hi : a ≤ nodes)
+  where
+    long : length (f (part k (channelPlace a) channelSize)) ≡ channelSize
+    long = same (part k (channelPlace a) channelSize) (length-part k (channelPlace a) channelSize (omega arith))
 
-  pub channel-length : length (onChannel a f k) ≡ blockSize
-  channel-length =
-      length-put k (channelPlace a) (f (part k (channelPlace a) channelSize)) (omega (arith, long)) ∙ size
+    pub channel-length : length (onChannel a f k) ≡ blockSize
+    channel-length =
+        length-put k (channelPlace a) (f (part k (channelPlace a) channelSize)) (omega (arith, long)) ∙ size
 
-  pub channel-flag : getD (onChannel a f k) 0 0 ≡ getD k 0 0
-  channel-flag =
-      getD-other k (channelPlace a) (f (part k (channelPlace a) channelSize)) 0 (omega arith) (λ q. omega arith)
+    pub channel-flag : getD (onChannel a f k) 0 0 ≡ getD k 0 0
+    channel-flag =
+        getD-other k (channelPlace a) (f (part k (channelPlace a) channelSize)) 0 (omega arith) (λ q. omega arith)
 
-  pub channel-record : recordIn (onChannel a f k) ≡ recordIn k
-  unfolding recordIn
-  channel-record =
-      part-other k (channelPlace a) (f (part k (channelPlace a) channelSize)) 1 recordSize (omega arith) (λ q. omega arith)
-      (λ q. omega arith)
+    pub channel-record : recordIn (onChannel a f k) ≡ recordIn k
+    unfolding recordIn
+    channel-record =
+        part-other k (channelPlace a) (f (part k (channelPlace a) channelSize)) recordPlace recordSize (omega arith)
+        (λ q. omega arith)
+        (λ q. omega arith)
 
-  pub channel-same : channelIn (onChannel a f k) a ≡ f (channelIn k a)
-  unfolding channelIn
-  channel-same = part-same k (channelPlace a) (f (part k (channelPlace a) channelSize)) channelSize (omega arith) long
+    pub channel-same : channelIn (onChannel a f k) a ≡ f (channelIn k a)
+    unfolding channelIn
+    channel-same = part-same k (channelPlace a) (f (part k (channelPlace a) channelSize)) channelSize (omega arith) long
 
-  pub channel-other : (d : ℕ) → 1 ≤ d → (d ≡ a → ⊥) → channelIn (onChannel a f k) d ≡ channelIn k d
-  unfolding channelIn
-  channel-other d l e =
-      part-other k (channelPlace a) (f (part k (channelPlace a) channelSize)) (channelPlace d) channelSize (omega arith)
-      (λ q. omega (arith, long)) (λ q. omega (arith, long))
+    pub channel-other : (d : ℕ) → 1 ≤ d → (d ≡ a → ⊥) → channelIn (onChannel a f k) d ≡ channelIn k d
+    unfolding channelIn
+    channel-other d l e =
+        part-other k (channelPlace a) (f (part k (channelPlace a) channelSize)) (channelPlace d) channelSize
+        (omega arith)
+        (λ q. omega (arith, long)) (λ q. omega (arith, long))
 
 -- The record written; its tables have their lengths.
-module _ (k : List ℕ) (size : length k ≡ blockSize) (d : Node) (heard : length (d .heard) ≡ 256) where
-  over : put (part k 1 recordSize) 0 (recordBytes d) ≡ recordBytes d
+module _ (k : List ℕ) (size : length k ≡ blockSize) (d : Node) (heard : length (d .heard) ≡ cells) where
+  over : put (part k recordPlace recordSize) 0 (recordBytes d) ≡ recordBytes d
   over =
-      put-over (part k 1 recordSize) (recordBytes d)
-      (length-recordBytes d heard ∙ sym (length-part k 1 recordSize (omega arith)))
+      put-over (part k recordPlace recordSize) (recordBytes d)
+      (length-recordBytes d heard ∙ sym (length-part k recordPlace recordSize (omega arith)))
 
-  kept : keep d k ≡ put k 1 (recordBytes d)
+  kept : keep d k ≡ put k recordPlace (recordBytes d)
   unfolding keep
-  kept = ap (λ (t : List ℕ). put k 1 t) over
+  kept = ap (λ (t : List ℕ). put k recordPlace t) over
 
   pub keep-length : length (keep d k) ≡ blockSize
-  keep-length = ap length kept ∙ length-put k 1 (recordBytes d) (omega (arith, length-recordBytes d heard)) ∙ size
+  keep-length = ap length kept ∙ length-put k recordPlace (recordBytes d) (omega (arith, length-recordBytes d heard))
+      ∙ size
 
   pub keep-flag : getD (keep d k) 0 0 ≡ getD k 0 0
   keep-flag =
-      ap (λ (t : List ℕ). getD t 0 0) kept ∙ getD-other k 1 (recordBytes d) 0 (omega arith) (λ q. omega arith)
+      ap (λ (t : List ℕ). getD t 0 0) kept ∙ getD-other k recordPlace (recordBytes d) 0 (omega arith) (λ q. omega arith)
 
   pub keep-record : recordIn (keep d k) ≡ recordBytes d
   unfolding recordIn
   keep-record =
-      ap (λ (t : List ℕ). part t 1 recordSize) kept
-      ∙ part-same k 1 (recordBytes d) recordSize (omega arith) (length-recordBytes d heard)
+      ap (λ (t : List ℕ). part t recordPlace recordSize) kept
+      ∙ part-same k recordPlace (recordBytes d) recordSize (omega arith) (length-recordBytes d heard)
 
   pub keep-channel : (a : ℕ) → channelIn (keep d k) a ≡ channelIn k a
   unfolding channelIn
   keep-channel a =
       ap (λ (t : List ℕ). part t (channelPlace a) channelSize) kept
-      ∙ part-other k 1 (recordBytes d) (channelPlace a) channelSize (omega arith) (λ q. omega arith)
+      ∙ part-other k recordPlace (recordBytes d) (channelPlace a) channelSize (omega arith) (λ q. omega arith)
       (λ q. omega (arith, length-recordBytes d heard))
 
 -- One message less on the channel from a.
-module _ (k : List ℕ) (size : length k ≡ blockSize) (a : ℕ) (lo : 1 ≤ a) (hi : a ≤ 16) where
+module _ (k : List ℕ) (size : length k ≡ blockSize) (a : ℕ) (lo : 1 ≤ a) (hi : a ≤ nodes) where
   popped : (t : List ℕ) → length t ≡ channelSize → length (pop t) ≡ channelSize
   popped t e = length-pop t ∙ e
 
@@ -108,7 +115,7 @@ module _ (k : List ℕ) (size : length k ≡ blockSize) (a : ℕ) (lo : 1 ≤ a)
   takeOff-other = channel-other k size pop popped a lo hi
 
 -- A message m from a, for a node that has not stopped.
-module _ (k : List ℕ) (size : length k ≡ blockSize) (a : ℕ) (lo : 1 ≤ a) (hi : a ≤ 16) (m : List ℕ)
+module _ (k : List ℕ) (size : length k ≡ blockSize) (a : ℕ) (lo : 1 ≤ a) (hi : a ≤ nodes) (m : List ℕ)
     (fits : length m ≤ slotSize) where
   pushed : (t : List ℕ) → length t ≡ channelSize → length (push m t) ≡ channelSize
   pushed t e = length-push m t e fits
@@ -164,23 +171,23 @@ module _ (k : List ℕ) (size : length k ≡ blockSize) where
   emptied : ℕ → List ℕ
   emptied n = upTo n (λ i. onChannel (i + 1) clear) (set k 0 1)
 
-  emptied-length : (n : ℕ) → n ≤ 16 → length (emptied n) ≡ blockSize
+  emptied-length : (n : ℕ) → n ≤ nodes → length (emptied n) ≡ blockSize
   unfolding upTo emptied
   emptied-length zero h = flagged
   emptied-length (suc n) h =
       channel-length (emptied n) (emptied-length n (omega arith)) clear cleared (n + 1) (omega arith) (omega arith)
 
-  emptied-flag : (n : ℕ) → n ≤ 16 → getD (emptied n) 0 0 ≡ 1
+  emptied-flag : (n : ℕ) → n ≤ nodes → getD (emptied n) 0 0 ≡ 1
   unfolding upTo emptied
   emptied-flag zero h = getD-set-same k 0 1 0 (omega arith)
   emptied-flag (suc n) h =
       channel-flag (emptied n) (emptied-length n (omega arith)) clear cleared (n + 1) (omega arith) (omega arith)
       ∙ emptied-flag n (omega arith)
 
-  pub halt-length : (n : ℕ) → n ≤ 16 → length (halt n k) ≡ blockSize
+  pub halt-length : (n : ℕ) → n ≤ nodes → length (halt n k) ≡ blockSize
   unfolding halt emptied
   halt-length n h = emptied-length n h
 
-  pub halt-stops : (n : ℕ) → n ≤ 16 → hasStopped (halt n k) ≡ true
+  pub halt-stops : (n : ℕ) → n ≤ nodes → hasStopped (halt n k) ≡ true
   unfolding halt emptied
   halt-stops n h = ap (λ (x : ℕ). ltb 0 x) (emptied-flag n h)

@@ -8,24 +8,32 @@ use lib.Dec.{ltb, leb, eqb}
 use Rattle.octets.specs.Test.{pick, both}
 use Rattle.octets.specs.Bytes.{part, put}
 use Rattle.octets.specs.Loop.{upTo}
+use Rattle.view.specs.Size.{nodes}
 use Rattle.table.specs.Loop.{all}
 use Rattle.record.specs.Usable.{usable}
 use Rattle.record.specs.declared.Node.{Node}
 use Rattle.region.specs.Channel.{channelSize, capacity, countOf, push, pop, clear}
 use Rattle.region.specs.Record.{recordSize, recordOf, recordBytes, codesKnown}
 
-abbrev pub blockSize : ℕ
-blockSize = 73345
+-- Where its parts stand, and its bytes.
+abbrev pub stopPlace : ℕ
+stopPlace = 0
 
 abbrev pub recordPlace : ℕ
-recordPlace = 1
+recordPlace = stopPlace + 1
+
+abbrev pub channelsPlace : ℕ
+channelsPlace = recordPlace + recordSize
 
 abbrev pub channelPlace : ℕ → ℕ
-channelPlace a = 3169 + channelSize * (a - 1)
+channelPlace a = channelsPlace + channelSize * (a - 1)
+
+abbrev pub blockSize : ℕ
+blockSize = channelsPlace + channelSize * nodes
 
 -- The node has stopped; any byte but 0 says so.
 abbrev pub hasStopped : List ℕ → Bool
-hasStopped k = ltb 0 (getD k 0 0)
+hasStopped k = ltb 0 (getD k stopPlace 0)
 
 unfoldable pub recordIn : List ℕ → List ℕ
 recordIn k = part k recordPlace recordSize
@@ -59,7 +67,7 @@ unfoldable pub receive : ℕ → List ℕ → List ℕ → List ℕ
 receive a m k = pick (hasStopped k) k (onChannel a (push m) k)
 
 unfoldable pub halt : ℕ → List ℕ → List ℕ
-halt n k = upTo n (λ i. onChannel (i + 1) clear) (set k 0 1)
+halt n k = upTo n (λ i. onChannel (i + 1) clear) (set k stopPlace 1)
 
 -- What refusal 2 asks of the block of node c of n: a usable record of that n and number, and no channel with more
 -- messages than it can hold.

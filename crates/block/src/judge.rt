@@ -1,74 +1,98 @@
 // A node's record judged in its bytes, without a copy of them: every event judges every record (refusal 2).
+use octets::WORD;
 use octets::and;
 use octets::get_word;
 use record::usable::numbers_within;
 use record::usable::round_tag;
+use region::places::ATMAX_IN;
+use region::places::ATROUND_IN;
+use region::places::HEARD_PLACE;
+use region::places::KEPT_IN;
+use region::places::KEPT_PLACE;
+use region::places::LAST_IN;
+use region::places::MAXTAG_PLACE;
+use region::places::N_PLACE;
+use region::places::OWN_PLACE;
+use region::places::REQUEST_PLACE;
+use region::places::VIEWS_PLACE;
 use region::stored::codes_known;
 use region::stored::load_wait;
+use table::CELLS;
 use view::LIMIT;
+use view::NODES;
+use view::VIEW;
 use view::view_ok;
 ghost use mathlib.Core.Path.{_≡_};
-ghost use Prim.Native.Nat.{_≤_};
+ghost use Prim.Native.Nat.{_<_, _≤_};
 ghost use lib.ListN.{length};
 ghost use Rattle.octets.specs.Test.{both};
 ghost use Rattle.octets.specs.Word.{words};
-ghost use Rattle.view.specs.Size.{limit};
-ghost use Rattle.table.specs.Table.{within, heardWithin};
-ghost use Rattle.region.specs.Record.{recordSize, heardPlace, viewIn};
+ghost use Rattle.view.specs.Size.{limit, nodes};
+ghost use Rattle.table.specs.Table.{within, heardWithin, cells};
+ghost use Rattle.region.specs.Record.{recordSize, heardPlace, viewIn, lastIn, atmaxIn, atroundIn, keptIn, views};
 ghost use Rattle.block.specs.Block.{recordSound};
+
+// A word before the table of tags heard: that of cell k of 1 to `CELLS` stands k words further.
+const BEFORE_HEARD: usize = HEARD_PLACE - WORD;
 
 // Whether no tag heard is above the limit, 2^63 - 1: the first byte of such a tag is below 128.
 fn heard_sound(r: &[u8]) -> bool
     requires { ⌜ length (now r) ≡ recordSize ⌝ }
-    ensures { λ t. ⌜ t ≡ heardWithin (words 256 (now (r .entry)) heardPlace) ⌝ }
+    ensures { λ t. ⌜ t ≡ heardWithin (words cells (now (r .entry)) heardPlace) ⌝ }
 {
     let mut ok = true;
     let mut k = 0;
-    while k < 256 {
+    while k < CELLS {
         k += 1;
-        ok = and(r[88 + 8 * k] < 128, ok);
+        ok = and(r[BEFORE_HEARD + WORD * k] < 128, ok);
     }
     ok
 }
 
 // Whether view i has no tag above `top` and no report beside tag 0.
 fn view_sound(r: &[u8], i: usize, top: u64) -> bool
-    requires { ⌜ (length (now r) ≡ recordSize) × (i ≤ 3) ⌝ }
+    requires { ⌜ (length (now r) ≡ recordSize) × (i < views) ⌝ }
     ensures { λ t. ⌜ t ≡ within top (viewIn (now (r .entry)) i) ⌝ }
 {
-    let at = 2144 + 256 * i;
-    let end = at + 256;
-    view_ok(16, top, &r[at..end])
+    let at = VIEWS_PLACE + VIEW * i;
+    let end = at + VIEW;
+    view_ok(NODES, top, &r[at..end])
 }
 
 // Whether the tables keep their limits: the record's `maxtag` and kept tag, and the tag of the open round.
 fn tables_sound(r: &[u8], maxtag: u64, round: u64, kept: u64) -> bool
     requires { ⌜ length (now r) ≡ recordSize ⌝ }
     ensures { λ t. ⌜ t ≡ both
-        (both (heardWithin (words 256 (now (r .entry)) heardPlace)) (within limit (viewIn (now (r .entry)) 0)))
-        (both (both (within maxtag (viewIn (now (r .entry)) 1)) (within round (viewIn (now (r .entry)) 2)))
-        (within kept (viewIn (now (r .entry)) 3))) ⌝ }
+        (both (heardWithin (words cells (now (r .entry)) heardPlace)) (within limit (viewIn (now (r .entry)) lastIn)))
+        (both (both (within maxtag (viewIn (now (r .entry)) atmaxIn)) (within round (viewIn (now (r .entry)) atroundIn)))
+        (within kept (viewIn (now (r .entry)) keptIn))) ⌝ }
 {
     and(
-        and(heard_sound(r), view_sound(r, 0, LIMIT)),
+        and(heard_sound(r), view_sound(r, LAST_IN, LIMIT)),
         and(
-            and(view_sound(r, 1, maxtag), view_sound(r, 2, round)),
-            view_sound(r, 3, kept),
+            and(
+                view_sound(r, ATMAX_IN, maxtag),
+                view_sound(r, ATROUND_IN, round),
+            ),
+            view_sound(r, KEPT_IN, kept),
         ),
     )
 }
 
 // Whether these bytes are a usable record of node c of n.
 pub fn record_sound(r: &[u8], n: usize, c: usize) -> bool
-    requires { ⌜ (length (now r) ≡ recordSize) × (n ≤ 16) ⌝ }
+    requires { ⌜ (length (now r) ≡ recordSize) × (n ≤ nodes) ⌝ }
     ensures { λ t. ⌜ t ≡ recordSound n c (now (r .entry)) ⌝ }
 {
-    if and(get_word(r, 0) == n as u64, get_word(r, 8) == c as u64) {
-        let maxtag = get_word(r, 16);
-        let kept = get_word(r, 32);
+    if and(
+        get_word(r, N_PLACE) == n as u64,
+        get_word(r, OWN_PLACE) == c as u64,
+    ) {
+        let maxtag = get_word(r, MAXTAG_PLACE);
+        let kept = get_word(r, KEPT_PLACE);
         let wait = load_wait(r);
-        let sizes = and(and(1 <= n, n <= 16), and(1 <= c, c <= n));
-        let numbers = numbers_within(n, maxtag, get_word(r, 24), kept, wait);
+        let sizes = and(and(1 <= n, n <= NODES), and(1 <= c, c <= n));
+        let numbers = numbers_within(n, maxtag, get_word(r, REQUEST_PLACE), kept, wait);
         let tables = tables_sound(r, maxtag, round_tag(wait), kept);
         return and(codes_known(r), and(sizes, and(numbers, tables)));
     }

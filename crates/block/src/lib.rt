@@ -4,43 +4,50 @@ pub mod judge;
 use judge::record_sound;
 use octets::and;
 use record::Node;
+use region::places::CAPACITY;
+use region::places::CHANNEL;
+use region::places::RECORD;
+use view::NODES;
 ghost use mathlib.Core.Path.{_≡_};
 ghost use Prim.Native.Nat.{_≤_};
 ghost use lib.ListN.{length};
+ghost use Rattle.view.specs.Size.{nodes};
 ghost use Rattle.region.specs.Channel.{slotSize, first};
 ghost use Rattle.region.specs.Record.{recordSize, recordOf, recordBytes};
 ghost use Rattle.block.specs.Block.{blockSize, hasStopped, recordIn, channelIn, waitingIn, keep, takeOff, receive, halt, channelsSound, blockSound};
 
-// The bytes of a block, and where in it the channels stand: after the stop byte and the record.
-pub const BLOCK: usize = 73345;
+// Where the parts of a block stand, and its bytes.
+const STOP_PLACE: usize = 0;
 
-const CHANNELS: usize = 3169;
-// The bytes of a channel.
-const CHANNEL: usize = 4386;
+const RECORD_PLACE: usize = STOP_PLACE + 1;
+
+const CHANNELS_PLACE: usize = RECORD_PLACE + RECORD;
+
+pub const BLOCK: usize = CHANNELS_PLACE + CHANNEL * NODES;
 
 // Whether the node has stopped.
 pub fn has_stopped(k: &[u8]) -> bool
     requires { ⌜ length (now k) ≡ blockSize ⌝ }
     ensures { λ r. ⌜ r ≡ hasStopped (now (k .entry)) ⌝ }
 {
-    0 < k[0]
+    0 < k[STOP_PLACE]
 }
 
 // How many messages wait on the channel from node a.
 pub fn waiting_in(k: &[u8], a: usize) -> usize
-    requires { ⌜ (length (now k) ≡ blockSize) × (1 ≤ a) × (a ≤ 16) ⌝ }
+    requires { ⌜ (length (now k) ≡ blockSize) × (1 ≤ a) × (a ≤ nodes) ⌝ }
     ensures { λ r. ⌜ (r ≡ waitingIn (now (k .entry)) a) × (r ≤ 255) ⌝ }
 {
-    let at = CHANNELS + CHANNEL * (a - 1);
+    let at = CHANNELS_PLACE + CHANNEL * (a - 1);
     region::channel::index(k[at])
 }
 
 // The slot of the message that has waited longest on the channel from node a.
 pub fn first_in(k: &[u8], a: usize) -> &[u8]
-    requires { ⌜ (length (now k) ≡ blockSize) × (1 ≤ a) × (a ≤ 16) ⌝ }
+    requires { ⌜ (length (now k) ≡ blockSize) × (1 ≤ a) × (a ≤ nodes) ⌝ }
     ensures { λ r. ⌜ now r ≡ first (channelIn (now (k .entry)) a) ⌝ }
 {
-    let at = CHANNELS + CHANNEL * (a - 1);
+    let at = CHANNELS_PLACE + CHANNEL * (a - 1);
     let end = at + CHANNEL;
     region::channel::first(&k[at..end])
 }
@@ -50,7 +57,7 @@ pub fn keep_node(k: &mut [u8], c: Node)
     requires { ⌜ length (now k) ≡ blockSize ⌝ }
     ensures { λ _. ⌜ now (k .exit) ≡ keep c (now (k .entry)) ⌝ }
 {
-    region::stored::save(&mut k[1..CHANNELS], c);
+    region::stored::save(&mut k[RECORD_PLACE..CHANNELS_PLACE], c);
 }
 
 // Copies the node's record.
@@ -58,7 +65,7 @@ pub fn copy_record(k: &[u8], r: &mut [u8])
     requires { ⌜ (length (now k) ≡ blockSize) × (length (now r) ≡ recordSize) ⌝ }
     ensures { λ _. ⌜ now (r .exit) ≡ recordIn (now (k .entry)) ⌝ }
 {
-    octets::put_bytes(r, 0, &k[1..CHANNELS]);
+    octets::put_bytes(r, 0, &k[RECORD_PLACE..CHANNELS_PLACE]);
 }
 
 // Writes another record, given in bytes.
@@ -66,41 +73,41 @@ pub fn keep_record(k: &mut [u8], r: &[u8])
     requires { ⌜ (length (now k) ≡ blockSize) × (length (now r) ≡ recordSize) × (now r ≡ recordBytes (recordOf (now r))) ⌝ }
     ensures { λ _. ⌜ now (k .exit) ≡ keep (recordOf (now (r .entry))) (now (k .entry)) ⌝ }
 {
-    octets::put_bytes(k, 1, r);
+    octets::put_bytes(k, RECORD_PLACE, r);
 }
 
 // Takes the oldest message off the channel from node a.
 pub fn take_off(k: &mut [u8], a: usize)
-    requires { ⌜ (length (now k) ≡ blockSize) × (1 ≤ a) × (a ≤ 16) ⌝ }
+    requires { ⌜ (length (now k) ≡ blockSize) × (1 ≤ a) × (a ≤ nodes) ⌝ }
     ensures { λ _. ⌜ now (k .exit) ≡ takeOff a (now (k .entry)) ⌝ }
 {
-    let at = CHANNELS + CHANNEL * (a - 1);
+    let at = CHANNELS_PLACE + CHANNEL * (a - 1);
     let end = at + CHANNEL;
     region::channel::pop(&mut k[at..end]);
 }
 
 // Puts a message at the end of the channel from node a, unless the node has stopped.
 pub fn receive_from(k: &mut [u8], a: usize, m: &[u8])
-    requires { ⌜ (length (now k) ≡ blockSize) × (1 ≤ a) × (a ≤ 16) × (length (now m) ≤ slotSize) ⌝ }
+    requires { ⌜ (length (now k) ≡ blockSize) × (1 ≤ a) × (a ≤ nodes) × (length (now m) ≤ slotSize) ⌝ }
     ensures { λ _. ⌜ now (k .exit) ≡ receive a (now (m .entry)) (now (k .entry)) ⌝ }
 {
-    if 0 < k[0] {
+    if 0 < k[STOP_PLACE] {
         return;
     }
-    let at = CHANNELS + CHANNEL * (a - 1);
+    let at = CHANNELS_PLACE + CHANNEL * (a - 1);
     let end = at + CHANNEL;
     region::channel::push(&mut k[at..end], m);
 }
 
 // Stops the node and empties its channels from 1 to n.
 pub fn halt_node(k: &mut [u8], n: usize)
-    requires { ⌜ (length (now k) ≡ blockSize) × (n ≤ 16) ⌝ }
+    requires { ⌜ (length (now k) ≡ blockSize) × (n ≤ nodes) ⌝ }
     ensures { λ _. ⌜ now (k .exit) ≡ halt n (now (k .entry)) ⌝ }
 {
-    k[0] = 1;
+    k[STOP_PLACE] = 1;
     let mut i = 0;
     while i < n {
-        let at = CHANNELS + CHANNEL * i;
+        let at = CHANNELS_PLACE + CHANNEL * i;
         let end = at + CHANNEL;
         region::channel::clear(&mut k[at..end]);
         i += 1;
@@ -109,22 +116,25 @@ pub fn halt_node(k: &mut [u8], n: usize)
 
 // Whether no channel from 1 to n has more messages than it can hold.
 fn channels_sound(k: &[u8], n: usize) -> bool
-    requires { ⌜ (length (now k) ≡ blockSize) × (n ≤ 16) ⌝ }
+    requires { ⌜ (length (now k) ≡ blockSize) × (n ≤ nodes) ⌝ }
     ensures { λ r. ⌜ r ≡ channelsSound n (now (k .entry)) ⌝ }
 {
     let mut ok = true;
     let mut a = 0;
     while a < n {
         a += 1;
-        ok = and(waiting_in(k, a) <= 16, ok);
+        ok = and(waiting_in(k, a) <= CAPACITY, ok);
     }
     ok
 }
 
 // Whether refusal 2 has nothing against the block of node c of n.
 pub fn block_sound(k: &[u8], n: usize, c: usize) -> bool
-    requires { ⌜ (length (now k) ≡ blockSize) × (n ≤ 16) ⌝ }
+    requires { ⌜ (length (now k) ≡ blockSize) × (n ≤ nodes) ⌝ }
     ensures { λ r. ⌜ r ≡ blockSound n c (now (k .entry)) ⌝ }
 {
-    and(record_sound(&k[1..CHANNELS], n, c), channels_sound(k, n))
+    and(
+        record_sound(&k[RECORD_PLACE..CHANNELS_PLACE], n, c),
+        channels_sound(k, n),
+    )
 }

@@ -1,12 +1,16 @@
 // What a step lets out: the slot of each message, and how many entries go to a node.
-use octets::least;
 use step::Outbox;
 use step::Sent;
+use octets::least;
+use region::places::SLOT;
+use view::ENTRY;
+use view::VIEW;
 use view::View;
 use wire::Message;
 ghost use mathlib.Core.Path.{_≡_};
 ghost use Prim.Native.Nat.{ℕ, _-_, _≤_};
 ghost use lib.ListN.{length, take};
+ghost use Rattle.view.specs.Size.{nodes, viewSize};
 ghost use Rattle.view.specs.declared.View.{View};
 ghost use Rattle.step.specs.Step.{listed};
 ghost use Rattle.view.specs.View.{viewBytes};
@@ -17,22 +21,22 @@ ghost use Rattle.entries.specs.Entries.{isAnswer, addressed, entriesOf, 
 
 // Writes a message, with the view that a good message carries, at the front of s. The view's bytes go to w first.
 fn write_slot<'a>(n: usize, m: Message, v: View, w: &'a mut [u8], s: &'a mut [u8])
-    requires { ⌜ (n ≤ 16) × (length (now w) ≡ 256) × (length (now s) ≡ slotSize) ⌝ }
+    requires { ⌜ (n ≤ nodes) × (length (now w) ≡ viewSize nodes) × (length (now s) ≡ slotSize) ⌝ }
     ensures { λ _. ⌜ now (s .exit)
         ≡ after (answer n m (viewBytes n v) slotSize) (encode m (viewBytes n v)) (now (s .entry)) ⌝ }
 {
     view::write_view(n, v, w);
-    let end = 16 * n;
+    let end = ENTRY * n;
     wire::write(n, m, &w[..end], s);
 }
 
 // The slot of a message.
-pub fn slot_of(n: usize, m: Message, v: View) -> [u8; 274]
-    requires { ⌜ n ≤ 16 ⌝ }
+pub fn slot_of(n: usize, m: Message, v: View) -> [u8; SLOT]
+    requires { ⌜ n ≤ nodes ⌝ }
     ensures { λ r. ⌜ r ≡ slot n m v ⌝ }
 {
-    let mut w = [0u8; 256];
-    let mut s = [0u8; 274];
+    let mut w = [0u8; VIEW];
+    let mut s = [0u8; SLOT];
     write_slot(n, m, v, &mut w, &mut s);
     s
 }

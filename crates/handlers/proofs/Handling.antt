@@ -2,19 +2,20 @@
 use Prim.Native.Nat.{ℕ, _+_, _-_, _*_, _≤_, max}
 use mathlib.Core.Path.{_≡_, refl, sym, ap, ap₂, _∙_, subst}
 use mathlib.Core.Bool.{Bool, true, false}
-use mathlib.Core.List.{List, [], _∷_, _++_}
+use mathlib.Core.List.{List}
 use native.Mathlib.Omega.{arith}
 use lib.ListN.{length, length-set}
 use lib.Dec.{ltb, leb, eqb}
 use Rattle.octets.specs.Test.{pick, both}
 use Rattle.octets.specs.Bytes.{Bytes, part, put}
-use Rattle.octets.specs.Word.{word, words, wordBytes}
+use Rattle.octets.specs.Word.{word, words, wordSize}
 use Rattle.octets.proofs.Table.{length-tab}
+use Rattle.view.specs.Size.{nodes, viewSize}
 use Rattle.view.specs.View.{viewBytes, viewOf}
 use Rattle.view.specs.declared.Report.{Report}
 use Rattle.view.specs.declared.View.{View}
 use Rattle.view.proofs.ViewBytes.{view-absent}
-use Rattle.table.specs.Table.{cell, newest, put as withEntry}
+use Rattle.table.specs.Table.{cell, newest, put as withEntry, cells}
 use Rattle.table.proofs.Laws.{length-tab as length-table}
 use Rattle.wire.specs.declared.Message.{Message}
 use Rattle.wire.specs.declared.Message.the-variants.{Read, ReadAnswer, Write, WriteAnswer, Echo, Value, Good}
@@ -26,69 +27,74 @@ use Rattle.step.specs.React.{raised, roundHolds, isNew, received, keep, react}
 use Rattle.step.specs.Step.{started}
 use Rattle.step.specs.declared.Sent.{Sent}
 use Rattle.step.proofs.Lawful.{react-started}
-use Rattle.region.specs.Record.{recordSize, heardPlace, scalar, viewPlace, viewIn, waitIn, waitBytes, recordOf, recordBytes}
+use Rattle.region.specs.Record.{recordSize, heardPlace, viewPlace, viewIn, waitIn, recordOf, recordBytes, nPlace}
+use Rattle.region.specs.Record.{ownPlace, maxtagPlace, requestPlace, keptPlace, lastIn, atmaxIn, atroundIn, keptIn}
+use Rattle.region.specs.Record.{headOf, headBytes, withMaxtag, withKept, withWait}
 use Rattle.region.proofs.Back.{Sized, SizedNode, record-back}
-use Rattle.handlers.specs.declared.Head.{Head}
-use Rattle.handlers.specs.Handled.{entered, headOf}
+use Rattle.handlers.specs.Handled.{entered}
 use Rattle.handlers.proofs.Sections.{Tables, tables-of, heard-put, atmax-put, kept-put, last-entry, atmax-entry, atround-entry, assembled}
 
-pub sized-view : (n : ℕ) (b : List ℕ) → n ≤ 16 → Sized (viewOf n b)
+pub sized-view : (n : ℕ) (b : List ℕ) → n ≤ nodes → Sized (viewOf n b)
 sized-view n b h = record { tags = view-absent n b h .tags-length; reports = view-absent n b h .reports-length }
 
--- the bytes of a head, with these tags and this wait
-abbrev pub headBytes : Head → (maxtag kept : ℕ) → Wait → List ℕ
-headBytes h maxtag kept w = wordBytes (h .n ∷ h .own ∷ maxtag ∷ h .request ∷ kept ∷ []) ++ waitBytes w
-
 module _ (r : List ℕ) (h : Bytes r) (l : length r ≡ recordSize) where
-  T : Tables r (words 256 r heardPlace) (viewIn r 0) (viewIn r 1) (viewIn r 2) (viewIn r 3)
+  T : Tables r (words cells r heardPlace) (viewIn r lastIn) (viewIn r atmaxIn) (viewIn r atroundIn) (viewIn r keptIn)
   T = tables-of r h l
 
-  pub waiting-bytes : (w : Wait) → put r 0 (headBytes (headOf r) (scalar r 2) (scalar r 4) w) ≡ recordBytes (waiting (recordOf r) w)
+  pub waiting-bytes : (w : Wait) → put r nPlace (headBytes (withWait (headOf r) w))
+      ≡ recordBytes (waiting (recordOf r) w)
   unfolding recordOf
   waiting-bytes w = assembled (waiting (recordOf r) w) T
 
-  pub raised-bytes : (t : ℕ) (b : Bool) → ltb (scalar r 2) t ≡ b
-      → put (pick b (put r 2400 (viewBytes 16 (newest t (viewIn r 0) (viewIn r 1)))) r) 0
-      (headBytes (headOf r) (pick b t (scalar r 2)) (scalar r 4) (waitIn r))
+  pub raised-bytes : (t : ℕ) (b : Bool) → ltb (word r maxtagPlace) t ≡ b
+      → put (pick b (put r (viewPlace atmaxIn) (viewBytes nodes (newest t (viewIn r lastIn) (viewIn r atmaxIn)))) r)
+      nPlace
+      (headBytes (pick b (withMaxtag (headOf r) t) (headOf r)))
       ≡ recordBytes (raised (recordOf r) t)
   unfolding recordOf raised
   raised-bytes t b e = go b ∙ ap (λ (x : Bool). recordBytes (grown x)) (sym e)
     where
       grown : Bool → Node
-      grown x = setTop (recordOf r) (pick x t (scalar r 2)) (pick x (newest t (viewIn r 0) (viewIn r 1)) (viewIn r 1))
+      grown x = setTop (recordOf r) (pick x t (word r maxtagPlace))
+          (pick x (newest t (viewIn r lastIn) (viewIn r atmaxIn)) (viewIn r atmaxIn))
 
-      go : (x : Bool) → put (pick x (put r 2400 (viewBytes 16 (newest t (viewIn r 0) (viewIn r 1)))) r) 0
-          (headBytes (headOf r) (pick x t (scalar r 2)) (scalar r 4) (waitIn r))
+      go : (x : Bool)
+          → put (pick x (put r (viewPlace atmaxIn) (viewBytes nodes (newest t (viewIn r lastIn) (viewIn r atmaxIn)))) r)
+          nPlace
+          (headBytes (pick x (withMaxtag (headOf r) t) (headOf r)))
           ≡ recordBytes (grown x)
-      go true = assembled (grown true) (atmax-put T (newest t (viewIn r 0) (viewIn r 1)))
+      go true = assembled (grown true) (atmax-put T (newest t (viewIn r lastIn) (viewIn r atmaxIn)))
       go false = assembled (grown false) T
 
-  pub kept-bytes : (t : ℕ) (v : View) (b : Bool) → ltb (scalar r 4) t ≡ b
-      → put (pick b (put r 2912 (viewBytes 16 v)) r) 0 (headBytes (headOf r) (scalar r 2) (pick b t (scalar r 4)) (waitIn r))
+  pub kept-bytes : (t : ℕ) (v : View) (b : Bool) → ltb (word r keptPlace) t ≡ b
+      → put (pick b (put r (viewPlace keptIn) (viewBytes nodes v)) r) nPlace
+      (headBytes (pick b (withKept (headOf r) t) (headOf r)))
       ≡ recordBytes (keep (recordOf r) t v)
   unfolding recordOf keep
   kept-bytes t v b e = go b ∙ ap (λ (x : Bool). recordBytes (grown x)) (sym e)
     where
       grown : Bool → Node
-      grown x = setKept (recordOf r) (pick x t (scalar r 4)) (pick x v (viewIn r 3))
+      grown x = setKept (recordOf r) (pick x t (word r keptPlace)) (pick x v (viewIn r keptIn))
 
-      go : (x : Bool) → put (pick x (put r 2912 (viewBytes 16 v)) r) 0
-          (headBytes (headOf r) (scalar r 2) (pick x t (scalar r 4)) (waitIn r)) ≡ recordBytes (grown x)
+      go : (x : Bool) → put (pick x (put r (viewPlace keptIn) (viewBytes nodes v)) r) nPlace
+          (headBytes (pick x (withKept (headOf r) t) (headOf r))) ≡ recordBytes (grown x)
       go true = assembled (grown true) (kept-put T v)
       go false = assembled (grown false) T
 
-  pub received-bytes : (s w t : ℕ) (p : Report) → 1 ≤ s → s ≤ 16 → 1 ≤ w → w ≤ 16
-      → put (entered s w t p (isNew (recordOf r) w t) (both (isNew (recordOf r) w t) (leb t (scalar r 2)))
-      (both (isNew (recordOf r) w t) (roundHolds (waitIn r) t)) r) 0 (headBytes (headOf r) (scalar r 2) (scalar r 4) (waitIn r))
+  pub received-bytes : (s w t : ℕ) (p : Report) → 1 ≤ s → s ≤ nodes → 1 ≤ w → w ≤ nodes
+      → put (entered s w t p (isNew (recordOf r) w t) (both (isNew (recordOf r) w t) (leb t (word r maxtagPlace)))
+      (both (isNew (recordOf r) w t) (roundHolds (waitIn r) t)) r) nPlace (headBytes (headOf r))
       ≡ recordBytes (received (recordOf r) s w t p)
   unfolding recordOf received entered
   received-bytes s w t p ls hs lw hw =
       let new = isNew (recordOf r) w t in
-      let z : (i : ℕ) → Sized (viewIn r i) = λ i. sized-view 16 (part r (viewPlace i) 256) (omega arith) in
+      let z : (i : ℕ) → Sized (viewIn r i) = λ i. sized-view nodes (part r (viewPlace i) (viewSize nodes))
+      (omega arith) in
       assembled (received (recordOf r) s w t p)
-      (atround-entry (atmax-entry (last-entry (heard-put T (cell s w) t (omega arith) (length-tab 256 (λ i. word r (heardPlace + 8 * i))))
-      new w t p (z 0) lw hw) (both new (leb t (scalar r 2))) w t p (z 1) lw hw)
-      (both new (roundHolds (waitIn r) t)) w t p (z 2) lw hw)
+      (atround-entry (atmax-entry (last-entry (heard-put T (cell s w) t (omega arith)
+      (length-tab cells (λ i. word r (heardPlace + wordSize * i))))
+      new w t p (z lastIn) lw hw) (both new (leb t (word r maxtagPlace))) w t p (z atmaxIn) lw hw)
+      (both new (roundHolds (waitIn r) t)) w t p (z atroundIn) lw hw)
 
 -- ---- the sizes of the tables after a handler, so that the record is read back
 
@@ -102,17 +108,17 @@ sized-entry v w t p z =
 
 pub sized-newest : (t : ℕ) (last held : View) → Sized (newest t last held)
 unfolding newest
-sized-newest t last held = record { tags = length-table 16 _; reports = length-table 16 _ }
+sized-newest t last held = record { tags = length-table nodes _; reports = length-table nodes _ }
 
 pub sized-of : (r : List ℕ) → SizedNode (recordOf r)
 unfolding recordOf
 sized-of r =
     record {
-      heard = length-tab 256 (λ i. word r (heardPlace + 8 * i));
-      last = sized-view 16 (part r (viewPlace 0) 256) (omega arith);
-      atmax = sized-view 16 (part r (viewPlace 1) 256) (omega arith);
-      atround = sized-view 16 (part r (viewPlace 2) 256) (omega arith);
-      keptview = sized-view 16 (part r (viewPlace 3) 256) (omega arith);
+      heard = length-tab cells (λ i. word r (heardPlace + wordSize * i));
+      last = sized-view nodes (part r (viewPlace lastIn) (viewSize nodes)) (omega arith);
+      atmax = sized-view nodes (part r (viewPlace atmaxIn) (viewSize nodes)) (omega arith);
+      atround = sized-view nodes (part r (viewPlace atroundIn) (viewSize nodes)) (omega arith);
+      keptview = sized-view nodes (part r (viewPlace keptIn) (viewSize nodes)) (omega arith);
     }
 
 module _ (c : Node) (z : SizedNode c) where

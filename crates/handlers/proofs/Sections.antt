@@ -14,21 +14,23 @@ use lib.Seq.{getD-set-same, getD-set-other, take-all}
 use Rattle.octets.specs.Test.{pick}
 use Rattle.octets.specs.Bytes.{Bytes, be, part, put}
 use Rattle.octets.specs.Loop.{join}
-use Rattle.octets.specs.Word.{word, words, wordBytes}
+use Rattle.octets.specs.Word.{word, words, wordBytes, wordSize}
 use Rattle.octets.proofs.Put.{part-other, part-same, part-add, part-part, part-bytes, length-part, length-put, put-inside}
 use Rattle.octets.proofs.Table.{length-tab, getD-tab, getD-padded, length-join, part-join, join-ext, join-parts}
 use Rattle.octets.proofs.Word.{word-of}
+use Rattle.view.specs.Size.{nodes, entrySize, viewSize}
 use Rattle.view.specs.Report.{noReport}
 use Rattle.view.specs.View.{entryBytes, viewBytes, viewOf, tagAt}
 use Rattle.view.specs.declared.Report.{Report}
 use Rattle.view.specs.declared.View.{View}
 use Rattle.view.proofs.ReportBytes.{be-part}
 use Rattle.view.proofs.ViewBytes.{length-viewBytes, view-bytes-back}
-use Rattle.table.specs.Table.{tagOf, reportOf, cell, heardOf, newest, newestTag, newestReport, put as withEntry}
+use Rattle.table.specs.Table.{tagOf, reportOf, cell, heardOf, newest, newestTag, newestReport, put as withEntry, cells}
 use Rattle.table.proofs.Laws.{getD-tab as getD-table}
 use Rattle.record.specs.declared.Node.{Node}
-use Rattle.region.specs.Record.{recordSize, heardPlace, viewPlace, viewIn, numbers, waitBytes, recordBytes}
-use Rattle.region.proofs.Saved.{waits-end}
+use Rattle.region.specs.Record.{recordSize, heardPlace, viewPlace, viewIn, recordBytes, nPlace, heardSize, lastIn}
+use Rattle.region.specs.Record.{atmaxIn, atroundIn, keptIn, views, headIn, headBytes}
+use Rattle.region.proofs.Saved.{head-end}
 use Rattle.region.proofs.Back.{Sized}
 use Rattle.handlers.specs.Handled.{cellPlace, entryPlace, putWhere, newestEntry}
 
@@ -70,17 +72,19 @@ module _ (n s k : ℕ) (f g : ℕ → List ℕ) (v : List ℕ) (size : (i : ℕ)
       sym (take-all (s * n) (put (join n f) (s * k) v) h) ∙ sym (join-parts n s (put (join n f) (s * k) v)) ∙ join-ext n _ g run
 
 -- a table of words and a view, one entry replaced
-put-word : (t : List ℕ) (k x : ℕ) → k < length t → put (wordBytes t) (8 * k) (be 8 x) ≡ wordBytes (set t k x)
+put-word : (t : List ℕ) (k x : ℕ) → k < length t → put (wordBytes t) (wordSize * k) (be wordSize x)
+    ≡ wordBytes (set t k x)
 put-word t k x l =
-    put-join (length t) 8 k (λ i. be 8 (getD t i 0)) (λ i. be 8 (getD (set t k x) i 0)) (be 8 x) (λ i. refl) l refl
-    (ap (be 8) (getD-set-same t k x 0 l)) (λ i e. ap (be 8) (getD-set-other t k i x 0 e))
-    ∙ ap (λ (n : ℕ). join n (λ i. be 8 (getD (set t k x) i 0))) (sym (length-set t k x))
+    put-join (length t) wordSize k (λ i. be wordSize (getD t i 0)) (λ i. be wordSize (getD (set t k x) i 0))
+    (be wordSize x) (λ i. refl) l refl
+    (ap (be wordSize) (getD-set-same t k x 0 l)) (λ i e. ap (be wordSize) (getD-set-other t k i x 0 e))
+    ∙ ap (λ (n : ℕ). join n (λ i. be wordSize (getD (set t k x) i 0))) (sym (length-set t k x))
 
-put-entry : (v : View) (w t : ℕ) (p : Report) → Sized v → 1 ≤ w → w ≤ 16
-    → put (viewBytes 16 v) (16 * (w - 1)) (entryBytes t p) ≡ viewBytes 16 (withEntry v w t p)
+put-entry : (v : View) (w t : ℕ) (p : Report) → Sized v → 1 ≤ w → w ≤ nodes
+    → put (viewBytes nodes v) (entrySize * (w - 1)) (entryBytes t p) ≡ viewBytes nodes (withEntry v w t p)
 unfolding viewBytes
 put-entry v w t p z lo hi =
-    put-join 16 16 (w - 1) (λ i. entryBytes (getD (v .tags) i 0) (getD (v .reports) i noReport))
+    put-join nodes entrySize (w - 1) (λ i. entryBytes (getD (v .tags) i 0) (getD (v .reports) i noReport))
     (λ i. entryBytes (getD (set (v .tags) (w - 1) t) i 0) (getD (set (v .reports) (w - 1) p) i noReport))
     (entryBytes t p) (λ i. refl) (omega arith) refl
     (ap₂ entryBytes (getD-set-same (v .tags) (w - 1) t 0 (omega (arith, z .tags)))
@@ -89,38 +93,48 @@ put-entry v w t p z lo hi =
 
 -- ---- the tables in a record's bytes
 
+-- View i where it stands.
+abbrev section : List ℕ → ℕ → List ℕ
+section r i = part r (viewPlace i) (viewSize nodes)
+
 pub record Tables (r : List ℕ) (heard : List ℕ) (last atmax atround kept : View) : Type 0 where
   pub size : length r ≡ recordSize
-  pub ofHeard : part r 96 2048 ≡ wordBytes heard
-  pub ofLast : part r 2144 256 ≡ viewBytes 16 last
-  pub ofAtmax : part r 2400 256 ≡ viewBytes 16 atmax
-  pub ofAtround : part r 2656 256 ≡ viewBytes 16 atround
-  pub ofKept : part r 2912 256 ≡ viewBytes 16 kept
+  pub ofHeard : part r heardPlace heardSize ≡ wordBytes heard
+  pub ofLast : section r lastIn ≡ viewBytes nodes last
+  pub ofAtmax : section r atmaxIn ≡ viewBytes nodes atmax
+  pub ofAtround : section r atroundIn ≡ viewBytes nodes atround
+  pub ofKept : section r keptIn ≡ viewBytes nodes kept
 
 whole : (s : List ℕ) (n : ℕ) → length s ≡ n → take n s ≡ s
 whole s n e = let q : length s ≤ n = omega arith in take-all n s q
 
 -- a view where it stands
-view-there : (r : List ℕ) → Bytes r → (at : ℕ) → at + 256 ≤ length r → part r at 256 ≡ viewBytes 16 (viewOf 16 (part r at 256))
+view-there : (r : List ℕ) → Bytes r → (at : ℕ) → at + viewSize nodes ≤ length r → part r at (viewSize nodes)
+    ≡ viewBytes nodes (viewOf nodes (part r at (viewSize nodes)))
 view-there r h at m =
-    let e : length (part r at 256) ≡ 256 = length-part r at 256 m in
-    sym (view-bytes-back 16 (part r at 256) (part-bytes r at 256 h) (omega arith) ∙ whole (part r at 256) 256 e)
+    let e : length (part r at (viewSize nodes)) ≡ viewSize nodes = length-part r at (viewSize nodes) m in
+    sym (view-bytes-back nodes (part r at (viewSize nodes)) (part-bytes r at (viewSize nodes) h) (omega arith)
+    ∙ whole (part r at (viewSize nodes)) (viewSize nodes) e)
 
 -- as they stand
 pub tables-of : (r : List ℕ) → Bytes r → length r ≡ recordSize
-    → Tables r (words 256 r heardPlace) (viewIn r 0) (viewIn r 1) (viewIn r 2) (viewIn r 3)
+    → Tables r (words cells r heardPlace) (viewIn r lastIn) (viewIn r atmaxIn) (viewIn r atroundIn) (viewIn r keptIn)
 tables-of r h l =
     record {
       size = l;
-      ofHeard = sym (ap (λ (n : ℕ). join n (λ i. be 8 (getD (words 256 r 96) i 0))) (length-tab 256 (λ i. word r (96 + 8 * i)))
-          ∙ join-ext 256 (λ i. be 8 (getD (words 256 r 96) i 0)) (λ i. part (part r 96 2048) (8 * i) 8)
-          (λ i m. ap (be 8) (getD-tab 256 (λ i. word r (96 + 8 * i)) i 0 m) ∙ be-part r (96 + 8 * i) 8 h (omega arith)
-          ∙ sym (part-part r 96 2048 (8 * i) 8 (omega arith)))
-          ∙ join-parts 256 8 (part r 96 2048) ∙ whole (part r 96 2048) 2048 (length-part r 96 2048 (omega arith)));
-      ofLast = view-there r h 2144 (omega arith);
-      ofAtmax = view-there r h 2400 (omega arith);
-      ofAtround = view-there r h 2656 (omega arith);
-      ofKept = view-there r h 2912 (omega arith);
+      ofHeard = sym (ap (λ (n : ℕ). join n (λ i. be wordSize (getD (words cells r heardPlace) i 0)))
+          (length-tab cells (λ i. word r (heardPlace + wordSize * i)))
+          ∙ join-ext cells (λ i. be wordSize (getD (words cells r heardPlace) i 0))
+          (λ i. part (part r heardPlace heardSize) (wordSize * i) wordSize)
+          (λ i m. ap (be wordSize) (getD-tab cells (λ i. word r (heardPlace + wordSize * i)) i 0 m)
+          ∙ be-part r (heardPlace + wordSize * i) wordSize h (omega arith)
+          ∙ sym (part-part r heardPlace heardSize (wordSize * i) wordSize (omega arith)))
+          ∙ join-parts cells wordSize (part r heardPlace heardSize) ∙ whole (part r heardPlace heardSize) heardSize
+          (length-part r heardPlace heardSize (omega arith)));
+      ofLast = view-there r h (viewPlace lastIn) (omega arith);
+      ofAtmax = view-there r h (viewPlace atmaxIn) (omega arith);
+      ofAtround = view-there r h (viewPlace atroundIn) (omega arith);
+      ofKept = view-there r h (viewPlace keptIn) (omega arith);
     }
 
 -- what is put inside a section
@@ -136,119 +150,130 @@ module _ {r heard : List ℕ} {last atmax atround kept : View} (T : Tables r hea
   long = T .size
 
   -- a tag heard
-  pub heard-put : (k x : ℕ) → k < 256 → length heard ≡ 256
-      → Tables (put r (heardPlace + 8 * k) (be 8 x)) (set heard k x) last atmax atround kept
+  pub heard-put : (k x : ℕ) → k < cells → length heard ≡ cells
+      → Tables (put r (heardPlace + wordSize * k) (be wordSize x)) (set heard k x) last atmax atround kept
   heard-put k x l z =
-      let m : 96 + 8 * k + 8 ≤ length r = omega (arith, long) in
-      let o : (i len : ℕ) → 2144 ≤ i → part (put r (96 + 8 * k) (be 8 x)) i len ≡ part r i len =
-      λ i len q. part-other r (96 + 8 * k) (be 8 x) i len (omega arith) (λ p. omega arith) (λ p. omega arith) in
+      let m : heardPlace + wordSize * k + wordSize ≤ length r = omega (arith, long) in
+      let o : (i len : ℕ) → viewPlace lastIn ≤ i → part (put r (heardPlace + wordSize * k) (be wordSize x)) i len
+      ≡ part r i len =
+      λ i len q. part-other r (heardPlace + wordSize * k) (be wordSize x) i len (omega arith) (λ p. omega arith)
+      (λ p. omega arith) in
       record {
-        size = length-put r (96 + 8 * k) (be 8 x) m ∙ long;
-        ofHeard = part-inner r 96 2048 (8 * k) (be 8 x) (omega (arith, long)) (omega arith)
-            ∙ ap (λ (t : List ℕ). put t (8 * k) (be 8 x)) (T .ofHeard) ∙ put-word heard k x (omega arith);
-        ofLast = o 2144 256 (omega arith) ∙ T .ofLast;
-        ofAtmax = o 2400 256 (omega arith) ∙ T .ofAtmax;
-        ofAtround = o 2656 256 (omega arith) ∙ T .ofAtround;
-        ofKept = o 2912 256 (omega arith) ∙ T .ofKept;
+        size = length-put r (heardPlace + wordSize * k) (be wordSize x) m ∙ long;
+        ofHeard = part-inner r heardPlace heardSize (wordSize * k) (be wordSize x) (omega (arith, long)) (omega arith)
+            ∙ ap (λ (t : List ℕ). put t (wordSize * k) (be wordSize x)) (T .ofHeard) ∙ put-word heard k x (omega arith);
+        ofLast = o (viewPlace lastIn) (viewSize nodes) (omega arith) ∙ T .ofLast;
+        ofAtmax = o (viewPlace atmaxIn) (viewSize nodes) (omega arith) ∙ T .ofAtmax;
+        ofAtround = o (viewPlace atroundIn) (viewSize nodes) (omega arith) ∙ T .ofAtround;
+        ofKept = o (viewPlace keptIn) (viewSize nodes) (omega arith) ∙ T .ofKept;
       }
 
-  module _ (at : ℕ) (v : List ℕ) (e : length v ≡ 256) (b : at + 256 ≤ 3168) where
-    apart : (i len : ℕ) → (i < at → i + len ≤ at) → (at ≤ i → at + 256 ≤ i) → part (put r at v) i len ≡ part r i len
+  module _ (at : ℕ) (v : List ℕ) (e : length v ≡ viewSize nodes) (b : at + viewSize nodes ≤ recordSize) where
+    apart : (i len : ℕ) → (i < at → i + len ≤ at) → (at ≤ i → at + viewSize nodes ≤ i)
+        → part (put r at v) i len ≡ part r i len
     apart i len p q = part-other r at v i len (omega (arith, long)) p (λ m. omega (arith, q m))
 
     fits : length (put r at v) ≡ recordSize
     fits = length-put r at v (omega (arith, long)) ∙ long
 
-    there : part (put r at v) at 256 ≡ v
-    there = part-same r at v 256 (omega (arith, long)) e
+    there : part (put r at v) at (viewSize nodes) ≡ v
+    there = part-same r at v (viewSize nodes) (omega (arith, long)) e
 
   -- a whole view
-  pub last-put : (v : View) → Tables (put r 2144 (viewBytes 16 v)) heard v atmax atround kept
+  pub last-put : (v : View) → Tables (put r (viewPlace lastIn) (viewBytes nodes v)) heard v atmax atround kept
   last-put v =
-      let b = viewBytes 16 v in
-      let e : length b ≡ 256 = length-viewBytes 16 v in
-      let o : (i len : ℕ) → (i < 2144 → i + len ≤ 2144) → (2144 ≤ i → 2400 ≤ i) → part (put r 2144 b) i len ≡ part r i len =
-      apart 2144 b e (omega arith) in
+      let b = viewBytes nodes v in
+      let e : length b ≡ viewSize nodes = length-viewBytes nodes v in
+      let o : (i len : ℕ) → (i < viewPlace lastIn → i + len ≤ viewPlace lastIn)
+      → (viewPlace lastIn ≤ i → viewPlace atmaxIn ≤ i) → part (put r (viewPlace lastIn) b) i len ≡ part r i len =
+      apart (viewPlace lastIn) b e (omega arith) in
       record {
-        size = fits 2144 b e (omega arith);
-        ofHeard = o 96 2048 (λ p. omega arith) (λ p. omega arith) ∙ T .ofHeard;
-        ofLast = there 2144 b e (omega arith);
-        ofAtmax = o 2400 256 (λ p. omega arith) (λ p. omega arith) ∙ T .ofAtmax;
-        ofAtround = o 2656 256 (λ p. omega arith) (λ p. omega arith) ∙ T .ofAtround;
-        ofKept = o 2912 256 (λ p. omega arith) (λ p. omega arith) ∙ T .ofKept;
+        size = fits (viewPlace lastIn) b e (omega arith);
+        ofHeard = o heardPlace heardSize (λ p. omega arith) (λ p. omega arith) ∙ T .ofHeard;
+        ofLast = there (viewPlace lastIn) b e (omega arith);
+        ofAtmax = o (viewPlace atmaxIn) (viewSize nodes) (λ p. omega arith) (λ p. omega arith) ∙ T .ofAtmax;
+        ofAtround = o (viewPlace atroundIn) (viewSize nodes) (λ p. omega arith) (λ p. omega arith) ∙ T .ofAtround;
+        ofKept = o (viewPlace keptIn) (viewSize nodes) (λ p. omega arith) (λ p. omega arith) ∙ T .ofKept;
       }
 
-  pub atmax-put : (v : View) → Tables (put r 2400 (viewBytes 16 v)) heard last v atround kept
+  pub atmax-put : (v : View) → Tables (put r (viewPlace atmaxIn) (viewBytes nodes v)) heard last v atround kept
   atmax-put v =
-      let b = viewBytes 16 v in
-      let e : length b ≡ 256 = length-viewBytes 16 v in
-      let o : (i len : ℕ) → (i < 2400 → i + len ≤ 2400) → (2400 ≤ i → 2656 ≤ i) → part (put r 2400 b) i len ≡ part r i len =
-      apart 2400 b e (omega arith) in
+      let b = viewBytes nodes v in
+      let e : length b ≡ viewSize nodes = length-viewBytes nodes v in
+      let o : (i len : ℕ) → (i < viewPlace atmaxIn → i + len ≤ viewPlace atmaxIn) → (viewPlace atmaxIn ≤ i
+      → viewPlace atroundIn ≤ i) → part (put r (viewPlace atmaxIn) b) i len ≡ part r i len =
+      apart (viewPlace atmaxIn) b e (omega arith) in
       record {
-        size = fits 2400 b e (omega arith);
-        ofHeard = o 96 2048 (λ p. omega arith) (λ p. omega arith) ∙ T .ofHeard;
-        ofLast = o 2144 256 (λ p. omega arith) (λ p. omega arith) ∙ T .ofLast;
-        ofAtmax = there 2400 b e (omega arith);
-        ofAtround = o 2656 256 (λ p. omega arith) (λ p. omega arith) ∙ T .ofAtround;
-        ofKept = o 2912 256 (λ p. omega arith) (λ p. omega arith) ∙ T .ofKept;
+        size = fits (viewPlace atmaxIn) b e (omega arith);
+        ofHeard = o heardPlace heardSize (λ p. omega arith) (λ p. omega arith) ∙ T .ofHeard;
+        ofLast = o (viewPlace lastIn) (viewSize nodes) (λ p. omega arith) (λ p. omega arith) ∙ T .ofLast;
+        ofAtmax = there (viewPlace atmaxIn) b e (omega arith);
+        ofAtround = o (viewPlace atroundIn) (viewSize nodes) (λ p. omega arith) (λ p. omega arith) ∙ T .ofAtround;
+        ofKept = o (viewPlace keptIn) (viewSize nodes) (λ p. omega arith) (λ p. omega arith) ∙ T .ofKept;
       }
 
-  pub atround-put : (v : View) → Tables (put r 2656 (viewBytes 16 v)) heard last atmax v kept
+  pub atround-put : (v : View) → Tables (put r (viewPlace atroundIn) (viewBytes nodes v)) heard last atmax v kept
   atround-put v =
-      let b = viewBytes 16 v in
-      let e : length b ≡ 256 = length-viewBytes 16 v in
-      let o : (i len : ℕ) → (i < 2656 → i + len ≤ 2656) → (2656 ≤ i → 2912 ≤ i) → part (put r 2656 b) i len ≡ part r i len =
-      apart 2656 b e (omega arith) in
+      let b = viewBytes nodes v in
+      let e : length b ≡ viewSize nodes = length-viewBytes nodes v in
+      let o : (i len : ℕ) → (i < viewPlace atroundIn → i + len ≤ viewPlace atroundIn) → (viewPlace atroundIn ≤ i
+      → viewPlace keptIn ≤ i) → part (put r (viewPlace atroundIn) b) i len ≡ part r i len =
+      apart (viewPlace atroundIn) b e (omega arith) in
       record {
-        size = fits 2656 b e (omega arith);
-        ofHeard = o 96 2048 (λ p. omega arith) (λ p. omega arith) ∙ T .ofHeard;
-        ofLast = o 2144 256 (λ p. omega arith) (λ p. omega arith) ∙ T .ofLast;
-        ofAtmax = o 2400 256 (λ p. omega arith) (λ p. omega arith) ∙ T .ofAtmax;
-        ofAtround = there 2656 b e (omega arith);
-        ofKept = o 2912 256 (λ p. omega arith) (λ p. omega arith) ∙ T .ofKept;
+        size = fits (viewPlace atroundIn) b e (omega arith);
+        ofHeard = o heardPlace heardSize (λ p. omega arith) (λ p. omega arith) ∙ T .ofHeard;
+        ofLast = o (viewPlace lastIn) (viewSize nodes) (λ p. omega arith) (λ p. omega arith) ∙ T .ofLast;
+        ofAtmax = o (viewPlace atmaxIn) (viewSize nodes) (λ p. omega arith) (λ p. omega arith) ∙ T .ofAtmax;
+        ofAtround = there (viewPlace atroundIn) b e (omega arith);
+        ofKept = o (viewPlace keptIn) (viewSize nodes) (λ p. omega arith) (λ p. omega arith) ∙ T .ofKept;
       }
 
-  pub kept-put : (v : View) → Tables (put r 2912 (viewBytes 16 v)) heard last atmax atround v
+  pub kept-put : (v : View) → Tables (put r (viewPlace keptIn) (viewBytes nodes v)) heard last atmax atround v
   kept-put v =
-      let b = viewBytes 16 v in
-      let e : length b ≡ 256 = length-viewBytes 16 v in
-      let o : (i len : ℕ) → (i < 2912 → i + len ≤ 2912) → (2912 ≤ i → 3168 ≤ i) → part (put r 2912 b) i len ≡ part r i len =
-      apart 2912 b e (omega arith) in
+      let b = viewBytes nodes v in
+      let e : length b ≡ viewSize nodes = length-viewBytes nodes v in
+      let o : (i len : ℕ) → (i < viewPlace keptIn → i + len ≤ viewPlace keptIn)
+      → (viewPlace keptIn ≤ i → recordSize ≤ i) → part (put r (viewPlace keptIn) b) i len ≡ part r i len =
+      apart (viewPlace keptIn) b e (omega arith) in
       record {
-        size = fits 2912 b e (omega arith);
-        ofHeard = o 96 2048 (λ p. omega arith) (λ p. omega arith) ∙ T .ofHeard;
-        ofLast = o 2144 256 (λ p. omega arith) (λ p. omega arith) ∙ T .ofLast;
-        ofAtmax = o 2400 256 (λ p. omega arith) (λ p. omega arith) ∙ T .ofAtmax;
-        ofAtround = o 2656 256 (λ p. omega arith) (λ p. omega arith) ∙ T .ofAtround;
-        ofKept = there 2912 b e (omega arith);
+        size = fits (viewPlace keptIn) b e (omega arith);
+        ofHeard = o heardPlace heardSize (λ p. omega arith) (λ p. omega arith) ∙ T .ofHeard;
+        ofLast = o (viewPlace lastIn) (viewSize nodes) (λ p. omega arith) (λ p. omega arith) ∙ T .ofLast;
+        ofAtmax = o (viewPlace atmaxIn) (viewSize nodes) (λ p. omega arith) (λ p. omega arith) ∙ T .ofAtmax;
+        ofAtround = o (viewPlace atroundIn) (viewSize nodes) (λ p. omega arith) (λ p. omega arith) ∙ T .ofAtround;
+        ofKept = there (viewPlace keptIn) b e (omega arith);
       }
 
   -- one entry of a view, where the flag says so
-  as-view : (at : ℕ) (v : View) (w t : ℕ) (p : Report) → at + 256 ≤ 3168 → part r at 256 ≡ viewBytes 16 v → Sized v → 1 ≤ w
-      → w ≤ 16 → put r (at + 16 * (w - 1)) (entryBytes t p) ≡ put r at (viewBytes 16 (withEntry v w t p))
+  as-view : (at : ℕ) (v : View) (w t : ℕ) (p : Report) → at + viewSize nodes ≤ recordSize → part r at (viewSize nodes)
+      ≡ viewBytes nodes v → Sized v → 1 ≤ w
+      → w ≤ nodes → put r (at + entrySize * (w - 1)) (entryBytes t p) ≡ put r at (viewBytes nodes (withEntry v w t p))
   as-view at v w t p b e z lo hi =
-      put-inside r at 256 (16 * (w - 1)) (entryBytes t p) (omega (arith, long)) (omega arith)
-      ∙ ap (λ (u : List ℕ). put r at (put u (16 * (w - 1)) (entryBytes t p))) e ∙ ap (put r at) (put-entry v w t p z lo hi)
+      put-inside r at (viewSize nodes) (entrySize * (w - 1)) (entryBytes t p) (omega (arith, long)) (omega arith)
+      ∙ ap (λ (u : List ℕ). put r at (put u (entrySize * (w - 1)) (entryBytes t p))) e ∙ ap (put r at)
+      (put-entry v w t p z lo hi)
 
-  pub last-entry : (flag : Bool) (w t : ℕ) (p : Report) → Sized last → 1 ≤ w → w ≤ 16
-      → Tables (putWhere flag 0 w t p r) heard (pick flag (withEntry last w t p) last) atmax atround kept
+  pub last-entry : (flag : Bool) (w t : ℕ) (p : Report) → Sized last → 1 ≤ w → w ≤ nodes
+      → Tables (putWhere flag lastIn w t p r) heard (pick flag (withEntry last w t p) last) atmax atround kept
   last-entry true w t p z lo hi =
       subst (λ (u : List ℕ). Tables u heard (withEntry last w t p) atmax atround kept)
-      (sym (as-view 2144 last w t p (omega arith) (T .ofLast) z lo hi)) (last-put (withEntry last w t p))
+      (sym (as-view (viewPlace lastIn) last w t p (omega arith) (T .ofLast) z lo hi)) (last-put (withEntry last w t p))
   last-entry false w t p z lo hi = T
 
-  pub atmax-entry : (flag : Bool) (w t : ℕ) (p : Report) → Sized atmax → 1 ≤ w → w ≤ 16
-      → Tables (putWhere flag 1 w t p r) heard last (pick flag (withEntry atmax w t p) atmax) atround kept
+  pub atmax-entry : (flag : Bool) (w t : ℕ) (p : Report) → Sized atmax → 1 ≤ w → w ≤ nodes
+      → Tables (putWhere flag atmaxIn w t p r) heard last (pick flag (withEntry atmax w t p) atmax) atround kept
   atmax-entry true w t p z lo hi =
       subst (λ (u : List ℕ). Tables u heard last (withEntry atmax w t p) atround kept)
-      (sym (as-view 2400 atmax w t p (omega arith) (T .ofAtmax) z lo hi)) (atmax-put (withEntry atmax w t p))
+      (sym (as-view (viewPlace atmaxIn) atmax w t p (omega arith) (T .ofAtmax) z lo hi))
+      (atmax-put (withEntry atmax w t p))
   atmax-entry false w t p z lo hi = T
 
-  pub atround-entry : (flag : Bool) (w t : ℕ) (p : Report) → Sized atround → 1 ≤ w → w ≤ 16
-      → Tables (putWhere flag 2 w t p r) heard last atmax (pick flag (withEntry atround w t p) atround) kept
+  pub atround-entry : (flag : Bool) (w t : ℕ) (p : Report) → Sized atround → 1 ≤ w → w ≤ nodes
+      → Tables (putWhere flag atroundIn w t p r) heard last atmax (pick flag (withEntry atround w t p) atround) kept
   atround-entry true w t p z lo hi =
       subst (λ (u : List ℕ). Tables u heard last atmax (withEntry atround w t p) kept)
-      (sym (as-view 2656 atround w t p (omega arith) (T .ofAtround) z lo hi)) (atround-put (withEntry atround w t p))
+      (sym (as-view (viewPlace atroundIn) atround w t p (omega arith) (T .ofAtround) z lo hi))
+      (atround-put (withEntry atround w t p))
   atround-entry false w t p z lo hi = T
 
 -- ---- a record from its head and its tables
@@ -258,63 +283,71 @@ unfolding part
 part-rest r at len q = take-all len (drop at r) q
 
 pub assembled : (c : Node) {r : List ℕ} → Tables r (c .heard) (c .last) (c .atmax) (c .atround) (c .keptview)
-    → put r 0 (wordBytes (numbers c) ++ waitBytes (c .wait)) ≡ recordBytes c
+    → put r nPlace (headBytes (headIn c)) ≡ recordBytes c
 unfolding put recordBytes
 assembled c {r} T =
-    let h = wordBytes (numbers c) ++ waitBytes (c .wait) in
-    let l : length r ≡ 3168 = T .size in
-    ap (λ (k : ℕ). h ++ drop k r) (waits-end c)
+    let h = headBytes (headIn c) in
+    let l : length r ≡ recordSize = T .size in
+    ap (λ (k : ℕ). h ++ drop k r) (head-end (headIn c))
     ∙ ap (λ (t : List ℕ). h ++ t) (rest l ∙ ap₂ (λ (x y : List ℕ). x ++ y) (T .ofHeard)
     (ap₂ (λ (x y : List ℕ). x ++ y) (ap₂ (λ (x y : List ℕ). x ++ y) (ap₂ (λ (x y : List ℕ). x ++ y) (T .ofLast) (T .ofAtmax))
     (T .ofAtround)) (T .ofKept)))
     ∙ sym (append-assoc h (wordBytes (c .heard)) _)
   where
-    rest : length r ≡ 3168 → drop 96 r
-        ≡ part r 96 2048 ++ (part r 2144 256 ++ part r 2400 256 ++ part r 2656 256 ++ part r 2912 256)
+    rest : length r ≡ recordSize → drop heardPlace r
+        ≡ part r heardPlace heardSize ++ (section r lastIn ++ section r atmaxIn ++ section r atroundIn ++ section r
+        keptIn)
     rest l =
-        let q : length (drop 96 r) ≤ 3072 = simp length-drop (omega arith) in
-        sym (part-rest r 96 3072 q) ∙ part-add r 96 2048 1024
-        ∙ ap (λ (t : List ℕ). part r 96 2048 ++ t) (part-add r 2144 768 256
-        ∙ ap (λ (t : List ℕ). t ++ part r 2912 256) (part-add r 2144 512 256
-        ∙ ap (λ (t : List ℕ). t ++ part r 2656 256) (part-add r 2144 256 256)))
+        let q : length (drop heardPlace r) ≤ recordSize - heardPlace = simp length-drop (omega arith) in
+        sym (part-rest r heardPlace (recordSize - heardPlace) q) ∙ part-add r heardPlace heardSize
+        (viewSize nodes * views)
+        ∙ ap (λ (t : List ℕ). part r heardPlace heardSize ++ t) (part-add r (viewPlace lastIn) (viewSize nodes * keptIn)
+        (viewSize nodes)
+        ∙ ap (λ (t : List ℕ). t ++ section r keptIn) (part-add r (viewPlace lastIn) (viewSize nodes * atroundIn)
+        (viewSize nodes)
+        ∙ ap (λ (t : List ℕ). t ++ section r atroundIn) (part-add r (viewPlace lastIn) (viewSize nodes)
+        (viewSize nodes))))
 
 -- ---- one entry read
 
-pub tag-read : (r : List ℕ) (i w : ℕ) → 1 ≤ w → w ≤ 16 → word r (entryPlace i w) ≡ tagOf (viewIn r i) w
+pub tag-read : (r : List ℕ) (i w : ℕ) → 1 ≤ w → w ≤ nodes → word r (entryPlace i w) ≡ tagOf (viewIn r i) w
 unfolding viewOf
 tag-read r i w lo hi =
-    sym (getD-padded 16 16 (tagAt (part r (viewPlace i) 256)) (w - 1) 0 (omega arith)
-    ∙ word-of r (viewPlace i) 256 (16 * (w - 1)) (omega arith))
+    sym (getD-padded nodes nodes (tagAt (part r (viewPlace i) (viewSize nodes))) (w - 1) 0 (omega arith)
+    ∙ word-of r (viewPlace i) (viewSize nodes) (entrySize * (w - 1)) (omega arith))
 
-pub heard-read : (r : List ℕ) (s w : ℕ) → 1 ≤ s → s ≤ 16 → 1 ≤ w → w ≤ 16
-    → word r (cellPlace s w) ≡ heardOf (words 256 r heardPlace) s w
-heard-read r s w ls hs lw hw = sym (getD-tab 256 (λ i. word r (heardPlace + 8 * i)) (cell s w) 0 (omega arith))
+pub heard-read : (r : List ℕ) (s w : ℕ) → 1 ≤ s → s ≤ nodes → 1 ≤ w → w ≤ nodes
+    → word r (cellPlace s w) ≡ heardOf (words cells r heardPlace) s w
+heard-read r s w ls hs lw hw = sym (getD-tab cells (λ i. word r (heardPlace + wordSize * i)) (cell s w) 0 (omega arith))
 
 -- ---- the newest entries, each read where it stands and all of them one after the other
 
-entry-read : (r : List ℕ) (i w : ℕ) → Bytes r → length r ≡ recordSize → i ≤ 3 → 1 ≤ w → w ≤ 16
-    → part r (entryPlace i w) 16 ≡ entryBytes (tagOf (viewIn r i) w) (reportOf (viewIn r i) w)
+entry-read : (r : List ℕ) (i w : ℕ) → Bytes r → length r ≡ recordSize → i < views → 1 ≤ w → w ≤ nodes
+    → part r (entryPlace i w) entrySize ≡ entryBytes (tagOf (viewIn r i) w) (reportOf (viewIn r i) w)
 unfolding viewBytes
 entry-read r i w h l b lo hi =
     let v = viewIn r i in
-    sym (part-part r (viewPlace i) 256 (16 * (w - 1)) 16 (omega arith))
-    ∙ ap (λ (s : List ℕ). part s (16 * (w - 1)) 16) (view-there r h (viewPlace i) (omega arith))
-    ∙ part-join 16 16 (λ j. entryBytes (getD (v .tags) j 0) (getD (v .reports) j noReport)) (w - 1) (λ j. refl) (omega arith)
+    sym (part-part r (viewPlace i) (viewSize nodes) (entrySize * (w - 1)) entrySize (omega arith))
+    ∙ ap (λ (s : List ℕ). part s (entrySize * (w - 1)) entrySize) (view-there r h (viewPlace i) (omega arith))
+    ∙ part-join nodes entrySize (λ j. entryBytes (getD (v .tags) j 0) (getD (v .reports) j noReport)) (w - 1)
+    (λ j. refl) (omega arith)
 
-pub newest-read : (r : List ℕ) (t w : ℕ) → Bytes r → length r ≡ recordSize → 1 ≤ w → w ≤ 16 → (b : Bool)
-    → leb (tagOf (viewIn r 0) w) t ≡ b
-    → part r (pick b (entryPlace 0 w) (entryPlace 1 w)) 16 ≡ newestEntry t (viewIn r 0) (viewIn r 1) w
-newest-read r t w h l lo hi true e = rw e (entry-read r 0 w h l (omega arith) lo hi)
-newest-read r t w h l lo hi false e = rw e (entry-read r 1 w h l (omega arith) lo hi)
+pub newest-read : (r : List ℕ) (t w : ℕ) → Bytes r → length r ≡ recordSize → 1 ≤ w → w ≤ nodes → (b : Bool)
+    → leb (tagOf (viewIn r lastIn) w) t ≡ b
+    → part r (pick b (entryPlace lastIn w) (entryPlace atmaxIn w)) entrySize ≡ newestEntry t (viewIn r lastIn)
+    (viewIn r atmaxIn) w
+newest-read r t w h l lo hi true e = rw e (entry-read r lastIn w h l (omega arith) lo hi)
+newest-read r t w h l lo hi false e = rw e (entry-read r atmaxIn w h l (omega arith) lo hi)
 
 pub newest-bytes : (t : ℕ) (last held : View)
-    → join 16 (λ i. newestEntry t last held (i + 1)) ≡ viewBytes 16 (newest t last held)
+    → join nodes (λ i. newestEntry t last held (i + 1)) ≡ viewBytes nodes (newest t last held)
 unfolding viewBytes newest
 newest-bytes t last held =
     let v = newest t last held in
-    join-ext 16 (λ i. newestEntry t last held (i + 1)) _
+    join-ext nodes (λ i. newestEntry t last held (i + 1)) _
     (λ i l. let e : i + 1 - 1 ≡ i = omega arith in
     ap₂ entryBytes
-    (sym (getD-table 16 (newestTag t last held) (i + 1) 0 (omega arith) (omega arith)) ∙ ap (λ (j : ℕ). getD (v .tags) j 0) e)
-    (sym (getD-table 16 (newestReport t last held) (i + 1) noReport (omega arith) (omega arith))
+    (sym (getD-table nodes (newestTag t last held) (i + 1) 0 (omega arith) (omega arith))
+    ∙ ap (λ (j : ℕ). getD (v .tags) j 0) e)
+    (sym (getD-table nodes (newestReport t last held) (i + 1) noReport (omega arith) (omega arith))
     ∙ ap (λ (j : ℕ). getD (v .reports) j noReport) e))

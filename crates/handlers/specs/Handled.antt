@@ -2,21 +2,22 @@
 use Prim.Native.Nat.{ℕ, _+_, _-_, _*_}
 use mathlib.Core.Bool.{Bool}
 use mathlib.Core.List.{List}
+use Rattle.octets.specs.Word.{wordSize}
 use Rattle.octets.specs.Test.{pick}
 use Rattle.octets.specs.Bytes.{be, put}
+use Rattle.view.specs.Size.{entrySize}
 use Rattle.view.specs.View.{entryBytes}
 use Rattle.view.specs.declared.Report.{Report}
 use Rattle.view.specs.declared.View.{View}
 use Rattle.table.specs.Table.{cell, newestTag, newestReport}
-use Rattle.region.specs.Record.{heardPlace, viewPlace, scalar, waitIn}
-use Rattle.handlers.specs.declared.Head.{Head}
+use Rattle.region.specs.Record.{heardPlace, lastIn, atmaxIn, atroundIn, viewPlace}
 
 -- Where the tag heard from sender s for writer w stands, and the entry of writer w in view i.
 abbrev pub cellPlace : (s w : ℕ) → ℕ
-cellPlace s w = heardPlace + 8 * cell s w
+cellPlace s w = heardPlace + wordSize * cell s w
 
 abbrev pub entryPlace : (i w : ℕ) → ℕ
-entryPlace i w = viewPlace i + 16 * (w - 1)
+entryPlace i w = viewPlace i + entrySize * (w - 1)
 
 -- The bytes with another entry of writer w in view i, where the flag says so.
 abbrev pub putWhere : Bool → (i w t : ℕ) → Report → List ℕ → List ℕ
@@ -29,16 +30,5 @@ newestEntry t last held w = entryBytes (newestTag t last held w) (newestReport t
 -- The bytes after a value of writer w from sender s: the tag heard, and the entries that the flags say.
 unfoldable pub entered : (s w t : ℕ) → Report → (fresh held round : Bool) → List ℕ → List ℕ
 entered s w t p fresh held round r =
-    putWhere round 2 w t p (putWhere held 1 w t p (putWhere fresh 0 w t p (put r (cellPlace s w) (be 8 t))))
-
--- The numbers and the wait that the bytes are.
-abbrev pub headOf : List ℕ → Head
-headOf r =
-    record {
-      n = scalar r 0;
-      own = scalar r 1;
-      maxtag = scalar r 2;
-      request = scalar r 3;
-      kept = scalar r 4;
-      wait = waitIn r;
-    }
+    putWhere round atroundIn w t p
+    (putWhere held atmaxIn w t p (putWhere fresh lastIn w t p (put r (cellPlace s w) (be wordSize t))))

@@ -6,6 +6,7 @@ use mathlib.Core.List.{List}
 use lib.ListN.{length, getD}
 use Rattle.octets.specs.Bytes.{part, put}
 use Rattle.octets.proofs.Put.{part-other, part-same, getD-other, length-put, length-part}
+use Rattle.view.specs.Size.{nodes}
 use Rattle.region.specs.Channel.{channelSize, slotSize, slotAt, oldest, first}
 use Rattle.block.specs.Block.{blockSize, channelPlace, channelIn}
 use Rattle.layout.specs.Layout.{clusterSize, blockPlace, stated, block, channel, onBlock}
@@ -14,7 +15,7 @@ pub length-block : (b : List ℕ) (c : ℕ) → 1 ≤ c → clusterSize c ≤ le
 unfolding block
 length-block b c l h = length-part b (blockPlace c) blockSize (omega arith)
 
-pub length-channel : (b : List ℕ) (a c : ℕ) → 1 ≤ a → a ≤ 16 → 1 ≤ c → clusterSize c ≤ length b
+pub length-channel : (b : List ℕ) (a c : ℕ) → 1 ≤ a → a ≤ nodes → 1 ≤ c → clusterSize c ≤ length b
     → length (channel b a c) ≡ channelSize
 unfolding channelIn
 length-channel b a c i j l h = length-part (block b c) (channelPlace a) channelSize (omega (arith, length-block b c l h))

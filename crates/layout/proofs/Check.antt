@@ -13,15 +13,19 @@ use Rattle.octets.proofs.Test.{both-left, both-right}
 use Rattle.table.specs.Loop.{all, count}
 use Rattle.table.specs.Quorum.{faults}
 use Rattle.table.proofs.Laws.{all-at}
-use Rattle.view.specs.Size.{isSize}
+use Rattle.view.specs.Size.{isSize, nodes}
 use Rattle.record.specs.Usable.{usable}
 use Rattle.region.specs.Channel.{countOf, capacity}
 use Rattle.region.specs.Record.{recordOf, codesKnown}
 use Rattle.block.specs.Block.{recordIn, recordSound, channelsSound, blockSound}
-use Rattle.layout.specs.Layout.{clusterSize, stated, block, stopped, node, channel, fits, sound, isNode}
+use Rattle.layout.specs.Layout.{clusterSize, stated, block, stopped, node, channel, fits, sound, isNode, faultsIn}
 
-pub is-size : (n : ℕ) → isSize n ≡ true → (1 ≤ n) × (n ≤ 16)
-is-size n h = (leb-true 1 n (both-left (leb 1 n) (leb n 16) h), leb-true n 16 (both-right (leb 1 n) (leb n 16) h))
+pub is-size : (n : ℕ) → isSize n ≡ true → (1 ≤ n) × (n ≤ nodes)
+is-size n h = (
+  leb-true 1 n (both-left (leb 1 n) (leb n nodes) h),
+  leb-true n nodes
+      (both-right (leb 1 n) (leb n nodes) h),
+)
 
 pub is-node : (n c : ℕ) → isNode n c ≡ true → (1 ≤ c) × (c ≤ n)
 is-node n c h = (leb-true 1 c (both-left (leb 1 c) (leb c n) h), leb-true c n (both-right (leb 1 c) (leb c n) h))
@@ -78,16 +82,16 @@ module _ (b : List ℕ) (h : sound b ≡ true) where
   blocks = all (stated b) (λ c. blockSound (stated b) c (block b c))
 
   abbrev few : Bool
-  few = leb (count (stated b) (stopped b)) (faults (stated b))
+  few = leb (count (stated b) (stopped b)) (faultsIn b)
 
   pub sound-size : isSize (stated b) ≡ true
   unfolding sound
   sound-size = both-left (isSize (stated b)) (both blocks few) h
 
-  pub sound-few : count (stated b) (stopped b) ≤ faults (stated b)
+  pub sound-few : count (stated b) (stopped b) ≤ faultsIn b
   unfolding sound
   sound-few =
-      leb-true (count (stated b) (stopped b)) (faults (stated b))
+      leb-true (count (stated b) (stopped b)) (faultsIn b)
       (both-right blocks few (both-right (isSize (stated b)) (both blocks few) h))
 
   pub sound-block : (c : ℕ) → isNode (stated b) c ≡ true → blockSound (stated b) c (block b c) ≡ true

@@ -13,19 +13,29 @@ use Rattle.record.specs.declared.Node.{Node}
 use Rattle.region.specs.Channel.{countOf}
 use Rattle.block.specs.Block.{blockSize, hasStopped, nodeIn, channelIn, change, blockSound}
 
--- The bytes of a cluster of n nodes, and what the library states for any n: 0 where there may be no such cluster.
+-- Where n is stated and where the blocks stand; the bytes of a cluster of n nodes, and what the library states for any
+-- n: 0 where there may be no such cluster.
+abbrev pub statedPlace : ℕ
+statedPlace = 0
+
+abbrev pub blocksPlace : ℕ
+blocksPlace = statedPlace + 1
+
 abbrev pub clusterSize : ℕ → ℕ
-clusterSize n = 1 + blockSize * n
+clusterSize n = blocksPlace + blockSize * n
 
 unfoldable pub size : ℕ → ℕ
 size n = pick (isSize n) (clusterSize n) 0
 
 abbrev pub blockPlace : ℕ → ℕ
-blockPlace c = 1 + blockSize * (c - 1)
+blockPlace c = blocksPlace + blockSize * (c - 1)
 
--- What the bytes say: n, and of each node its block, whether it has stopped, its record and its incoming channels.
+-- What the bytes say: n and f, and of each node its block, whether it has stopped, its record and its incoming channels.
 abbrev pub stated : List ℕ → ℕ
-stated b = getD b 0 0
+stated b = getD b statedPlace 0
+
+abbrev pub faultsIn : List ℕ → ℕ
+faultsIn b = faults (stated b)
 
 unfoldable pub block : List ℕ → ℕ → List ℕ
 block b c = part b (blockPlace c) blockSize
@@ -53,7 +63,7 @@ unfoldable pub sound : List ℕ → Bool
 sound b =
     both (isSize (stated b))
     (both (all (stated b) (λ c. blockSound (stated b) c (block b c)))
-    (leb (count (stated b) (stopped b)) (faults (stated b))))
+    (leb (count (stated b) (stopped b)) (faultsIn b)))
 
 -- What refusal 3 asks of a number.
 abbrev pub isNode : ℕ → ℕ → Bool

@@ -4,22 +4,29 @@ use octets::and;
 use record::Node;
 use region::channel::index;
 use table::quorum::most_faults;
+use view::NODES;
 ghost use mathlib.Core.Path.{_≡_};
 ghost use mathlib.Core.Bool.{true};
 ghost use Prim.Native.Nat.{_≤_};
 ghost use lib.ListN.{length};
+ghost use Rattle.view.specs.Size.{nodes};
 ghost use Rattle.table.specs.Loop.{all, count};
 ghost use Rattle.region.specs.Channel.{slotSize, countOf, first};
 ghost use Rattle.region.specs.Record.{recordSize, recordOf, recordBytes};
 ghost use Rattle.block.specs.Block.{recordIn, keep, takeOff, receive, halt, blockSound};
 ghost use Rattle.layout.specs.Layout.{clusterSize, size as sizeOf, stated, block, stopped, channel, onBlock, fits, sound, isNode};
 
+// Where n is stated, and where the blocks stand.
+pub const STATED_PLACE: usize = 0;
+
+pub const BLOCKS_PLACE: usize = STATED_PLACE + 1;
+
 // The bytes to lend for a cluster of n nodes; 0 where there may be none.
 pub fn size(n: usize) -> usize
     ensures { λ r. ⌜ r ≡ sizeOf n ⌝ }
 {
-    if and(1 <= n, n <= 16) {
-        1 + BLOCK * n
+    if and(1 <= n, n <= NODES) {
+        BLOCKS_PLACE + BLOCK * n
     } else {
         0
     }
@@ -37,47 +44,47 @@ pub fn stopped_at(b: &[u8], c: usize) -> bool
     requires { ⌜ (1 ≤ c) × (clusterSize c ≤ length (now b)) ⌝ }
     ensures { λ r. ⌜ r ≡ stopped (now (b .entry)) c ⌝ }
 {
-    let at = 1 + BLOCK * (c - 1);
+    let at = BLOCKS_PLACE + BLOCK * (c - 1);
     let end = at + BLOCK;
     block::has_stopped(&b[at..end])
 }
 
 // How many messages wait on the channel from a to c.
 pub fn waiting_at(b: &[u8], a: usize, c: usize) -> usize
-    requires { ⌜ (1 ≤ a) × (a ≤ 16) × (1 ≤ c) × (clusterSize c ≤ length (now b)) ⌝ }
+    requires { ⌜ (1 ≤ a) × (a ≤ nodes) × (1 ≤ c) × (clusterSize c ≤ length (now b)) ⌝ }
     ensures { λ r. ⌜ (r ≡ countOf (channel (now (b .entry)) a c)) × (r ≤ 255) ⌝ }
 {
-    let at = 1 + BLOCK * (c - 1);
+    let at = BLOCKS_PLACE + BLOCK * (c - 1);
     let end = at + BLOCK;
     block::waiting_in(&b[at..end], a)
 }
 
 // The slot of the message that has waited longest on the channel from a to c.
 pub fn first_at(b: &[u8], a: usize, c: usize) -> &[u8]
-    requires { ⌜ (1 ≤ a) × (a ≤ 16) × (1 ≤ c) × (clusterSize c ≤ length (now b)) ⌝ }
+    requires { ⌜ (1 ≤ a) × (a ≤ nodes) × (1 ≤ c) × (clusterSize c ≤ length (now b)) ⌝ }
     ensures { λ r. ⌜ now r ≡ first (channel (now (b .entry)) a c) ⌝ }
 {
-    let at = 1 + BLOCK * (c - 1);
+    let at = BLOCKS_PLACE + BLOCK * (c - 1);
     let end = at + BLOCK;
     block::first_in(&b[at..end], a)
 }
 
 // Node c receives a message from a, unless it has stopped.
 pub fn receive_at(b: &mut [u8], a: usize, c: usize, m: &[u8])
-    requires { ⌜ (1 ≤ a) × (a ≤ 16) × (1 ≤ c) × (clusterSize c ≤ length (now b)) × (length (now m) ≤ slotSize) ⌝ }
+    requires { ⌜ (1 ≤ a) × (a ≤ nodes) × (1 ≤ c) × (clusterSize c ≤ length (now b)) × (length (now m) ≤ slotSize) ⌝ }
     ensures { λ _. ⌜ now (b .exit) ≡ onBlock c (receive a (now (m .entry))) (now (b .entry)) ⌝ }
 {
-    let at = 1 + BLOCK * (c - 1);
+    let at = BLOCKS_PLACE + BLOCK * (c - 1);
     let end = at + BLOCK;
     block::receive_from(&mut b[at..end], a, m);
 }
 
 // Takes the oldest message off the channel from a to c.
 pub fn take_off_at(b: &mut [u8], a: usize, c: usize)
-    requires { ⌜ (1 ≤ a) × (a ≤ 16) × (1 ≤ c) × (clusterSize c ≤ length (now b)) ⌝ }
+    requires { ⌜ (1 ≤ a) × (a ≤ nodes) × (1 ≤ c) × (clusterSize c ≤ length (now b)) ⌝ }
     ensures { λ _. ⌜ now (b .exit) ≡ onBlock c (takeOff a) (now (b .entry)) ⌝ }
 {
-    let at = 1 + BLOCK * (c - 1);
+    let at = BLOCKS_PLACE + BLOCK * (c - 1);
     let end = at + BLOCK;
     block::take_off(&mut b[at..end], a);
 }
@@ -87,7 +94,7 @@ pub fn keep_at(b: &mut [u8], c: usize, d: Node)
     requires { ⌜ (1 ≤ c) × (clusterSize c ≤ length (now b)) ⌝ }
     ensures { λ _. ⌜ now (b .exit) ≡ onBlock c (keep d) (now (b .entry)) ⌝ }
 {
-    let at = 1 + BLOCK * (c - 1);
+    let at = BLOCKS_PLACE + BLOCK * (c - 1);
     let end = at + BLOCK;
     block::keep_node(&mut b[at..end], d);
 }
@@ -97,7 +104,7 @@ pub fn copy_record_at(b: &[u8], c: usize, r: &mut [u8])
     requires { ⌜ (1 ≤ c) × (clusterSize c ≤ length (now b)) × (length (now r) ≡ recordSize) ⌝ }
     ensures { λ _. ⌜ now (r .exit) ≡ recordIn (block (now (b .entry)) c) ⌝ }
 {
-    let at = 1 + BLOCK * (c - 1);
+    let at = BLOCKS_PLACE + BLOCK * (c - 1);
     let end = at + BLOCK;
     block::copy_record(&b[at..end], r);
 }
@@ -108,24 +115,24 @@ pub fn keep_record_at(b: &mut [u8], c: usize, r: &[u8])
         × (now r ≡ recordBytes (recordOf (now r))) ⌝ }
     ensures { λ _. ⌜ now (b .exit) ≡ onBlock c (keep (recordOf (now (r .entry)))) (now (b .entry)) ⌝ }
 {
-    let at = 1 + BLOCK * (c - 1);
+    let at = BLOCKS_PLACE + BLOCK * (c - 1);
     let end = at + BLOCK;
     block::keep_record(&mut b[at..end], r);
 }
 
 // Stops node c of n.
 pub fn halt_at(b: &mut [u8], n: usize, c: usize)
-    requires { ⌜ (n ≤ 16) × (1 ≤ c) × (clusterSize c ≤ length (now b)) ⌝ }
+    requires { ⌜ (n ≤ nodes) × (1 ≤ c) × (clusterSize c ≤ length (now b)) ⌝ }
     ensures { λ _. ⌜ now (b .exit) ≡ onBlock c (halt n) (now (b .entry)) ⌝ }
 {
-    let at = 1 + BLOCK * (c - 1);
+    let at = BLOCKS_PLACE + BLOCK * (c - 1);
     let end = at + BLOCK;
     block::halt_node(&mut b[at..end], n);
 }
 
 // How many of the nodes 1 to n have stopped.
 pub fn stopped_nodes(b: &[u8], n: usize) -> usize
-    requires { ⌜ (n ≤ 16) × (length (now b) ≡ clusterSize n) ⌝ }
+    requires { ⌜ (n ≤ nodes) × (length (now b) ≡ clusterSize n) ⌝ }
     ensures { λ r. ⌜ r ≡ count n (stopped (now (b .entry))) ⌝ }
 {
     let mut k = 0;
@@ -141,13 +148,13 @@ pub fn stopped_nodes(b: &[u8], n: usize) -> usize
 
 // Whether every block is sound.
 fn blocks_sound(b: &[u8], n: usize) -> bool
-    requires { ⌜ (n ≤ 16) × (length (now b) ≡ clusterSize n) ⌝ }
+    requires { ⌜ (n ≤ nodes) × (length (now b) ≡ clusterSize n) ⌝ }
     ensures { λ r. ⌜ r ≡ all n (λ c. blockSound n c (block (now (b .entry)) c)) ⌝ }
 {
     let mut ok = true;
     let mut c = 0;
     while c < n {
-        let at = 1 + BLOCK * c;
+        let at = BLOCKS_PLACE + BLOCK * c;
         let end = at + BLOCK;
         c += 1;
         ok = and(block::block_sound(&b[at..end], n, c), ok);
@@ -162,9 +169,9 @@ pub fn is_fit(b: &[u8]) -> bool
     if b.len() == 0 {
         return false;
     }
-    let n = index(b[0]);
-    if and(1 <= n, n <= 16) {
-        return b.len() == 1 + BLOCK * n;
+    let n = index(b[STATED_PLACE]);
+    if and(1 <= n, n <= NODES) {
+        return b.len() == BLOCKS_PLACE + BLOCK * n;
     }
     true
 }
@@ -174,8 +181,8 @@ pub fn is_sound(b: &[u8]) -> bool
     requires { ⌜ fits (now b) ≡ true ⌝ }
     ensures { λ r. ⌜ r ≡ sound (now (b .entry)) ⌝ }
 {
-    let n = index(b[0]);
-    if and(1 <= n, n <= 16) {
+    let n = index(b[STATED_PLACE]);
+    if and(1 <= n, n <= NODES) {
         return and(blocks_sound(b, n), stopped_nodes(b, n) <= most_faults(n));
     }
     false

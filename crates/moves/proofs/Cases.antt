@@ -1,15 +1,16 @@
 -- How the open operation moves on from each wait: all four passes at once, as the code on the bytes branches.
 use mathlib.Core.Path.{_≡_, refl, sym, ap, _∙_, subst}
 use mathlib.Core.Bool.{Bool, true, false}
-use mathlib.Core.List.{List, [], _∷_, _++_}
+use mathlib.Core.List.{List}
 use Prim.Native.Nat.{ℕ, _+_, _≤_, _<_, max}
 use lib.Dec.{leb, eqb}
 use lib.ListN.{length}
 use Rattle.octets.specs.Bytes.{Bytes, put}
-use Rattle.octets.specs.Word.{words, wordBytes}
+use Rattle.octets.specs.Word.{word, words}
 use Rattle.view.specs.Size.{limit}
 use Rattle.view.specs.View.{noView}
 use Rattle.wire.specs.declared.Message.the-variants.{Read}
+use Rattle.table.specs.Table.{cells}
 use Rattle.table.specs.Quorum.{size, isQuorum, agreeing}
 use Rattle.record.specs.Record.{waiting, closed}
 use Rattle.record.specs.Usable.{waitOk}
@@ -32,9 +33,9 @@ use Rattle.step.specs.Move.{readPass, writePass, comparePass, borrowPass, reads
 use Rattle.step.proofs.Numbers.{on-pick}
 use Rattle.step.proofs.Turns.{reads-on}
 use Rattle.step.proofs.Waits.{no-quorum, waits-still}
-use Rattle.region.specs.Record.{recordSize, heardPlace, scalar, viewIn, waitIn, waitBytes, recordOf, recordBytes}
-use Rattle.handlers.specs.declared.Head.{Head}
-use Rattle.handlers.specs.Handled.{headOf}
+use Rattle.region.specs.Record.{recordSize, heardPlace, viewIn, waitIn, recordOf, recordBytes, nPlace, ownPlace, headOf}
+use Rattle.region.specs.Record.{maxtagPlace, keptPlace, atroundIn, headBytes, withRequest, withWait}
+use Rattle.region.specs.declared.stored.Head.{Head}
 use Rattle.handlers.proofs.Sections.{tables-of, assembled}
 use Rattle.moves.specs.declared.Effect.{Effect}
 use Rattle.moves.specs.Moved.{effectOf, isStep, compared}
@@ -116,17 +117,19 @@ module _ (f : ℕ) (s : Step) where
 -- ---- the begin
 
 -- the head of a record that begins o
-abbrev askBytes : Head → Operation → List ℕ
-askBytes h o = wordBytes (h .n ∷ h .own ∷ h .maxtag ∷ (h .request + 1) ∷ h .kept ∷ []) ++ waitBytes (Reading o 0 0)
+abbrev asking : Head → Operation → Head
+asking h o = withWait (withRequest h (h .request + 1)) (Reading o 0 0)
 
 -- what the code sends, and that head written over the bytes
-pub begins : (r : List ℕ) → Bytes r → length r ≡ recordSize → (o : Operation) {h : Head} {e : Effect} {b : List ℕ} → h ≡ headOf r
-    → e ≡ effectOf (h .own) (One (Read (h .request + 1))) Nothing Nothing noView None noView → b ≡ put r 0 (askBytes h o)
+pub begins : (r : List ℕ) → Bytes r → length r ≡ recordSize → (o : Operation) {h g : Head} {e : Effect} {b : List ℕ}
+    → h ≡ headOf r → e ≡ effectOf (h .own) (One (Read (h .request + 1))) Nothing Nothing noView None noView
+    → g ≡ withWait (withRequest h (h .request + 1)) (Reading o 0 0) → b ≡ put r nPlace (headBytes g)
     → isStep e b (begun (recordOf r) o)
 unfolding recordOf begun
-begins r y l o q x z = (
+begins r y l o q x g z = (
   x ∙ ap (λ (h : Head). effectOf (h .own) (One (Read (h .request + 1))) Nothing Nothing noView None noView) q,
-  z ∙ ap (λ (h : Head). put r 0 (askBytes h o)) q ∙ assembled (begun (recordOf r) o .node) (tables-of r y l),
+  z ∙ ap (λ (h : Head). put r nPlace (headBytes h)) (g ∙ ap (λ (h : Head). asking h o) q)
+      ∙ assembled (begun (recordOf r) o .node) (tables-of r y l),
 )
 
 -- the tag of a round keeps the limit
@@ -139,11 +142,11 @@ pub wait-of : (r : List ℕ) → waitIn r ≡ recordOf r .wait
 unfolding recordOf
 wait-of r = refl
 
-pub maxtag-of : (r : List ℕ) → scalar r 2 ≡ recordOf r .maxtag
+pub maxtag-of : (r : List ℕ) → word r maxtagPlace ≡ recordOf r .maxtag
 unfolding recordOf
 maxtag-of r = refl
 
-pub kept-of : (r : List ℕ) → scalar r 4 ≡ recordOf r .kept
+pub kept-of : (r : List ℕ) → word r keptPlace ≡ recordOf r .kept
 unfolding recordOf
 kept-of r = refl
 
@@ -152,13 +155,15 @@ module _ (r : List ℕ) (f : ℕ) {n k : ℕ} {b : Bool} (m : recordOf r .n ≡ 
   pub answered-of : (a : ℕ) → k ≡ size n a → b ≡ isQuorum (recordOf r .n) f (size (recordOf r .n) a)
   answered-of a q = p ∙ ap (isQuorum n f) q ∙ ap (λ (x : ℕ). isQuorum x f (size x a)) (sym m)
 
-  pub agreed-of : {own : ℕ} → k ≡ agreeing n own (words 256 r heardPlace) (viewIn r 2 .tags) → own ≡ scalar r 1
+  pub agreed-of : {own : ℕ} → k ≡ agreeing n own (words cells r heardPlace) (viewIn r atroundIn .tags) → own
+      ≡ word r ownPlace
       → b ≡ isQuorum (recordOf r .n) f
       (agreeing (recordOf r .n) (recordOf r .own) (recordOf r .heard) (recordOf r .atround .tags))
   unfolding recordOf
   agreed-of q o =
-      p ∙ ap (isQuorum n f) (q ∙ ap (λ (x : ℕ). agreeing n x (words 256 r heardPlace) (viewIn r 2 .tags)) o)
-      ∙ ap (λ (x : ℕ). isQuorum x f (agreeing x (scalar r 1) (words 256 r heardPlace) (viewIn r 2 .tags))) (sym m)
+      p ∙ ap (isQuorum n f) (q ∙ ap (λ (x : ℕ). agreeing n x (words cells r heardPlace) (viewIn r atroundIn .tags)) o)
+      ∙ ap (λ (x : ℕ). isQuorum x f (agreeing x (word r ownPlace) (words cells r heardPlace)
+      (viewIn r atroundIn .tags))) (sym m)
 
 -- an effect and bytes of one step are those of its equal
 pub as-step : {s t : Step} {e : Effect} {b : List ℕ} → s ≡ t → isStep e b t → isStep e b s

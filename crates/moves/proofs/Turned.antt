@@ -2,13 +2,12 @@
 use Prim.Native.Nat.{ℕ, _+_}
 use mathlib.Core.Path.{_≡_, refl, sym, ap, ap₂, _∙_}
 use mathlib.Core.Bool.{true, false}
-use mathlib.Core.List.{List, [], _∷_, _++_}
+use mathlib.Core.List.{List}
 use lib.ListN.{length, replicate}
 use lib.Dec.{eqb, ltb, leb}
 use Rattle.octets.specs.Bytes.{Bytes, put}
 use Rattle.octets.specs.Loop.{join}
-use Rattle.octets.specs.Word.{wordBytes}
-use Rattle.view.specs.Size.{limit}
+use Rattle.view.specs.Size.{limit, nodes, viewSize}
 use Rattle.view.specs.View.{viewBytes, noView, firstOf}
 use Rattle.view.specs.declared.Report.{Report}
 use Rattle.view.specs.declared.View.{View}
@@ -28,22 +27,22 @@ use Rattle.step.specs.declared.Step.{Step}
 use Rattle.step.specs.Step.{started, endingOf}
 use Rattle.step.specs.Move.{opened, writing, nextTag, heldView, lentView, afterRead, afterGood, afterFailed, borrowPass}
 use Rattle.step.specs.Move.{borrows}
-use Rattle.region.specs.Record.{recordSize, waitBytes, viewIn, recordOf, recordBytes}
-use Rattle.handlers.specs.declared.Head.{Head}
-use Rattle.handlers.specs.Handled.{headOf}
+use Rattle.region.specs.Record.{recordSize, viewIn, recordOf, recordBytes, nPlace, atroundIn, viewPlace, headOf}
+use Rattle.region.specs.Record.{headBytes, withRequest, withWait}
+use Rattle.region.specs.declared.stored.Head.{Head}
 use Rattle.handlers.proofs.Sections.{tables-of, atround-put, assembled}
 use Rattle.moves.specs.declared.Effect.{Effect}
 use Rattle.moves.specs.Moved.{effectOf, stepOf, effect, isStep}
 
 -- the bytes after the reports of the round are written, then the head with the next request number
-pub turned-bytes : (r : List ℕ) → Bytes r → length r ≡ recordSize → (next : ℕ → ℕ) (w : Wait) (v : View) {h : Head} {x y : List ℕ}
-    → h ≡ headOf r → x ≡ put r 2656 (viewBytes 16 v)
-    → y ≡ put x 0 (wordBytes (h .n ∷ h .own ∷ h .maxtag ∷ next (h .request) ∷ h .kept ∷ []) ++ waitBytes w)
+pub turned-bytes : (r : List ℕ) → Bytes r → length r ≡ recordSize → (next : ℕ → ℕ) (w : Wait) (v : View) {h g : Head}
+    {x y : List ℕ} → h ≡ headOf r → x ≡ put r (viewPlace atroundIn) (viewBytes nodes v)
+    → g ≡ withWait (withRequest h (next (h .request))) w → y ≡ put x nPlace (headBytes g)
     → y ≡ recordBytes (setWait (recordOf r) (next (recordOf r .request)) w v)
 unfolding recordOf
-turned-bytes r b l next w v d e p =
-    p ∙ ap₂ (λ (h : Head) (x : List ℕ). put x 0
-    (wordBytes (h .n ∷ h .own ∷ h .maxtag ∷ next (h .request) ∷ h .kept ∷ []) ++ waitBytes w)) d e
+turned-bytes r b l next w v d e q p =
+    p ∙ ap₂ (λ (g : Head) (x : List ℕ). put x nPlace (headBytes g))
+    (q ∙ ap (λ (h : Head). withWait (withRequest h (next (h .request))) w) d) e
     ∙ assembled (setWait (recordOf r) (next (recordOf r .request)) w v) (atround-put (tables-of r b l) v)
 
 -- the places of a view that are given out: as many as the record has nodes
@@ -52,7 +51,7 @@ pub places-of : (r : List ℕ) (i : ℕ) {n : ℕ} → recordOf r .n ≡ n
 places-of r i e = ap (λ (m : ℕ). firstOf m (viewIn r i)) (sym e)
 
 -- a view of zeros is absent
-pub zeros : (r : List ℕ) → length r ≡ 256 → replicate (length r) 0 ≡ viewBytes 16 noView
+pub zeros : (r : List ℕ) → length r ≡ viewSize nodes → replicate (length r) 0 ≡ viewBytes nodes noView
 unfolding viewBytes join
 zeros r e = ap (λ (n : ℕ). replicate n 0) e
 

@@ -2,35 +2,39 @@
 use handlers::tables::heard_in;
 use handlers::tables::tag_in;
 use octets::and;
+use region::places::ATROUND_IN;
 use table::or;
 ghost use mathlib.Core.Path.{_≡_};
 ghost use Prim.Native.Nat.{_≤_};
 ghost use lib.Dec.{leb};
 ghost use lib.ListN.{length};
 ghost use Rattle.octets.specs.Word.{words};
+ghost use Rattle.view.specs.Size.{nodes};
 ghost use Rattle.table.specs.Loop.{all};
-ghost use Rattle.table.specs.Table.{tagOf, heardOf};
+ghost use Rattle.table.specs.Table.{tagOf, heardOf, cells};
 ghost use Rattle.table.specs.Quorum.{agreeing};
-ghost use Rattle.region.specs.Record.{recordSize, heardPlace, viewIn};
+ghost use Rattle.region.specs.Record.{recordSize, heardPlace, viewIn, atroundIn};
 
 // Whether sender s has sent, for each writer, the report held for the open round or a later one.
 fn has_sent(r: &[u8], n: usize, s: usize) -> bool
-    requires { ⌜ (length (now r) ≡ recordSize) × (n ≤ 16) × (1 ≤ s) × (s ≤ 16) ⌝ }
-    ensures { λ t. ⌜ t ≡ all n (λ w. leb (tagOf (viewIn (now (r .entry)) 2) w) (heardOf (words 256 (now (r .entry)) heardPlace) s w)) ⌝ }
+    requires { ⌜ (length (now r) ≡ recordSize) × (n ≤ nodes) × (1 ≤ s) × (s ≤ nodes) ⌝ }
+    ensures { λ t. ⌜ t ≡ all n (λ w. leb (tagOf (viewIn (now (r .entry)) atroundIn) w)
+        (heardOf (words cells (now (r .entry)) heardPlace) s w)) ⌝ }
 {
     let mut ok = true;
     let mut w = 0;
     while w < n {
         w += 1;
-        ok = and(tag_in(r, 2, w) <= heard_in(r, s, w), ok);
+        ok = and(tag_in(r, ATROUND_IN, w) <= heard_in(r, s, w), ok);
     }
     ok
 }
 
 // How many nodes agree on the reports held for the open round; the own node does.
 pub fn agreeing_in(r: &[u8], n: usize, own: usize) -> usize
-    requires { ⌜ (length (now r) ≡ recordSize) × (n ≤ 16) ⌝ }
-    ensures { λ k. ⌜ k ≡ agreeing n own (words 256 (now (r .entry)) heardPlace) (viewIn (now (r .entry)) 2 .tags) ⌝ }
+    requires { ⌜ (length (now r) ≡ recordSize) × (n ≤ nodes) ⌝ }
+    ensures { λ k. ⌜ k
+        ≡ agreeing n own (words cells (now (r .entry)) heardPlace) (viewIn (now (r .entry)) atroundIn .tags) ⌝ }
 {
     let mut k = 0;
     let mut s = 0;

@@ -4,7 +4,6 @@ pub mod agree;
 pub mod rounds;
 
 use agree::agreeing_in;
-use handlers::head_of;
 use handlers::waiting_in;
 use octets::get_word;
 use octets::less;
@@ -12,8 +11,15 @@ use record::Kind;
 use record::Operation;
 use record::Wait;
 use record::usable::has_open;
+use region::places::KEPT_PLACE;
+use region::places::MAXTAG_PLACE;
+use region::places::OWN_PLACE;
+use region::places::REQUEST_PLACE;
+use region::stored::head_of;
 use region::stored::load_wait;
 use region::stored::save_head;
+use region::stored::with_request;
+use region::stored::with_wait;
 use rounds::failed_in;
 use rounds::good_in;
 use rounds::lend_in;
@@ -32,7 +38,7 @@ ghost use mathlib.Core.Path.{_≡_};
 ghost use mathlib.Core.Bool.{true};
 ghost use Prim.Native.Nat.{_≤_, _<_};
 ghost use lib.ListN.{length};
-ghost use Rattle.view.specs.Size.{limit};
+ghost use Rattle.view.specs.Size.{limit, nodes};
 ghost use Rattle.record.specs.Usable.{isOpen, full, usable};
 ghost use Rattle.step.specs.Step.{started};
 ghost use Rattle.step.specs.Move.{moveOn, begun};
@@ -59,7 +65,7 @@ pub fn is_full_in(r: &[u8]) -> bool
     requires { ⌜ length (now r) ≡ recordSize ⌝ }
     ensures { λ t. ⌜ t ≡ full (recordOf (now (r .entry))) ⌝ }
 {
-    less(LIMIT, get_word(r, 24)) < 5
+    less(LIMIT, get_word(r, REQUEST_PLACE)) < 5
 }
 
 // An operation is begun: its read goes out, with the next request number.
@@ -74,7 +80,7 @@ pub fn begin_in(r: &mut [u8], o: Operation) -> Effect
         answered: 0,
         largest: 0,
     };
-    save_head(r, h.n, h.own, h.maxtag, request, h.kept, wait);
+    save_head(r, with_wait(with_request(h, request), wait));
     rested(
         h.own as usize,
         Sent::One(Message::Read { request: request }),
@@ -92,12 +98,12 @@ fn compare_in(
     i: u64,
     t: u64,
 ) -> Effect
-    requires { ⌜ (length (now r) ≡ recordSize) × (recordOf (now r) .n ≡ n) × (n ≤ 16)
+    requires { ⌜ (length (now r) ≡ recordSize) × (recordOf (now r) .n ≡ n) × (n ≤ nodes)
         × (recordOf (now r) .request ≤ limit) × (t ≤ limit) ⌝ }
     ensures { λ e. ⌜ isStep e (now (r .exit)) (compared f (started (recordOf (now (r .entry))) to sent) k i t) ⌝ }
 {
-    if is_quorum(n, f, agreeing_in(r, n, get_word(r, 8) as usize)) {
-        if get_word(r, 16) <= t {
+    if is_quorum(n, f, agreeing_in(r, n, get_word(r, OWN_PLACE) as usize)) {
+        if get_word(r, MAXTAG_PLACE) <= t {
             return good_in(r, n, to, sent, k, i, t);
         }
         return failed_in(r, n, to, sent, k, i, t);
@@ -116,7 +122,7 @@ fn compare_in(
 // The open operation moves on until it must wait, after `sent` went to node `to`. The wait says which pass is the first
 // to try; what a pass leads to, only a later one takes up.
 pub fn move_in(r: &mut [u8], n: usize, f: usize, to: usize, sent: Sent) -> Effect
-    requires { ⌜ (length (now r) ≡ recordSize) × (recordOf (now r) .n ≡ n) × (n ≤ 16) × (f < n)
+    requires { ⌜ (length (now r) ≡ recordSize) × (recordOf (now r) .n ≡ n) × (n ≤ nodes) × (f < n)
         × (usable (recordOf (now r)) ≡ true) × (now r ≡ recordBytes (recordOf (now r))) ⌝ }
     ensures { λ e. ⌜ isStep e (now (r .exit)) (moveOn f (started (recordOf (now (r .entry))) to sent)) ⌝ }
 {
@@ -128,7 +134,13 @@ pub fn move_in(r: &mut [u8], n: usize, f: usize, to: usize, sent: Sent) -> Effec
             largest,
         } => {
             if is_quorum(n, f, members(n, answered)) {
-                return read_in(r, to, sent, operation, larger(largest, get_word(r, 16)));
+                return read_in(
+                    r,
+                    to,
+                    sent,
+                    operation,
+                    larger(largest, get_word(r, MAXTAG_PLACE)),
+                );
             }
             rested(to, sent)
         }
@@ -145,7 +157,7 @@ pub fn move_in(r: &mut [u8], n: usize, f: usize, to: usize, sent: Sent) -> Effec
         }
         Wait::Comparing { kind, round, tag } => compare_in(r, n, f, to, sent, kind, round, tag),
         Wait::Borrowing { kind, tag } => {
-            if tag <= get_word(r, 32) {
+            if tag <= get_word(r, KEPT_PLACE) {
                 return lend_in(r, n, to, sent, kind);
             }
             rested(to, sent)

@@ -60,5 +60,12 @@ pub const VIEWS: usize = 4;
 
 pub const VIEWS_PLACE: usize = HEARD_PLACE + WORD * CELLS;
 
+// Where each of the first three stands.
+pub const LAST_PLACE: usize = VIEWS_PLACE + VIEW * LAST_IN;
+
+pub const ATMAX_PLACE: usize = VIEWS_PLACE + VIEW * ATMAX_IN;
+
+pub const ATROUND_PLACE: usize = VIEWS_PLACE + VIEW * ATROUND_IN;
+
 // The bytes of a record.
 pub const RECORD: usize = VIEWS_PLACE + VIEW * VIEWS;

@@ -1,14 +1,20 @@
 -- A report and its eight bytes give back each other.
 use Prim.Native.Nat.{ℕ, zero, suc, _+_, _≤_}
 use mathlib.Core.Path.{_≡_, sym, ap, ap₂, _∙_}
+use mathlib.Core.Bool.{true}
 use mathlib.Core.List.{List, [], _∷_, _++_}
+use native.Mathlib.Decide.{ℕ-discrete}
 use native.Mathlib.Omega.{arith}
+use lib.Dec.{eqb}
 use lib.ListN.{length, replicate}
+use borrow.Author.Tests.{eq-eqb, ne-eqb, eqb-true}
+use Rattle.octets.specs.Test.{both}
 use Rattle.octets.specs.Bytes.{Bytes, num, be, part}
+use Rattle.octets.proofs.Test.{both-left, both-right, not-true-false}
 use Rattle.octets.proofs.Number.{num-be-suc, be-num, be-bytes, num-zero}
 use Rattle.octets.proofs.Put.{part-add, part-all, part-bytes, length-part}
 use Rattle.view.specs.Size.{reportSize}
-use Rattle.view.specs.Report.{Counts, noReport, reportBytes, reportOf, reportFrom, reportNumber}
+use Rattle.view.specs.Report.{Counts, noReport, isNone, reportBytes, reportOf, reportFrom, reportNumber}
 use Rattle.view.specs.declared.Report.{Report}
 
 pub report-back : (p : Report) → reportOf (reportBytes p) ≡ p
@@ -62,3 +68,28 @@ from-number b h l = ap reportOf (ap (λ (k : ℕ). be k (num b)) (sym l) ∙ be-
 
 pub number-bytes : (p : Report) → Counts p → be reportSize (reportNumber p) ≡ reportBytes p
 number-bytes p h = be-num (reportBytes p) (report-bytes p h)
+
+-- ---- no report
+
+pub none-is : (p : Report) → isNone p ≡ true → p ≡ noReport
+none-is p e =
+    let a = eqb (p .extensions) 0 in
+    let b = eqb (p .lines) 0 in
+    let c = eqb (p .waiting) 0 in
+    let d = eqb (p .wakeups) 0 in
+    let r = both-right a (both b (both c d)) e in
+    rw (
+      eqb-true (p .extensions) 0 (both-left a (both b (both c d)) e),
+      eqb-true (p .lines) 0 (both-left b (both c d) r),
+      eqb-true (p .waiting) 0 (both-left c d (both-right b (both c d) r)),
+      eqb-true (p .wakeups) 0 (both-right c d (both-right b (both c d) r)),
+    )
+
+-- no report is zero bytes
+pub none-zero : (s : List ℕ) → Bytes s → length s ≡ reportSize → isNone (reportOf s) ≡ eqb (num s) 0
+none-zero s h l = elim (ℕ-discrete (num s) 0) [
+  | yes e ↦ ap isNone (zero-report s h l e) ∙ sym (eq-eqb (num s) 0 e)
+  | no m ↦ not-true-false (isNone (reportOf s))
+      (λ e. m (ap num (sym (report-bytes-back s h l) ∙ ap reportBytes (none-is (reportOf s) e))))
+      ∙ sym (ne-eqb (num s) 0 m)
+]

@@ -4,7 +4,8 @@ use mathlib.Core.Path.{refl, ap, ap₂, _∙_}
 use mathlib.Core.List.{List}
 use Rattle.octets.specs.Test.{both}
 use Rattle.octets.proofs.Lent.{lent}
-use Rattle.block.specs.Block.{recordIn, recordSound, blockSound}
+use Rattle.region.specs.Record.{recordSize}
+use Rattle.block.specs.Block.{recordIn, recordSound, blockSound, recordPlace}
 use Rattle.block.proofs.block_sound.Statement.{statement}
 use Rattle.block.proofs.block_sound.Tie as tie
 
@@ -32,7 +33,7 @@ returns c =
     let c5 = c .before .before .before .before .before in
     c .and .ensures
     ∙ ap₂ both (c .before .before .record-sound .ensures ∙ ap (λ (t : List ℕ). recordSound (c5 .args .n) (c5 .args .c) t)
-    (lent (c5 .args .k .now) 1 3168 refl))
+    (lent (c5 .args .k .now) recordPlace recordSize refl))
     (c .before .channels-sound .ensures)
 
 pub block-sound-spec : {M : Type 1} → statement M

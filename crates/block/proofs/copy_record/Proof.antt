@@ -8,7 +8,8 @@ use lib.ListN.{length}
 use Rattle.octets.specs.Bytes.{part, put}
 use Rattle.octets.proofs.Lent.{lent}
 use Rattle.octets.proofs.Put.{put-over, length-part}
-use Rattle.block.specs.Block.{recordIn}
+use Rattle.region.specs.Record.{recordSize}
+use Rattle.block.specs.Block.{recordIn, recordPlace}
 use Rattle.block.proofs.copy_record.Statement.{statement}
 use Rattle.block.proofs.copy_record.Tie as tie
 
@@ -17,8 +18,10 @@ unfolding recordIn
 returns c =
     let k = c .before .before .before .before .before .before .before .args .k .now in
     let r = c .before .before .before .before .before .before .before .args .r .now in
-    let l : length (part k 1 3168) ≡ length r = length-part k 1 3168 (omega arith) ∙ sym (c .before .before .before .before .before .before .before .pre .1) in
-    c .before .before .put-bytes .ensures ∙ ap (λ (t : List ℕ). put r 0 t) (lent k 1 3168 refl) ∙ put-over r (part k 1 3168) l
+    let l : length (part k recordPlace recordSize) ≡ length r = length-part k recordPlace recordSize (omega arith)
+    ∙ sym (c .before .before .before .before .before .before .before .pre .1) in
+    c .before .before .put-bytes .ensures ∙ ap (λ (t : List ℕ). put r 0 t) (lent k recordPlace recordSize refl)
+    ∙ put-over r (part k recordPlace recordSize) l
 
 pub copy-record-spec : {M : Type 1} → statement M
 copy-record-spec =

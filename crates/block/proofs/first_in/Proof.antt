@@ -1,7 +1,7 @@
 use borrow.Author.Needs.{needs}
 use mathlib.Core.Path.{_∙_, ap, refl}
 use Rattle.octets.proofs.Lent.{lent}
-use Rattle.region.specs.Channel.{first}
+use Rattle.region.specs.Channel.{first, channelSize}
 use Rattle.block.specs.Block.{channelPlace, channelIn}
 use mathlib.Core.List.{List}
 use Prim.Native.Nat.{ℕ}
@@ -36,7 +36,8 @@ returns : tie.Need-returns
 unfolding channelIn
 returns c =
     let c3 = c .before .before .before in
-    c .first .ensures ∙ ap (λ (t : List ℕ). first t) (lent (c3 .args .k .now) (channelPlace (c3 .args .a)) 4386 refl)
+    c .first .ensures ∙ ap (λ (t : List ℕ). first t) (lent (c3 .args .k .now) (channelPlace (c3 .args .a)) channelSize
+    refl)
 
 pub first-in-spec : {M : Type 1} → statement M
 first-in-spec =

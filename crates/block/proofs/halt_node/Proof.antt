@@ -8,8 +8,8 @@ use lib.ListN.{length}
 use Rattle.octets.specs.Loop.{upTo}
 use Rattle.octets.proofs.Loop.{upTo-none, upTo-more}
 use Rattle.octets.proofs.Lent.{lent-back}
-use Rattle.region.specs.Channel.{clear}
-use Rattle.block.specs.Block.{blockSize, channelPlace, change, onChannel, halt}
+use Rattle.region.specs.Channel.{clear, channelSize}
+use Rattle.block.specs.Block.{blockSize, channelPlace, change, onChannel, halt, channelsPlace}
 use Rattle.block.proofs.halt_node.Tie as tie
 
 abbrev Inv-loop : tie.InvT-loop
@@ -54,11 +54,13 @@ loop-less c = search needs
 loop-again : tie.Need-loop-again Inv-loop μ-loop
 loop-again c = let i = c .before .before .before .before .before .loop .i in
     let k = c .before .before .before .before .before .loop .k in
-    let at : 3169 + 4386 * i ≡ channelPlace (i + 1) = omega arith in (
+    let at : channelsPlace + channelSize * i ≡ channelPlace (i + 1) = omega arith in (
       search needs,
       search needs,
-      lent-back k (3169 + 4386 * i) 4386 clear refl (omega arith) (c .before .before .clear .kept .0) (c .before .before .clear .ensures)
-          ∙ ap (λ (j : ℕ). change j 4386 clear k) at ∙ ap (λ (t : List ℕ). onChannel (i + 1) clear t) (c .before .before .before .before .before .loop .inv .2)
+      lent-back k (channelsPlace + channelSize * i) channelSize clear refl (omega arith)
+          (c .before .before .clear .kept .0) (c .before .before .clear .ensures)
+          ∙ ap (λ (j : ℕ). change j channelSize clear k) at ∙ ap (λ (t : List ℕ). onChannel (i + 1) clear t)
+          (c .before .before .before .before .before .loop .inv .2)
           ∙ sym (upTo-more i (λ j. onChannel (j + 1) clear) _),
     )
 

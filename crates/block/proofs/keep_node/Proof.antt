@@ -5,8 +5,8 @@ use Prim.Native.Nat.{ℕ}
 use native.Mathlib.Omega.{arith}
 use Rattle.octets.specs.Bytes.{put}
 use Rattle.octets.proofs.Lent.{lent-back}
-use Rattle.region.specs.Record.{recordBytes}
-use Rattle.block.specs.Block.{keep}
+use Rattle.region.specs.Record.{recordBytes, recordSize}
+use Rattle.block.specs.Block.{keep, recordPlace}
 use Rattle.block.proofs.keep_node.Statement.{statement}
 use Rattle.block.proofs.keep_node.Tie as tie
 
@@ -29,7 +29,8 @@ returns : tie.Need-returns
 unfolding keep
 returns c =
     let c5 = c .before .before .before .before .before in
-    lent-back (c5 .args .k .now) 1 3168 (λ (r : List ℕ). put r 0 (recordBytes (c5 .args .c))) refl (omega arith)
+    lent-back (c5 .args .k .now) recordPlace recordSize (λ (r : List ℕ). put r 0 (recordBytes (c5 .args .c))) refl
+    (omega arith)
     (c .before .before .save .kept .0)
     (c .before .before .save .ensures)
 

@@ -7,8 +7,8 @@ use native.Mathlib.Omega.{arith}
 use lib.ListN.{length}
 use Rattle.octets.specs.Bytes.{part, put}
 use Rattle.octets.proofs.Put.{put-over, length-part}
-use Rattle.region.specs.Record.{recordOf, recordBytes}
-use Rattle.block.specs.Block.{keep}
+use Rattle.region.specs.Record.{recordOf, recordBytes, recordSize}
+use Rattle.block.specs.Block.{keep, recordPlace}
 use Rattle.block.proofs.keep_record.Statement.{statement}
 use Rattle.block.proofs.keep_record.Tie as tie
 
@@ -19,9 +19,11 @@ returns c =
     let k = c6 .args .k .now in
     let r = c6 .args .r .now in
     let d = recordBytes (recordOf r) in
-    let l : length d ≡ length (part k 1 3168) =
-    sym (ap (λ (t : List ℕ). length t) (c6 .pre .2)) ∙ c6 .pre .1 ∙ sym (length-part k 1 3168 (omega arith)) in
-    c .before .before .put-bytes .ensures ∙ ap (λ (t : List ℕ). put k 1 t) (c6 .pre .2 ∙ sym (put-over (part k 1 3168) d l))
+    let l : length d ≡ length (part k recordPlace recordSize) =
+    sym (ap (λ (t : List ℕ). length t) (c6 .pre .2)) ∙ c6 .pre .1 ∙ sym (length-part k recordPlace recordSize
+    (omega arith)) in
+    c .before .before .put-bytes .ensures ∙ ap (λ (t : List ℕ). put k recordPlace t) (c6 .pre .2
+    ∙ sym (put-over (part k recordPlace recordSize) d l))
 
 pub keep-record-spec : {M : Type 1} → statement M
 keep-record-spec =

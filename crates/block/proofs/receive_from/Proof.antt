@@ -3,7 +3,7 @@ use mathlib.Core.Path.{refl}
 use native.Mathlib.Omega.{arith}
 use borrow.Author.Tests.{lt-ltb, le-ltb}
 use Rattle.octets.proofs.Lent.{lent-back}
-use Rattle.region.specs.Channel.{push}
+use Rattle.region.specs.Channel.{push, channelSize}
 use Rattle.block.specs.Block.{channelPlace, receive}
 use Rattle.block.proofs.receive_from.Statement.{statement}
 use Rattle.block.proofs.receive_from.Tie as tie
@@ -48,7 +48,7 @@ returns-2 c =
     let c4 = c .before .before .before .before in
     let c8 = c4 .before .before .before .before in
     rw (le-ltb _ _ (c4 .if1 .left))
-    (lent-back (c8 .args .k .now) (channelPlace (c8 .args .a)) 4386 (push (c8 .args .m .now)) refl (omega arith)
+    (lent-back (c8 .args .k .now) (channelPlace (c8 .args .a)) channelSize (push (c8 .args .m .now)) refl (omega arith)
     (c .before .before .push .kept .0)
     (c .before .before .push .ensures))
 

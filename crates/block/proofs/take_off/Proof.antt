@@ -2,7 +2,7 @@ use borrow.Author.Needs.{needs}
 use mathlib.Core.Path.{refl}
 use native.Mathlib.Omega.{arith}
 use Rattle.octets.proofs.Lent.{lent-back}
-use Rattle.region.specs.Channel.{pop}
+use Rattle.region.specs.Channel.{pop, channelSize}
 use Rattle.block.specs.Block.{channelPlace, takeOff}
 use Rattle.block.proofs.take_off.Statement.{statement}
 use Rattle.block.proofs.take_off.Tie as tie
@@ -38,7 +38,8 @@ returns : tie.Need-returns
 unfolding takeOff
 returns c =
     let c5 = c .before .before .before .before .before in
-    lent-back (c5 .args .k .now) (channelPlace (c5 .args .a)) 4386 pop refl (omega arith) (c .before .before .pop .kept .0)
+    lent-back (c5 .args .k .now) (channelPlace (c5 .args .a)) channelSize pop refl (omega arith)
+    (c .before .before .pop .kept .0)
     (c .before .before .pop .ensures)
 
 pub take-off-spec : {M : Type 1} → statement M

@@ -5,6 +5,7 @@ use mathlib.Core.Path.{_∙_, sym, ap}
 use lib.ListN.{getD}
 use Prim.Native.Nat.{ℕ}
 use Rattle.octets.proofs.Put.{getD-part}
+use Rattle.region.specs.Channel.{channelSize}
 use Rattle.block.specs.Block.{channelPlace, channelIn}
 use Rattle.block.proofs.waiting_in.Statement.{statement}
 use Rattle.block.proofs.waiting_in.Tie as tie
@@ -28,7 +29,8 @@ returns : tie.Need-returns
 unfolding channelIn
 returns c = let k = c .before .before .before .args .k .now in
     let at = channelPlace (c .before .before .before .args .a) in (
-      c .index .ensures .0 ∙ sym (getD-part k at 4386 0 (omega arith) ∙ ap (λ (j : ℕ). getD k j 0) (add-zero at)),
+      c .index .ensures .0 ∙ sym (getD-part k at channelSize 0 (omega arith) ∙ ap (λ (j : ℕ). getD k j 0)
+          (add-zero at)),
       c .index .ensures .1,
     )
 

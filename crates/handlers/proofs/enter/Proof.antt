@@ -3,6 +3,7 @@ use borrow.Author.Needs.{needs}
 use mathlib.Core.Path.{ap, _∙_}
 use mathlib.Core.List.{List}
 use Prim.Native.Nat.{ℕ, _-_}
+use Rattle.region.specs.Record.{lastIn, atmaxIn, atroundIn}
 use Rattle.handlers.specs.Handled.{putWhere, entered}
 use Rattle.handlers.proofs.enter.Statement.{statement}
 use Rattle.handlers.proofs.enter.Tie as tie
@@ -15,9 +16,10 @@ returns c =
     let c14 = c10 .before .before .before .before in
     let c17 = c14 .before .before .before in
     let a = c17 .args in
-    c .before .before .put-where3 .ensures ∙ ap (λ (x : List ℕ). putWhere (a .round) 2 (a .w) (a .t) (a .p) x)
-    (c6 .put-where2 .ensures ∙ ap (λ (x : List ℕ). putWhere (a .held) 1 (a .w) (a .t) (a .p) x)
-    (c10 .put-where .ensures ∙ ap (λ (x : List ℕ). putWhere (a .fresh) 0 (a .w) (a .t) (a .p) x) (c14 .put-word .ensures)))
+    c .before .before .put-where3 .ensures ∙ ap (λ (x : List ℕ). putWhere (a .round) atroundIn (a .w) (a .t) (a .p) x)
+    (c6 .put-where2 .ensures ∙ ap (λ (x : List ℕ). putWhere (a .held) atmaxIn (a .w) (a .t) (a .p) x)
+    (c10 .put-where .ensures ∙ ap (λ (x : List ℕ). putWhere (a .fresh) lastIn (a .w) (a .t) (a .p) x)
+    (c14 .put-word .ensures)))
 
 pub enter-spec : {M : Type 1} → statement M
 enter-spec =

@@ -7,11 +7,12 @@ use mathlib.Core.Bool.{Bool}
 use lib.Dec.{ltb, leb}
 use Rattle.octets.specs.Test.{both}
 use Rattle.octets.specs.Bytes.{put}
+use Rattle.octets.specs.Word.{word}
 use Rattle.step.specs.React.{isNew, roundHolds}
-use Rattle.region.specs.Record.{scalar, waitIn, recordOf}
-use Rattle.handlers.specs.declared.Head.{Head}
+use Rattle.region.specs.Record.{waitIn, recordOf, nPlace, maxtagPlace, headBytes}
+use Rattle.region.specs.declared.stored.Head.{Head}
 use Rattle.handlers.specs.Handled.{entered}
-use Rattle.handlers.proofs.Handling.{headBytes, received-bytes}
+use Rattle.handlers.proofs.Handling.{received-bytes}
 use Rattle.handlers.proofs.received_in.Statement.{statement}
 use Rattle.handlers.proofs.received_in.Tie as tie
 
@@ -27,7 +28,7 @@ returns c =
     let new = isNew (recordOf r) (a .w) (a .t) in
     let old = ltb (c12 .tag-in .result) (a .t) in
     let fresh : old ≡ new = ap (λ (x : ℕ). ltb x (a .t)) (c12 .tag-in .ensures) in
-    let held : c9 .before .and .result ≡ both new (leb (a .t) (scalar r 2)) =
+    let held : c9 .before .and .result ≡ both new (leb (a .t) (word r maxtagPlace)) =
     c9 .before .and .ensures ∙ ap₂ both fresh (ap (λ (h : Head). leb (a .t) (h .maxtag))
     (c12 .before .before .head-of .ensures)) in
     let round : c6 .before .before .and2 .result ≡ both new (roundHolds (waitIn r) (a .t)) =
@@ -35,7 +36,7 @@ returns c =
     (a .t)) (c12 .before .before .head-of .ensures)) in (
       fresh,
       c .before .before .save-head .ensures
-          ∙ ap₂ (λ (x : List ℕ) (h : Head). put x 0 (headBytes h (h .maxtag) (h .kept) (h .wait)))
+          ∙ ap₂ (λ (x : List ℕ) (h : Head). put x nPlace (headBytes h))
           (c6 .enter .ensures ∙ ap (λ (x : Bool). entered (a .s) (a .w) (a .t) (a .p) x (c9 .before .and .result)
           (c6 .before .before .and2 .result) r) fresh
           ∙ ap₂ (λ (x y : Bool). entered (a .s) (a .w) (a .t) (a .p) new x y r) held round)

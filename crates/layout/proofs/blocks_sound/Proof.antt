@@ -8,9 +8,9 @@ use Rattle.octets.specs.Test.{both}
 use Rattle.octets.proofs.Lent.{lent}
 use Rattle.table.specs.Loop.{all}
 use Rattle.table.proofs.Laws.{all-none, all-more}
-use Rattle.block.specs.Block.{blockSound}
+use Rattle.block.specs.Block.{blockSound, blockSize}
 use Rattle.octets.specs.Bytes.{part}
-use Rattle.layout.specs.Layout.{block, blockPlace}
+use Rattle.layout.specs.Layout.{block, blockPlace, blocksPlace}
 use Rattle.layout.proofs.blocks_sound.Tie as tie
 
 abbrev Inv-loop : tie.InvT-loop
@@ -57,11 +57,12 @@ unfolding block
 loop-again c = let b = c .before .before .before .before .before .before .args .b .now in
     let n = c .before .before .before .before .before .before .args .n in
     let d = c .before .before .before .before .loop .c in
-    let at : 1 + 73345 * d ≡ blockPlace (d + 1) = omega arith in (
+    let at : blocksPlace + blockSize * d ≡ blockPlace (d + 1) = omega arith in (
       search needs,
       c .and .ensures
-          ∙ ap₂ both (c .before .block-sound .ensures ∙ ap (λ (t : List ℕ). blockSound n (d + 1) t) (lent b (1 + 73345 * d) 73345 refl
-          ∙ ap (λ (k : ℕ). part b k 73345) at)) (c .before .before .before .before .loop .inv .1)
+          ∙ ap₂ both (c .before .block-sound .ensures ∙ ap (λ (t : List ℕ). blockSound n (d + 1) t)
+          (lent b (blocksPlace + blockSize * d) blockSize refl
+          ∙ ap (λ (k : ℕ). part b k blockSize) at)) (c .before .before .before .before .loop .inv .1)
           ∙ sym (all-more d (λ (k : ℕ). blockSound n k (block b k))),
     )
 

@@ -3,7 +3,7 @@ use Prim.Native.Nat.{ℕ}
 use mathlib.Core.Path.{refl, ap, _∙_}
 use mathlib.Core.List.{List}
 use Rattle.octets.proofs.Lent.{lent}
-use Rattle.block.specs.Block.{channelIn}
+use Rattle.block.specs.Block.{channelIn, blockSize}
 use Rattle.region.specs.Channel.{first}
 use Rattle.layout.specs.Layout.{blockPlace, block}
 use Rattle.layout.proofs.first_at.Statement.{statement}
@@ -38,7 +38,7 @@ unfolding block
 returns c =
     let c3 = c .before .before .before in
     c .first-in .ensures ∙ ap (λ (t : List ℕ). first (channelIn t (c3 .args .a))) (lent (c3 .args .b .now) (blockPlace
-    (c3 .args .c)) 73345 refl)
+    (c3 .args .c)) blockSize refl)
 
 pub first-at-spec : {M : Type 1} → statement M
 first-at-spec =

@@ -2,7 +2,7 @@ use borrow.Author.Needs.{needs}
 use mathlib.Core.Path.{refl}
 use native.Mathlib.Omega.{arith}
 use Rattle.octets.proofs.Lent.{lent-back}
-use Rattle.block.specs.Block.{halt}
+use Rattle.block.specs.Block.{halt, blockSize}
 use Rattle.layout.specs.Layout.{blockPlace, onBlock}
 use Rattle.layout.proofs.halt_at.Statement.{statement}
 use Rattle.layout.proofs.halt_at.Tie as tie
@@ -38,7 +38,7 @@ returns : tie.Need-returns
 unfolding onBlock
 returns c =
     let c5 = c .before .before .before .before .before in
-    lent-back (c5 .args .b .now) (blockPlace (c5 .args .c)) 73345 (halt (c5 .args .n)) refl (omega arith)
+    lent-back (c5 .args .b .now) (blockPlace (c5 .args .c)) blockSize (halt (c5 .args .n)) refl (omega arith)
     (c .before .before .halt-node .kept .0) (c .before .before .halt-node .ensures)
 
 pub halt-at-spec : {M : Type 1} → statement M

@@ -2,7 +2,7 @@ use borrow.Author.Needs.{needs}
 use mathlib.Core.Path.{refl}
 use native.Mathlib.Omega.{arith}
 use Rattle.octets.proofs.Lent.{lent-back}
-use Rattle.block.specs.Block.{receive}
+use Rattle.block.specs.Block.{receive, blockSize}
 use Rattle.layout.specs.Layout.{blockPlace, onBlock}
 use Rattle.layout.proofs.receive_at.Statement.{statement}
 use Rattle.layout.proofs.receive_at.Tie as tie
@@ -38,7 +38,7 @@ returns : tie.Need-returns
 unfolding onBlock
 returns c =
     let c6 = c .before .before .before .before .before .before in
-    lent-back (c6 .args .b .now) (blockPlace (c6 .args .c)) 73345 (receive (c6 .args .a) (c6 .args .m .now)) refl
+    lent-back (c6 .args .b .now) (blockPlace (c6 .args .c)) blockSize (receive (c6 .args .a) (c6 .args .m .now)) refl
     (omega arith) (c .before .before .receive-from .kept .0) (c .before .before .receive-from .ensures)
 
 pub receive-at-spec : {M : Type 1} → statement M

@@ -3,7 +3,7 @@ use Prim.Native.Nat.{ℕ}
 use mathlib.Core.Path.{refl, ap, _∙_}
 use mathlib.Core.List.{List}
 use Rattle.octets.proofs.Lent.{lent}
-use Rattle.block.specs.Block.{hasStopped}
+use Rattle.block.specs.Block.{hasStopped, blockSize}
 use Rattle.layout.specs.Layout.{blockPlace, block}
 use Rattle.layout.proofs.stopped_at.Statement.{statement}
 use Rattle.layout.proofs.stopped_at.Tie as tie
@@ -36,7 +36,8 @@ returns : tie.Need-returns
 unfolding block
 returns c =
     let c3 = c .before .before .before in
-    c .has-stopped .ensures ∙ ap (λ (t : List ℕ). hasStopped t) (lent (c3 .args .b .now) (blockPlace (c3 .args .c)) 73345 refl)
+    c .has-stopped .ensures ∙ ap (λ (t : List ℕ). hasStopped t) (lent (c3 .args .b .now) (blockPlace (c3 .args .c))
+    blockSize refl)
 
 pub stopped-at-spec : {M : Type 1} → statement M
 stopped-at-spec =

@@ -2,7 +2,7 @@ use borrow.Author.Needs.{needs}
 use mathlib.Core.Path.{refl}
 use native.Mathlib.Omega.{arith}
 use Rattle.octets.proofs.Lent.{lent-back}
-use Rattle.block.specs.Block.{takeOff}
+use Rattle.block.specs.Block.{takeOff, blockSize}
 use Rattle.layout.specs.Layout.{blockPlace, onBlock}
 use Rattle.layout.proofs.take_off_at.Statement.{statement}
 use Rattle.layout.proofs.take_off_at.Tie as tie
@@ -38,7 +38,7 @@ returns : tie.Need-returns
 unfolding onBlock
 returns c =
     let c5 = c .before .before .before .before .before in
-    lent-back (c5 .args .b .now) (blockPlace (c5 .args .c)) 73345 (takeOff (c5 .args .a)) refl (omega arith)
+    lent-back (c5 .args .b .now) (blockPlace (c5 .args .c)) blockSize (takeOff (c5 .args .a)) refl (omega arith)
     (c .before .before .take-off .kept .0) (c .before .before .take-off .ensures)
 
 pub take-off-at-spec : {M : Type 1} → statement M

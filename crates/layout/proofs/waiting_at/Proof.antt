@@ -3,7 +3,7 @@ use Prim.Native.Nat.{ℕ}
 use mathlib.Core.Path.{refl, ap, _∙_}
 use mathlib.Core.List.{List}
 use Rattle.octets.proofs.Lent.{lent}
-use Rattle.block.specs.Block.{waitingIn}
+use Rattle.block.specs.Block.{waitingIn, blockSize}
 use Rattle.layout.specs.Layout.{blockPlace, block}
 use Rattle.layout.proofs.waiting_at.Statement.{statement}
 use Rattle.layout.proofs.waiting_at.Tie as tie
@@ -37,7 +37,7 @@ unfolding block
 returns c =
     let c3 = c .before .before .before in (
       c .waiting-in .ensures .0 ∙ ap (λ (t : List ℕ). waitingIn t (c3 .args .a)) (lent (c3 .args .b .now) (blockPlace
-          (c3 .args .c)) 73345 refl),
+          (c3 .args .c)) blockSize refl),
       c .waiting-in .ensures .1,
     )
 

@@ -6,10 +6,10 @@ use native.Mathlib.Omega.{arith}
 use lib.Dec.{ltb, leb}
 use lib.ListN.{getD}
 use Rattle.octets.specs.Test.{both}
-use Rattle.octets.specs.Word.{words}
+use Rattle.octets.specs.Word.{words, wordSize}
 use Rattle.view.specs.Size.{limit}
 use Rattle.table.specs.Loop.{all}
-use Rattle.table.specs.Table.{at, heardWithin}
+use Rattle.table.specs.Table.{at, heardWithin, cells}
 use Rattle.table.proofs.Laws.{all-none, all-more}
 use Rattle.region.specs.Record.{heardPlace}
 use Rattle.block.proofs.Judged.{cell-within}
@@ -17,10 +17,10 @@ use Rattle.block.proofs.judge.heard_sound.Statement.{statement}
 use Rattle.block.proofs.judge.heard_sound.Tie as tie
 
 abbrev Inv-loop : tie.InvT-loop
-Inv-loop r ok₀ k₀ ok k = (k ≤ 256) × (ok ≡ all k (λ (i : ℕ). leb (at (words 256 r heardPlace) i) limit))
+Inv-loop r ok₀ k₀ ok k = (k ≤ cells) × (ok ≡ all k (λ (i : ℕ). leb (at (words cells r heardPlace) i) limit))
 
 abbrev μ-loop : tie.MeasureT-loop
-μ-loop r ok₀ k₀ ok k = 256 - k
+μ-loop r ok₀ k₀ ok k = cells - k
 
 loop-holds : tie.Need-loop-holds Inv-loop μ-loop
 loop-holds c = (search needs, sym (all-none _))
@@ -29,18 +29,19 @@ loop-again : tie.Need-loop-again Inv-loop μ-loop
 loop-again c =
     let r = c .before .before .before .before .before .args .r .now in
     let k = c .before .before .before .loop .k in
-    let e : 88 + 8 * (k + 1) ≡ 96 + 8 * k = omega arith in (
+    let e : heardPlace - wordSize + wordSize * (k + 1) ≡ heardPlace + wordSize * k = omega arith in (
       search needs,
       c .and .ensures
           ∙ ap₂ both (ap (λ (j : ℕ). ltb (getD r j 0) 128) e
-          ∙ cell-within r 256 96 k (λ i. c .before .before .before .before .shared-slice-known .given i .fits) (omega arith)
+          ∙ cell-within r cells heardPlace k (λ i. c .before .before .before .before .shared-slice-known .given i .fits)
+          (omega arith)
           (c .before .before .loop-test .taken)) (c .before .before .before .loop .inv .1)
-          ∙ sym (all-more k (λ (i : ℕ). leb (at (words 256 r heardPlace) i) limit)),
+          ∙ sym (all-more k (λ (i : ℕ). leb (at (words cells r heardPlace) i) limit)),
     )
 
 returns : tie.Need-returns Inv-loop μ-loop
 unfolding heardWithin
-returns c = let e : c .before .loop .k ≡ 256 = omega arith in rw e at (c .before .loop .inv .1)
+returns c = let e : c .before .loop .k ≡ cells = omega arith in rw e at (c .before .loop .inv .1)
 
 pub heard-sound-spec : {M : Type 1} → statement M
 heard-sound-spec =

@@ -6,7 +6,7 @@ use Prim.Native.Nat.{ℕ, _-_}
 use lib.Dec.{leb}
 use borrow.Author.Tests.{le-leb, lt-leb}
 use Rattle.table.specs.Table.{tagOf}
-use Rattle.region.specs.Record.{viewIn}
+use Rattle.region.specs.Record.{viewIn, lastIn}
 use Rattle.handlers.proofs.Sections.{newest-read}
 use Rattle.handlers.proofs.tables.newest_at.Statement.{statement}
 use Rattle.handlers.proofs.tables.newest_at.Tie as tie
@@ -17,7 +17,7 @@ returns c =
     let a = s .args in
     let r = a .r .now in
     let known = c .before .before .shared-slice-known .given in
-    let e : leb (tagOf (viewIn r 0) (a .w)) (a .t) ≡ true =
+    let e : leb (tagOf (viewIn r lastIn) (a .w)) (a .t) ≡ true =
     ap (λ (x : ℕ). leb x (a .t)) (sym (c .before .tag-in .ensures)) ∙ le-leb _ _ (c .if1 .taken) in (
       search needs,
       newest-read r (a .t) (a .w) (λ i. known i .fits) (s .pre .0) (s .pre .1) (s .pre .2) true e,
@@ -29,7 +29,7 @@ returns-2 c =
     let a = s .args in
     let r = a .r .now in
     let known = c .before .before .shared-slice-known .given in
-    let e : leb (tagOf (viewIn r 0) (a .w)) (a .t) ≡ false =
+    let e : leb (tagOf (viewIn r lastIn) (a .w)) (a .t) ≡ false =
     ap (λ (x : ℕ). leb x (a .t)) (sym (c .before .tag-in .ensures)) ∙ lt-leb _ _ (c .if1 .left) in (
       search needs,
       newest-read r (a .t) (a .w) (λ i. known i .fits) (s .pre .0) (s .pre .1) (s .pre .2) false e,

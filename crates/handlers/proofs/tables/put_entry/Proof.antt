@@ -5,6 +5,7 @@ use Prim.Native.Nat.{_+_, _-_}
 use native.Mathlib.Omega.{arith}
 use Rattle.octets.specs.Bytes.{be, put}
 use Rattle.octets.proofs.Put.{put-then}
+use Rattle.view.specs.Size.{tagSize}
 use Rattle.view.specs.Report.{reportBytes}
 use Rattle.handlers.specs.Handled.{entryPlace}
 use Rattle.handlers.proofs.tables.put_entry.Statement.{statement}
@@ -17,8 +18,9 @@ returns c =
     let c11 = c8 .before .before .before in
     let a = c11 .args in
     let at = entryPlace (a .i) (a .w) in
-    put-then (a .r .now) at (be 8 (a .t)) (reportBytes (a .p)) (at + 8) (omega arith) refl (c8 .put-word .ensures)
-    (c .before .before .put-bytes .ensures ∙ ap (put _ (at + 8)) (c5 .report-bytes .ensures))
+    put-then (a .r .now) at (be tagSize (a .t)) (reportBytes (a .p)) (at + tagSize) (omega arith) refl
+    (c8 .put-word .ensures)
+    (c .before .before .put-bytes .ensures ∙ ap (put _ (at + tagSize)) (c5 .report-bytes .ensures))
 
 pub put-entry-spec : {M : Type 1} → statement M
 put-entry-spec =

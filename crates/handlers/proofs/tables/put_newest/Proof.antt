@@ -10,20 +10,21 @@ use Rattle.octets.specs.Loop.{join}
 use Rattle.octets.proofs.Put.{put-nil, put-then, put-over}
 use Rattle.octets.proofs.Lent.{lent}
 use Rattle.octets.proofs.Table.{join-none, join-more, length-join}
-use Rattle.region.specs.Record.{viewIn}
+use Rattle.view.specs.Size.{nodes, entrySize}
+use Rattle.region.specs.Record.{viewIn, lastIn, atmaxIn}
 use Rattle.handlers.specs.Handled.{newestEntry}
 use Rattle.handlers.proofs.Sections.{newest-bytes}
 use Rattle.handlers.proofs.tables.put_newest.Statement.{statement}
 use Rattle.handlers.proofs.tables.put_newest.Tie as tie
 
 abbrev entry : List ℕ → ℕ → ℕ → List ℕ
-entry r t i = newestEntry t (viewIn r 0) (viewIn r 1) (i + 1)
+entry r t i = newestEntry t (viewIn r lastIn) (viewIn r atmaxIn) (i + 1)
 
 abbrev Inv-loop : tie.InvT-loop
-Inv-loop r t out₀ i₀ out i = (i ≤ 16) × (out ≡ put out₀ 0 (join i (entry r t))) × (length out ≡ length out₀)
+Inv-loop r t out₀ i₀ out i = (i ≤ nodes) × (out ≡ put out₀ 0 (join i (entry r t))) × (length out ≡ length out₀)
 
 abbrev μ-loop : tie.MeasureT-loop
-μ-loop r t out₀ i₀ out i = 16 - i
+μ-loop r t out₀ i₀ out i = nodes - i
 
 loop-holds : tie.Need-loop-holds Inv-loop μ-loop
 loop-holds c =
@@ -42,10 +43,11 @@ loop-again c =
     let a = c .before .before .before .before .before .before .before .before .before .before .args in
     let i = loop .i in
     let f = entry (a .r .now) (a .t) in
-    let l : length (join i f) ≡ 16 * i = length-join i 16 f (λ j. refl) in
-    let e = put-bytes .ensures ∙ ap (put (loop .out) (16 * i)) (lent (a .r .now) _ 16 refl ∙ at .ensures .1) in (
+    let l : length (join i f) ≡ entrySize * i = length-join i entrySize f (λ j. refl) in
+    let e = put-bytes .ensures ∙ ap (put (loop .out) (entrySize * i)) (lent (a .r .now) _ entrySize refl
+    ∙ at .ensures .1) in (
       search needs,
-      put-then (a .out .now) 0 (join i f) (f i) (16 * i) (omega arith) (omega arith) (loop .inv .1) e
+      put-then (a .out .now) 0 (join i f) (f i) (entrySize * i) (omega arith) (omega arith) (loop .inv .1) e
           ∙ ap (put (a .out .now) 0) (sym (join-more i f)),
       put-bytes .kept .0 ∙ loop .inv .2,
     )
@@ -57,10 +59,10 @@ returns c =
     let a = s .args in
     let r = a .r .now in
     let f = entry r (a .t) in
-    let e : loop .i ≡ 16 = omega arith in
+    let e : loop .i ≡ nodes = omega arith in
     loop .inv .1 ∙ ap (λ (k : ℕ). put (a .out .now) 0 (join k f)) e
-    ∙ put-over (a .out .now) (join 16 f) (length-join 16 16 f (λ j. refl) ∙ sym (s .pre .1))
-    ∙ newest-bytes (a .t) (viewIn r 0) (viewIn r 1)
+    ∙ put-over (a .out .now) (join nodes f) (length-join nodes entrySize f (λ j. refl) ∙ sym (s .pre .1))
+    ∙ newest-bytes (a .t) (viewIn r lastIn) (viewIn r atmaxIn)
 
 pub put-newest-spec : {M : Type 1} → statement M
 put-newest-spec =

@@ -4,15 +4,17 @@ use mathlib.Core.Path.{_≡_, sym, _∙_}
 use Prim.Native.Nat.{_-_, _≤_}
 use native.Mathlib.Omega.{arith}
 use Rattle.octets.specs.Word.{words}
+use Rattle.table.specs.Table.{cells}
 use Rattle.table.specs.Loop.{count}
 use Rattle.table.specs.Quorum.{agrees, agreeing}
 use Rattle.table.proofs.Laws.{count-none, count-more}
-use Rattle.region.specs.Record.{heardPlace, viewIn}
+use Rattle.region.specs.Record.{heardPlace, viewIn, atroundIn}
 use Rattle.moves.proofs.agree.agreeing_in.Statement.{statement}
 use Rattle.moves.proofs.agree.agreeing_in.Tie as tie
 
 abbrev Inv-loop : tie.InvT-loop
-Inv-loop r n own k₀ s₀ k s = (s ≤ n) × (k ≤ s) × (k ≡ count s (agrees n own (words 256 r heardPlace) (viewIn r 2 .tags)))
+Inv-loop r n own k₀ s₀ k s = (s ≤ n) × (k ≤ s)
+    × (k ≡ count s (agrees n own (words cells r heardPlace) (viewIn r atroundIn .tags)))
 
 abbrev μ-loop : tie.MeasureT-loop
 μ-loop r n own k₀ s₀ k s = n - s

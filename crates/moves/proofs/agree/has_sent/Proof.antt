@@ -6,15 +6,15 @@ use native.Mathlib.Omega.{arith}
 use lib.Dec.{leb}
 use Rattle.octets.specs.Word.{words}
 use Rattle.table.specs.Loop.{all}
-use Rattle.table.specs.Table.{tagOf, heardOf}
+use Rattle.table.specs.Table.{tagOf, heardOf, cells}
 use Rattle.table.proofs.Laws.{all-none, all-more}
-use Rattle.region.specs.Record.{heardPlace, viewIn}
+use Rattle.region.specs.Record.{heardPlace, viewIn, atroundIn}
 use Rattle.moves.proofs.agree.has_sent.Statement.{statement}
 use Rattle.moves.proofs.agree.has_sent.Tie as tie
 
 abbrev Inv-loop : tie.InvT-loop
 Inv-loop r n s ok₀ w₀ ok w =
-    (w ≤ n) × (ok ≡ all w (λ (i : ℕ). leb (tagOf (viewIn r 2) i) (heardOf (words 256 r heardPlace) s i)))
+    (w ≤ n) × (ok ≡ all w (λ (i : ℕ). leb (tagOf (viewIn r atroundIn) i) (heardOf (words cells r heardPlace) s i)))
 
 abbrev μ-loop : tie.MeasureT-loop
 μ-loop r n s ok₀ w₀ ok w = n - w

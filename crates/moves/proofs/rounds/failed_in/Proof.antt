@@ -5,8 +5,9 @@ use Prim.Native.Nat.{ℕ, _+_}
 use mathlib.Core.Bool.{true, false}
 use lib.Dec.{leb}
 use borrow.Author.Tests.{lt-ltb, le-ltb, le-leb, lt-leb}
+use Rattle.octets.specs.Word.{word}
 use Rattle.step.specs.Move.{opened}
-use Rattle.region.specs.Record.{scalar, recordOf, recordBytes}
+use Rattle.region.specs.Record.{recordOf, recordBytes, keptPlace}
 use Rattle.moves.proofs.Turned.{is-step, failed-open, failed-lend, failed-wait}
 use Rattle.moves.proofs.rounds.failed_in.Statement.{statement}
 use Rattle.moves.proofs.rounds.failed_in.Tie as tie
@@ -35,7 +36,7 @@ returns-2 c =
     let third = c .before .before .before .before .before .before .before .if1 .left in
     let kept = c .before .before .before .before .before .get-word2 .ensures in
     let above = c .before .before .before .before .if2 .taken in
-    let can : leb (a .t) (scalar (a .r .now) 4) ≡ true = sym (ap (leb (a .t)) kept) ∙ le-leb _ _ above in
+    let can : leb (a .t) (word (a .r .now) keptPlace) ≡ true = sym (ap (leb (a .t)) kept) ∙ le-leb _ _ above in
     let lent = c .before .before .lend-in .ensures in
     is-step (failed-lend (recordOf (a .r .now)) (a .to) (a .sent) (a .k) (a .i) (a .t) (le-ltb _ _ third) can)
     (lent .0) (lent .1)
@@ -47,7 +48,7 @@ returns-3 c =
     let third = c .before .before .before .before .before .before .before .before .if1 .left in
     let kept = c .before .before .before .before .before .before .get-word2 .ensures in
     let below = c .before .before .before .before .before .if2 .left in
-    let cannot : leb (a .t) (scalar (a .r .now) 4) ≡ false = sym (ap (leb (a .t)) kept) ∙ lt-leb _ _ below in
+    let cannot : leb (a .t) (word (a .r .now) keptPlace) ≡ false = sym (ap (leb (a .t)) kept) ∙ lt-leb _ _ below in
     let bytes = c .before .before .before .close-in .ensures in
     is-step (failed-wait (recordOf (a .r .now)) (a .to) (a .sent) (a .k) (a .i) (a .t) (le-ltb _ _ third) cannot)
     (c .rested .ensures) bytes

@@ -4,7 +4,7 @@ use mathlib.Core.Path.{ap, _∙_}
 use Prim.Native.Nat.{ℕ}
 use borrow.Author.Tests.{eq-eqb, ne-eqb}
 use Rattle.step.specs.Move.{opened}
-use Rattle.region.specs.Record.{recordOf, recordBytes}
+use Rattle.region.specs.Record.{recordOf, recordBytes, atroundIn}
 use Rattle.moves.proofs.Turned.{is-step, places-of, good-open, good-end}
 use Rattle.moves.proofs.rounds.good_in.Statement.{statement}
 use Rattle.moves.proofs.rounds.good_in.Tie as tie
@@ -21,7 +21,7 @@ returns c =
     let d = recordOf (a .r .now) in
     let zero = start .if1 .taken in
     let p = start .before .before .before .before .pre in
-    let held = start .before .load-view .ensures ∙ places-of (a .r .now) 2 (p .1) in
+    let held = start .before .load-view .ensures ∙ places-of (a .r .now) atroundIn (p .1) in
     let next = c .before .before .before .before .before .before .before .before .next-in .ensures in
     let request = c .before .before .before .before .before .before .get-word .ensures in
     let bytes = c .before .before .before .before .open-in .ensures in
@@ -36,7 +36,7 @@ returns-2 c =
     let nonzero = c .before .before .before .before .before .before .if1 .left in
     let p = c .before .before .before .before .before .before .before .before .before .before .pre in
     let held = c .before .before .before .before .before .before .before .load-view .ensures
-    ∙ places-of (a .r .now) 2 (p .1) in
+    ∙ places-of (a .r .now) atroundIn (p .1) in
     is-step (good-end (recordOf (a .r .now)) (a .to) (a .sent) (a .k) (a .i) (a .t) (ne-eqb _ _ nonzero))
     (simp (c .effect-of2 .ensures, c .before .ending-of .ensures, held)) (c .before .before .before .before .close-in .ensures)
 

@@ -1,7 +1,7 @@
 -- `moves::rounds::lend_in` meets its contract.
 use borrow.Author.Needs.{needs}
 use mathlib.Core.Path.{_∙_}
-use Rattle.region.specs.Record.{recordOf}
+use Rattle.region.specs.Record.{recordOf, keptIn}
 use Rattle.moves.proofs.Turned.{places-of}
 use Rattle.moves.proofs.rounds.lend_in.Statement.{statement}
 use Rattle.moves.proofs.rounds.lend_in.Tie as tie
@@ -11,7 +11,7 @@ unfolding recordOf
 returns c =
     let c7 = c .before .before .before .before .before .before .before in
     let start = c7 .before .before .before in
-    let view = c7 .load-view .ensures ∙ places-of (start .args .r .now) 3 (start .pre .1) in
+    let view = c7 .load-view .ensures ∙ places-of (start .args .r .now) keptIn (start .pre .1) in
     let bytes = c .before .before .before .before .before .close-in .ensures in
     (simp (c .effect-of .ensures, c .before .before .absent .ensures, c .before .ending-of .ensures, view), bytes)
 

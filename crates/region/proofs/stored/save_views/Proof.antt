@@ -38,11 +38,18 @@ returns c =
     let q = viewBytes nodes (c17 .args .c .atmax) in
     let r = viewBytes nodes (c17 .args .c .atround) in
     let s = viewBytes nodes (c17 .args .c .keptview) in
-    let one : viewPlace lastIn + length p ≡ viewPlace atmaxIn = omega (arith, length-viewBytes nodes
-    (c17 .args .c .last)) in
+    let one : viewPlace lastIn + length p ≡ viewPlace atmaxIn = omega (
+      arith,
+      length-viewBytes nodes
+          (c17 .args .c .last),
+    ) in
     let two : viewPlace lastIn + length (p ++ q) ≡ viewPlace atroundIn =
-    simp length-append (omega (arith, length-viewBytes nodes (c17 .args .c .last), length-viewBytes nodes
-    (c17 .args .c .atmax))) in
+    simp length-append (omega (
+      arith,
+      length-viewBytes nodes (c17 .args .c .last),
+      length-viewBytes nodes
+          (c17 .args .c .atmax),
+    )) in
     let three : viewPlace lastIn + length (p ++ q ++ r) ≡ viewPlace keptIn = simp length-append (omega (
       arith,
       length-viewBytes nodes
