@@ -1,8 +1,8 @@
 // What a step lets out: the slot of each message, and how many entries go to a node.
-use step::Outbox;
-use step::Sent;
 use octets::least;
 use region::places::SLOT;
+use step::Outbox;
+use step::Sent;
 use view::ENTRY;
 use view::VIEW;
 use view::View;

@@ -103,11 +103,13 @@ module _ (n f : ℕ) (room : ℕ → Bool) (half : f + f < n) where
       (ap (λ ν. ν c) (sym (g .same))) (
         record {
           sent = λ v m. from-writer v (held v m);
-          earlier = λ u v m out up. all-closed n f (logs (g .sites)) (λ k. g .inv k .due) (g .inv c) m (out-sent es u out) up;
+          earlier = λ u v m out up. all-closed n f (logs (g .sites)) (λ k. g .inv k .due) (g .inv c) m
+              (out-sent es u out) up;
         },
         λ k. record {
           sent = λ v m. from-writer v (held v (g .orderly .bounded c .known k v m));
-          earlier = λ u v m out up. from-closed n f (logs (g .sites)) (λ k. g .inv k .due) (g .inv c) k m (out-sent es u out) up;
+          earlier = λ u v m out up. from-closed n f (logs (g .sites)) (λ k. g .inv k .due) (g .inv c) k m
+              (out-sent es u out) up;
         },
       )
     where

@@ -144,7 +144,8 @@ module _ {nodes : ℕ → Node} {tr : Trace} (O : Origin nodes tr) (o : Seen) wh
 kept : (n f : ℕ) (σ : Cluster) (tr : Trace) (e : Event) (h : Happened n f σ e) → Linked n f σ tr → Origin (σ .nodes) tr
     → Origin (outcome h .cluster .nodes) (tr ++ (seen e (outcome h) ∷ []))
 unfolding entries
-kept n f σ tr e (refusal k) L O = subst (λ z. Origin z (tr ++ (seen e (refuse k σ) ∷ []))) (upd-self (σ .nodes) (handler e))
+kept n f σ tr e (refusal k) L O = subst (λ z. Origin z (tr ++ (seen e (refuse k σ) ∷ [])))
+    (upd-self (σ .nodes) (handler e))
     (acted O (seen e (refuse k σ)) n whole [] (σ .nodes (handler e)) refl (O .held (handler e)) (λ v m. elim m [ ]))
 kept n f σ tr e (began {c} {op} {x} h i r) L O =
     let step = beginStep n f c op (σ .nodes c) in

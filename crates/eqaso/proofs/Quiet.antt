@@ -20,7 +20,8 @@ use Rattle.eqaso.proofs.Empty.{all-idle}
 
 -- No operation of a node is unfinished, if the node is idle.
 closed : {n f : ℕ} {σ : Cluster} {tr : Trace} → f + f < n → Linked n f σ tr → Good n f σ tr
-    → NothingWaits n tr → (t c : ℕ) → OneTo n c → At (bookOf tr .begun t) c → stopped tr c ≡ false → ¬ (bookOf tr .fate t ≡ unfinished)
+    → NothingWaits n tr → (t c : ℕ) → OneTo n c → At (bookOf tr .begun t) c → stopped tr c ≡ false
+    → ¬ (bookOf tr .fate t ≡ unfinished)
 closed {n} {f} {σ} {tr} half L g empty t c one at up =
     mode-rests n f (bookOf tr) c _ _ _ (g .sites c .node .wait) (subst Rests (sym still) tt) .0
     (g .history .modes c stands) t at

@@ -53,11 +53,13 @@ session = (begin 1 (update 7) whole ∷ replicate 11 (hand 1 1)) ++ (begin 1 sca
 session-told : told 1 (trace 1 0 sixteen session) ≡
     at 11 (accepted (done (direct round1) (entry 1 7 ∷ []))) ∷ at 17 (accepted (shown (direct round1) (entry 1 7 ∷ [])))
     ∷ at 19 (refused 8) ∷ []
-unfolding traceFrom event roomy sentTo entries moveOn kept table newest within has limit same upd upd2 count ℕ-discrete decLe decLt decide told
+unfolding traceFrom event roomy sentTo entries moveOn kept table newest within has limit same upd upd2 count ℕ-discrete
+    decLe decLt decide told
 session-told = refl
 
 session-sends : length (letOut (trace 1 0 sixteen (begin 1 (update 7) whole ∷ replicate 11 (hand 1 1)))) ≡ 11
-unfolding traceFrom event roomy sentTo entries moveOn kept table newest within has limit same upd upd2 count ℕ-discrete decLe decLt decide letOut
+unfolding traceFrom event roomy sentTo entries moveOn kept table newest within has limit same upd upd2 count ℕ-discrete
+    decLe decLt decide letOut
 session-sends = refl
 
 -- Two nodes: the scan of node 1 fails three rounds beside updates of node 2, and borrows the view of one of them.
@@ -79,7 +81,8 @@ borrowing-told : told 1 (trace 2 0 sixteen borrowing) ≡
     at 29 (accepted (done (direct round1) (absent ∷ entry 1 1 ∷ [])))
     ∷ at 60 (accepted (done (direct round1) (absent ∷ entry 2 2 ∷ [])))
     ∷ at 89 (accepted (shown borrowed (absent ∷ entry 2 2 ∷ []))) ∷ []
-unfolding traceFrom event roomy sentTo entries moveOn kept table newest within has limit same upd upd2 count ℕ-discrete decLe decLt decide told
+unfolding traceFrom event roomy sentTo entries moveOn kept table newest within has limit same upd upd2 count ℕ-discrete
+    decLe decLt decide told
 borrowing-told = refl
 
 -- Five nodes: node 3 stops after one entry of its value, to node 1; nothing of it goes to the others.
@@ -92,7 +95,8 @@ cutting =
 cutting-told : told 1 (trace 5 2 sixteen cutting) ≡
     at 9 (refused 8) ∷ at 10 (refused 8) ∷ at 11 (refused 8) ∷ at 13 (refused 8) ∷ at 14 (refused 8) ∷
     at 16 (refused 8) ∷ at 17 (refused 8) ∷ at 18 (refused 4) ∷ []
-unfolding traceFrom event roomy sentTo entries moveOn kept table newest within has limit same upd upd2 count ℕ-discrete decLe decLt decide told
+unfolding traceFrom event roomy sentTo entries moveOn kept table newest within has limit same upd upd2 count ℕ-discrete
+    decLe decLt decide told
 cutting-told = refl
 
 -- Three nodes: node 3 stops after one entry of its value. Node 1 passes it on, and a scan shows it.
@@ -108,5 +112,6 @@ cut-but-shown =
 cut-but-shown-told : told 1 (trace 3 1 sixteen cut-but-shown) ≡
     at 29 (accepted (done (direct round1) (absent ∷ entry 1 2 ∷ entry 1 3 ∷ [])))
     ∷ at 43 (accepted (shown (direct round1) (absent ∷ entry 1 2 ∷ entry 1 3 ∷ []))) ∷ []
-unfolding traceFrom event roomy sentTo entries moveOn kept table newest within has limit same upd upd2 count ℕ-discrete decLe decLt decide told
+unfolding traceFrom event roomy sentTo entries moveOn kept table newest within has limit same upd upd2 count ℕ-discrete
+    decLe decLt decide told
 cut-but-shown-told = refl

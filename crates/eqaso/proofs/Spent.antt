@@ -54,10 +54,11 @@ module _ (n f i : ℕ) (came : Node) where
 spent-then : (n f i : ℕ) (s : Step) → s .ending ≡ none → ReadLast n f (s .node) (s .node .wait)
     → (moveOn n f i s .ending ≡ spent) × (moveOn n f i s .sent ≡ s .sent)
 unfolding moveOn
-spent-then n f i s goes-on last = subst (λ e. Ended (record { node = s .node; sent = s .sent; ending = e })) (sym goes-on) (
-  ap (λ t. rest t .ending) (read-spent (s .node) (s .node .wait) last),
-  ap (λ t. rest t .sent) (read-spent (s .node) (s .node .wait) last) ∙ append-nil (s .sent),
-)
+spent-then n f i s goes-on last = subst (λ e. Ended (record { node = s .node; sent = s .sent; ending = e }))
+    (sym goes-on) (
+      ap (λ t. rest t .ending) (read-spent (s .node) (s .node .wait) last),
+      ap (λ t. rest t .sent) (read-spent (s .node) (s .node .wait) last) ∙ append-nil (s .sent),
+    )
   where
     Ended : Step → Type 0
     Ended s = (moveOn n f i s .ending ≡ spent) × (moveOn n f i s .sent ≡ s .sent)

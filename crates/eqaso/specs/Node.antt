@@ -90,7 +90,8 @@ same-by a b (yes p) (yes q) (no r) = no λ e. r (ap (λ v. v .report) e)
 
 -- Whether two values are the same one.
 unfoldable pub same : (a b : Value) → Dec (a ≡ b)
-same a b = same-by a b (ℕ-discrete (a .tag) (b .tag)) (ℕ-discrete (a .writer) (b .writer)) (ℕ-discrete (a .report) (b .report))
+same a b = same-by a b (ℕ-discrete (a .tag) (b .tag)) (ℕ-discrete (a .writer) (b .writer))
+    (ℕ-discrete (a .report) (b .report))
 
 unfoldable pub has : List Value → Value → Bool
 has [] v = false

@@ -2,12 +2,6 @@
 // borrows. Each answers with what the step gives; `sent` went to node `to` before.
 use crate::Effect;
 use handlers::tables::newest_in;
-use step::Ending;
-use step::Outbox;
-use step::Rule;
-use step::Sent;
-use step::decide::ending_of;
-use step::decide::next_tag;
 use octets::fill;
 use octets::get_word;
 use octets::put_bytes;
@@ -26,6 +20,12 @@ use region::stored::load_view;
 use region::stored::save_head;
 use region::stored::with_request;
 use region::stored::with_wait;
+use step::Ending;
+use step::Outbox;
+use step::Rule;
+use step::Sent;
+use step::decide::ending_of;
+use step::decide::next_tag;
 use view::LIMIT;
 use view::VIEW;
 use view::View;

@@ -62,7 +62,8 @@ module _ (t : ℕ) (v : View) (h : within t v ≡ true) (i : ℕ) (l : i < nodes
       let e : entryOk t x p ≡ true = rw back at (within-at t v (i + 1) h (omega arith) (omega arith)) in
       none-is p (rw z at (both-right (leb x t) (either (leb 1 x) (isNone p)) e))
 
-pub lawful-allowed : (n : ℕ) (m : Message) (v : View) → n ≤ nodes → lawful n m v ≡ true → allowed n m (viewBytes n v) ≡ true
+pub lawful-allowed : (n : ℕ) (m : Message) (v : View) → n ≤ nodes → lawful n m v ≡ true → allowed n m (viewBytes n v)
+    ≡ true
 unfolding allowed
 lawful-allowed n (Read q) v l h = h
 lawful-allowed n (ReadAnswer q t) v l h = h
@@ -107,7 +108,8 @@ module _ (n t : ℕ) (b : List ℕ) (l : length b ≡ viewSize n) (h : viewOk n 
             (both-right (leb (tagAt b i) t) _ ok) in
             rw (
               z,
-              none-read (part b (entrySize * i + tagSize) reportSize) (length-part b (entrySize * i + tagSize) reportSize (omega arith))
+              none-read (part b (entrySize * i + tagSize) reportSize)
+                  (length-part b (entrySize * i + tagSize) reportSize (omega arith))
                   (eqb-true (reportWord b i) 0 e),
             ) refl
       ])
@@ -116,9 +118,11 @@ module _ (n t : ℕ) (b : List ℕ) (l : length b ≡ viewSize n) (h : viewOk n 
   unfolding viewOf
   within-read = within-all t (viewOf n b) (λ w lo hi. elim (decLe w n) [
     | yes k ↦ let i : w - 1 < n = omega arith in
-        rw (getD-padded n nodes (tagAt b) (w - 1) 0 i, getD-padded n nodes (reportAt b) (w - 1) noReport i) (entry-read (w - 1) i)
+        rw (getD-padded n nodes (tagAt b) (w - 1) 0 i, getD-padded n nodes (reportAt b) (w - 1) noReport i)
+        (entry-read (w - 1) i)
     | no k ↦ let i : n ≤ w - 1 = omega arith in
-        rw (getD-past n nodes (tagAt b) (w - 1) 0 i, getD-past n nodes (reportAt b) (w - 1) noReport i) (rw (leb·zero t) refl)
+        rw (getD-past n nodes (tagAt b) (w - 1) 0 i, getD-past n nodes (reportAt b) (w - 1) noReport i)
+        (rw (leb·zero t) refl)
   ])
 
 pub allowed-lawful : (n : ℕ) (m : Message) (b : List ℕ) → allowed n m b ≡ true → lawful n m (viewOf n b) ≡ true

@@ -11,7 +11,8 @@ use Rattle.record.specs.declared.Wait.the-variants.{Idle, Reading, Writing, Com
 use Rattle.step.specs.declared.Sent.the-variants.{Nothing}
 use Rattle.step.specs.declared.Step.{Step}
 use Rattle.step.specs.Claims.{MustWait}
-use Rattle.step.specs.Move.{opened, afterRead, readPass, writePass, afterGood, afterFailed, comparePass, borrowPass, reads, writes, compares, borrows, moveOn}
+use Rattle.step.specs.Move.{opened, afterRead, readPass, writePass, afterGood, afterFailed, comparePass}
+use Rattle.step.specs.Move.{borrowPass, reads, writes, compares, borrows, moveOn}
 use Rattle.step.proofs.Numbers.{on-pick}
 use Rattle.step.proofs.Waits.{no-quorum, waits-still}
 use Rattle.step.proofs.Lawful.{One-empty}
@@ -21,7 +22,8 @@ module _ (f : ℕ) (s : Step) where
   write-outbox : (w : Wait) → writePass f s (s .node) w .outbox ≡ s .outbox
   unfolding writePass
   write-outbox (Writing kd i r a) =
-      on-pick (λ (x : Step). x .outbox ≡ s .outbox) (isQuorum (s .node .n) f (size (s .node .n) a)) _ _ (λ e. refl) (λ e. refl)
+      on-pick (λ (x : Step). x .outbox ≡ s .outbox) (isQuorum (s .node .n) f (size (s .node .n) a)) _ _ (λ e. refl)
+      (λ e. refl)
   write-outbox Idle = refl
   write-outbox (Reading o a m) = refl
   write-outbox (Comparing kd i r) = refl
@@ -34,7 +36,8 @@ module _ (f : ℕ) (s : Step) where
   compare-front : (w : Wait) → Same-front (comparePass f s (s .node) w)
   unfolding comparePass afterGood afterFailed
   compare-front (Comparing kd i r) =
-      on-pick Same-front (isQuorum (s .node .n) f (agreeing (s .node .n) (s .node .own) (s .node .heard) (s .node .atround .tags))) _ _
+      on-pick Same-front (isQuorum (s .node .n) f (agreeing (s .node .n) (s .node .own) (s .node .heard)
+      (s .node .atround .tags))) _ _
       (λ e. on-pick Same-front (leb (s .node .maxtag) r) _ _
       (λ e. on-pick Same-front (eqb i 0) _ _ (λ e. (refl, refl)) (λ e. (refl, refl)))
       (λ e. on-pick Same-front (ltb i 3) _ _ (λ e. (refl, refl)) (λ e. (refl, refl))))
@@ -71,16 +74,19 @@ module _ (f : ℕ) (s : Step) where
   -- the read pass sends nothing, or the operation must wait
   abbrev Waits-or-silent : Step → Type 0
   Waits-or-silent x =
-      (x .outbox .reading ≡ s .outbox .reading) ⊎ ((MustWait f (x .node) (x .node .wait)) × (x .outbox .comparing ≡ s .outbox .comparing))
+      (x .outbox .reading ≡ s .outbox .reading) ⊎ ((MustWait f (x .node) (x .node .wait))
+      × (x .outbox .comparing ≡ s .outbox .comparing))
 
   read-waits : f < s .node .n → (w : Wait) → Waits-or-silent (readPass f s (s .node) w)
   unfolding readPass afterRead opened
   read-waits h (Reading (Update p) a m) =
       on-pick Waits-or-silent (isQuorum (s .node .n) f (size (s .node .n) a)) _ _
-      (λ e. on-pick Waits-or-silent (eqb (max m (s .node .maxtag)) limit) _ _ (λ e. inl refl) (λ e. inr (no-quorum (s .node .n) f h, refl)))
+      (λ e. on-pick Waits-or-silent (eqb (max m (s .node .maxtag)) limit) _ _ (λ e. inl refl)
+      (λ e. inr (no-quorum (s .node .n) f h, refl)))
       (λ e. inl refl)
   read-waits h (Reading Scan a m) =
-      on-pick Waits-or-silent (isQuorum (s .node .n) f (size (s .node .n) a)) _ _ (λ e. inr (no-quorum (s .node .n) f h, refl)) (λ e. inl refl)
+      on-pick Waits-or-silent (isQuorum (s .node .n) f (size (s .node .n) a)) _ _
+      (λ e. inr (no-quorum (s .node .n) f h, refl)) (λ e. inl refl)
   read-waits h Idle = inl refl
   read-waits h (Writing kd i r a) = inl refl
   read-waits h (Comparing kd i r) = inl refl

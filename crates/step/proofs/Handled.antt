@@ -51,7 +51,8 @@ raised-parts c t p h =
       max-ok =
           on-picks (λ (x : ℕ) (v : View). within x v ≡ true) (ltb (c .maxtag) t) t (c .maxtag)
           (newest t (c .last) (c .atmax)) (c .atmax)
-          (λ e. within-newest limit (c .maxtag) t (c .last) (c .atmax) (p .last-ok) (p .max-ok) (le-of-lt (ltb-true (c .maxtag) t e)))
+          (λ e. within-newest limit (c .maxtag) t (c .last) (c .atmax) (p .last-ok) (p .max-ok)
+          (le-of-lt (ltb-true (c .maxtag) t e)))
           (λ e. p .max-ok);
       round-ok = p .round-ok;
       kept-ok = p .kept-ok;
@@ -107,11 +108,13 @@ received-parts c s w t r p z a b l h =
           on-pick (λ (v : View). within limit v ≡ true) new (put (c .last) w t r) (c .last)
           (λ e. within-put (c .last) w t r a b limit (z .last) l h (p .last-ok)) (λ e. p .last-ok);
       max-ok =
-          on-pick (λ (v : View). within (c .maxtag) v ≡ true) (both new (leb t (c .maxtag))) (put (c .atmax) w t r) (c .atmax)
+          on-pick (λ (v : View). within (c .maxtag) v ≡ true) (both new (leb t (c .maxtag))) (put (c .atmax) w t r)
+          (c .atmax)
           (λ e. within-put (c .atmax) w t r a b (c .maxtag) (z .atmax) l
           (leb-true t (c .maxtag) (both-right new (leb t (c .maxtag)) e)) (p .max-ok)) (λ e. p .max-ok);
       round-ok =
-          on-pick (λ (v : View). within (roundTag (c .wait)) v ≡ true) (both new (roundHolds (c .wait) t)) (put (c .atround) w t r) (c .atround)
+          on-pick (λ (v : View). within (roundTag (c .wait)) v ≡ true) (both new (roundHolds (c .wait) t))
+          (put (c .atround) w t r) (c .atround)
           (λ e. within-put (c .atround) w t r a b (roundTag (c .wait)) (z .atround) l
           (holds-tag (c .wait) t (both-right new (roundHolds (c .wait) t) e)) (p .round-ok)) (λ e. p .round-ok);
       kept-ok = p .kept-ok;
@@ -155,7 +158,8 @@ write-wait-parts c s q t (Borrowing kd r) p l k = p
 tag-high : (q t : ℕ) → both (isRequest q) (isTag t) ≡ true → t ≤ limit
 tag-high q t h = leb-true t limit (both-right (isRequest q) (isTag t) h)
 
-pub react-parts : (c : Node) (s : ℕ) (m : Message) (v : View) → Parts c → Long c → 1 ≤ s → s ≤ c .n → lawful (c .n) m v ≡ true
+pub react-parts : (c : Node) (s : ℕ) (m : Message) (v : View) → Parts c → Long c → 1 ≤ s → s ≤ c .n → lawful (c .n) m v
+    ≡ true
     → Parts (react c s m v .node)
 unfolding react
 react-parts c s (Read q) v p z l k h = p
@@ -165,7 +169,8 @@ react-parts c s (WriteAnswer q t) v p z l k h = write-wait-parts c s q t (c .wai
 react-parts c s (Echo t) v p z l k h = raised-parts c t p (leb-true t limit (both-right (leb 1 t) (isTag t) h))
 react-parts c s (Value t w r) v p z l k h =
     let a : both (leb 1 t) (isTag t) ≡ true = both-left (both (leb 1 t) (isTag t)) (both (leb 1 w) (leb w (c .n))) h in
-    let b : both (leb 1 w) (leb w (c .n)) ≡ true = both-right (both (leb 1 t) (isTag t)) (both (leb 1 w) (leb w (c .n))) h in
+    let b : both (leb 1 w) (leb w (c .n)) ≡ true = both-right (both (leb 1 t) (isTag t)) (both (leb 1 w) (leb w (c .n)))
+    h in
     let x : w ≤ c .n = leb-true w (c .n) (both-right (leb 1 w) (leb w (c .n)) b) in
     let y : c .n ≤ nodes = p .n-high in
     received-parts c s w t r p z (leb-true 1 w (both-left (leb 1 w) (leb w (c .n)) b)) (omega arith)
@@ -186,7 +191,8 @@ uses-most : (o : Operation) → stillUses (Reading o 0 0) ≤ 4
 uses-most (Update r) = omega arith
 uses-most Scan = omega arith
 
-pub begun-parts : (c : Node) (o : Operation) → Parts c → isOpen (c .wait) ≡ false → full c ≡ false → Parts (begun c o .node)
+pub begun-parts : (c : Node) (o : Operation) → Parts c → isOpen (c .wait) ≡ false → full c ≡ false
+    → Parts (begun c o .node)
 unfolding begun
 begun-parts c o p e h =
     let five : 5 ≤ limit - c .request = ltb-false (limit - c .request) 5 h in

@@ -34,7 +34,8 @@ use Rattle.step.specs.Step.{listed, messages, started}
 use Rattle.step.specs.Allowed.{lawful}
 use Rattle.step.specs.Claims.{AllLawful, sizes, handlerMost, readingMost, comparingMost, stepMost}
 use Rattle.step.specs.React.{isNew, react}
-use Rattle.step.specs.Move.{afterRead, readPass, writePass, nextTag, heldView, afterGood, afterFailed, comparePass}
+use Rattle.step.specs.Move.{afterRead, readPass, writePass, nextTag, heldView, afterGood, afterFailed}
+use Rattle.step.specs.Move.{comparePass}
 use Rattle.step.specs.Move.{borrowPass, reads, writes, compares, borrows, moveOn, begun}
 use Rattle.step.proofs.Numbers.{max-most, on-pick}
 use Rattle.step.proofs.Safe.{reads-parts, writes-parts, next-high}
@@ -62,7 +63,8 @@ is-request q h = both-true (le-leb 1 (q + 1) (omega arith)) (le-leb (q + 1) limi
 write-lawful : (n : ℕ) (v : View) (q t : ℕ) → q + 1 ≤ limit → t ≤ limit → lawful n (Write (q + 1) t) v ≡ true
 write-lawful n v q t h k = both-true (is-request q h) (le-leb t limit k)
 
-one-write : (n : ℕ) (v : View) (q t b : ℕ) → q + 1 ≤ limit → t ≤ limit → twoSize ≤ b → Part n v b (One (Write (q + 1) t))
+one-write : (n : ℕ) (v : View) (q t b : ℕ) → q + 1 ≤ limit → t ≤ limit → twoSize ≤ b
+    → Part n v b (One (Write (q + 1) t))
 unfolding size
 one-write n v q t b h k l = record { lawful-all = (write-lawful n v q t h k, tt); small = omega arith }
 
@@ -71,7 +73,10 @@ one-write n v q t b h k l = record { lawful-all = (write-lawful n v q t h k, tt)
 module _ (c : Node) (s : ℕ) (v u : View) (p : Parts c) where
   handler-part : (m : Message) → lawful (c .n) m v ≡ true → Part (c .n) u handlerMost (react c s m v .outbox .handler)
   unfolding react size
-  handler-part (Read q) h = record { lawful-all = (both-true h (le-leb (c .maxtag) limit (p .max-high)), tt); small = omega arith }
+  handler-part (Read q) h = record {
+    lawful-all = (both-true h (le-leb (c .maxtag) limit (p .max-high)), tt);
+    small = omega arith;
+  }
   handler-part (ReadAnswer q t) h = nothing (c .n) u handlerMost
   handler-part (Write q t) h = on-pick (Part (c .n) u handlerMost) (ltb (c .maxtag) t) _ _
       (λ e. let l : c .maxtag < t = ltb-true (c .maxtag) t e in
@@ -88,7 +93,8 @@ module _ (c : Node) (s : ℕ) (v u : View) (p : Parts c) where
   handler-part (Good t) h = nothing (c .n) u handlerMost
 
 -- a handler's step has sent nothing else yet
-pub react-started : (c : Node) (s : ℕ) (m : Message) (v : View) → react c s m v ≡ started (react c s m v .node) s (react c s m v .outbox .handler)
+pub react-started : (c : Node) (s : ℕ) (m : Message) (v : View) → react c s m v
+    ≡ started (react c s m v .node) s (react c s m v .outbox .handler)
 unfolding react
 react-started c s (Read q) v = refl
 react-started c s (ReadAnswer q t) v = refl
@@ -99,9 +105,15 @@ react-started c s (Value t w r) v = refl
 react-started c s (Good t) v = refl
 
 started-sends : (n : ℕ) (c : Node) (s : ℕ) (m : Sent) → ((u : View) → Part n u handlerMost m) → Sends n (started c s m)
-started-sends n c s m h = record { handler = h; reading = λ u. nothing n u readingMost; comparing = nothing n noView (comparingMost n) }
+started-sends n c s m h = record {
+  handler = h;
+  reading = λ u. nothing n u readingMost;
+  comparing = nothing n noView
+      (comparingMost n);
+}
 
-pub react-sends : (c : Node) (s : ℕ) (m : Message) (v : View) → Parts c → lawful (c .n) m v ≡ true → Sends (c .n) (react c s m v)
+pub react-sends : (c : Node) (s : ℕ) (m : Message) (v : View) → Parts c → lawful (c .n) m v ≡ true
+    → Sends (c .n) (react c s m v)
 react-sends c s m v p h = rw (react-started c s m v)
     (started-sends (c .n) (react c s m v .node) s (react c s m v .outbox .handler) (λ u. handler-part c s v u p m h))
 
@@ -113,7 +125,8 @@ module _ (f : ℕ) (s : Step) (k : Sends (s .node .n) s) where
   read-sends (Reading (Update r) a m) p =
       let c = s .node in
       let t : ℕ = max m (c .maxtag) in
-      let l : t ≤ limit = max-most m (c .maxtag) limit (reading-ok (c .n) (Update r) a m (p .wait-ok) .1) (p .max-high) in
+      let l : t ≤ limit = max-most m (c .maxtag) limit (reading-ok (c .n) (Update r) a m (p .wait-ok) .1)
+      (p .max-high) in
       let four : 4 ≤ limit - c .request = p .enough in
       on-pick (Sends (c .n)) (isQuorum (c .n) f (setSize (c .n) a)) _ _
       (λ e. on-pick (Sends (c .n)) (eqb t limit) _ _
@@ -159,7 +172,8 @@ module _ (f : ℕ) (s : Step) (k : Sends (s .node .n) s) where
   write-sends (Comparing kd i r) = k
   write-sends (Borrowing kd r) = k
 
-  compare-sends : (w : Wait) → Parts (waiting (s .node) w) → Sends (s .node .n) (comparePass f s (waiting (s .node) w) w)
+  compare-sends : (w : Wait) → Parts (waiting (s .node) w) → Sends (s .node .n)
+      (comparePass f s (waiting (s .node) w) w)
   unfolding comparePass afterGood afterFailed size
   compare-sends (Comparing kd i r) p =
       let c = waiting (s .node) (Comparing kd i r) in
@@ -180,21 +194,28 @@ module _ (f : ℕ) (s : Step) (k : Sends (s .node .n) s) where
               lawful-all = (
                 good,
                 (
-                  write-lawful n (heldView c) (c .request) (nextTag (c .maxtag) 0 r) (omega arith) (next-high c 0 r p (rw zero at o)),
+                  write-lawful n (heldView c) (c .request) (nextTag (c .maxtag) 0 r) (omega arith)
+                      (next-high c 0 r p (rw zero at o)),
                   tt,
                 ),
               );
               small = omega arith;
             };
       })
-      (λ z. record { handler = k .handler; reading = k .reading; comparing = record { lawful-all = (good, tt); small = omega arith } }))
+      (λ z. record {
+        handler = k .handler;
+        reading = k .reading;
+        comparing = record
+            { lawful-all = (good, tt); small = omega arith };
+      }))
       (λ e. on-pick (Sends n) (ltb i 3) _ _
       (λ z. let below : i < 3 = ltb-true i 3 z in
       let left : 3 - i ≤ limit - c .request = p .enough in
       record {
         handler = k .handler;
         reading = k .reading;
-        comparing = one-write n _ (c .request) (nextTag (c .maxtag) i r) (comparingMost n) (omega arith) (next-high c i r p o) (omega arith);
+        comparing = one-write n _ (c .request) (nextTag (c .maxtag) i r) (comparingMost n) (omega arith)
+            (next-high c i r p o) (omega arith);
       })
       (λ z. record { handler = k .handler; reading = k .reading; comparing = nothing _ _ _ })))
       (λ e. k)
@@ -226,7 +247,8 @@ move-on-sends f s p k =
     let pa : Parts (a .node) = reads-parts f s p in
     let ka : Sends (a .node .n) a = subst (λ (n : ℕ). Sends n a) (sym ea) (read-sends f s k (s .node .wait) p) in
     let kb : Sends (b .node .n) b = subst (λ (n : ℕ). Sends n b) (sym eb) (write-sends f a ka (a .node .wait)) in
-    let kd : Sends (d .node .n) d = subst (λ (n : ℕ). Sends n d) (sym ed) (compare-sends f b kb (b .node .wait) (writes-parts f a pa)) in
+    let kd : Sends (d .node .n) d = subst (λ (n : ℕ). Sends n d) (sym ed)
+    (compare-sends f b kb (b .node .wait) (writes-parts f a pa)) in
     subst (λ (n : ℕ). Sends n (borrows d)) (ed ∙ eb ∙ ea) (borrow-sends f d kd (d .node .wait))
 
 pub begun-sends : (c : Node) (o : Operation) → c .request + 1 ≤ limit → Sends (c .n) (begun c o)
@@ -242,13 +264,15 @@ lawful-append n v (m ∷ a) b x y = (x .0, lawful-append n v a b (x .1) y)
 
 sizes-append : (n : ℕ) (a b : List Message) → sizes n (a ++ b) ≡ sizes n a + sizes n b
 sizes-append n [] b = omega arith
-sizes-append n (m ∷ a) b = ap (λ (x : ℕ). size n m + x) (sizes-append n a b) ∙ sym (add-assoc (size n m) (sizes n a) (sizes n b))
+sizes-append n (m ∷ a) b = ap (λ (x : ℕ). size n m + x) (sizes-append n a b)
+    ∙ sym (add-assoc (size n m) (sizes n a) (sizes n b))
 
 pub all-lawful : (n : ℕ) (s : Step) → Sends n s → AllLawful n (s .outbox .view) (messages (s .outbox))
 all-lawful n s k =
     let v = s .outbox .view in
     lawful-append n v (listed (s .outbox .handler) ++ listed (s .outbox .reading)) (listed (s .outbox .comparing))
-    (lawful-append n v (listed (s .outbox .handler)) (listed (s .outbox .reading)) (k .handler v .lawful-all) (k .reading v .lawful-all))
+    (lawful-append n v (listed (s .outbox .handler)) (listed (s .outbox .reading)) (k .handler v .lawful-all)
+    (k .reading v .lawful-all))
     (k .comparing .lawful-all)
 
 -- of the parts after the handler's one is empty

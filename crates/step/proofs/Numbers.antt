@@ -23,10 +23,12 @@ on-pick P true x y f g = f refl
 on-pick P false x y f g = g refl
 
 -- the writer that a value message names
-pub writer-in : (n : ℕ) (m : Message) (v : View) {t w : ℕ} {p : Report} → m ≡ Value t w p → lawful n m v ≡ true → (1 ≤ w) × (w ≤ n)
+pub writer-in : (n : ℕ) (m : Message) (v : View) {t w : ℕ} {p : Report} → m ≡ Value t w p → lawful n m v ≡ true
+    → (1 ≤ w) × (w ≤ n)
 writer-in n m v {t} {w} {p} e h =
     let k : both (leb 1 w) (leb w n) ≡ true =
-    both-right (both (leb 1 t) (leb t limit)) (both (leb 1 w) (leb w n)) (sym (ap (λ (x : Message). lawful n x v) e) ∙ h) in
+    both-right (both (leb 1 t) (leb t limit)) (both (leb 1 w) (leb w n))
+    (sym (ap (λ (x : Message). lawful n x v) e) ∙ h) in
     (leb-true 1 w (both-left (leb 1 w) (leb w n) k), leb-true w n (both-right (leb 1 w) (leb w n) k))
 
 pub on-picks : {X Y : Type 0} (P : X → Y → Type 0) (b : Bool) (x x′ : X) (y y′ : Y)

@@ -25,7 +25,8 @@ use Rattle.record.specs.declared.Wait.{Wait}
 use Rattle.record.specs.declared.Wait.the-variants.{Idle, Reading, Writing, Comparing, Borrowing}
 use Rattle.record.proofs.Parts.{Parts, Round, reading-ok, round-parts, round-of, writing-ok, writing-of}
 use Rattle.step.specs.declared.Step.{Step}
-use Rattle.step.specs.Move.{opened, afterRead, readPass, writePass, nextTag, afterGood, afterFailed, comparePass, borrowPass, reads, writes, compares, borrows, moveOn}
+use Rattle.step.specs.Move.{opened, afterRead, readPass, writePass, nextTag, afterGood, afterFailed, comparePass}
+use Rattle.step.specs.Move.{borrowPass, reads, writes, compares, borrows, moveOn}
 use Rattle.step.proofs.Numbers.{max-most, on-pick}
 
 -- a step whose record is usable
@@ -74,7 +75,12 @@ unfolding afterRead
 after-read-parts s c (Update q) a m r p h l e = on-pick Fit (eqb r limit) _ _
     (λ t. closed-parts c Idle p refl refl)
     (λ t. opened-parts c UpdateKind 0 r p h
-    (record { round = omega arith; tag = l; first = λ z. let d : r ≡ limit → ⊥ = eqb-false r limit t in lt-of-le-ne l d }) e)
+    (record {
+      round = omega arith;
+      tag = l;
+      first = λ z. let d : r ≡ limit
+          → ⊥ = eqb-false r limit t in lt-of-le-ne l d;
+    }) e)
 after-read-parts s c Scan a m r p h l e =
     opened-parts c ScanKind 1 r p h (record { round = omega arith; tag = l; first = λ z. absurd (omega arith) }) e
 
@@ -113,7 +119,8 @@ next-low c i r = on-pick (λ t. c .maxtag ≤ t) (eqb i 0) _ _ (λ t. le-max-rig
 
 pub next-high : (c : Node) (i r : ℕ) → Parts c → Round i r → nextTag (c .maxtag) i r ≤ limit
 next-high c i r p o = on-pick (λ t. t ≤ limit) (eqb i 0) _ _
-    (λ t. max-most (r + 1) (c .maxtag) limit (let l : r < limit = o .first (eqb-true i 0 t) in omega arith) (p .max-high))
+    (λ t. max-most (r + 1) (c .maxtag) limit (let l : r < limit = o .first (eqb-true i 0 t) in omega arith)
+    (p .max-high))
     (λ t. p .max-high)
 
 after-good-parts : (s : Step) (c : Node) (k : Kind) (i r : ℕ) → Parts c → Round i r → 3 - i ≤ limit - c .request
@@ -122,7 +129,8 @@ unfolding afterGood
 after-good-parts s c k i r p o e = on-pick Fit (eqb i 0) _ _
     (λ t. let z : i ≡ 0 = eqb-true i 0 t in
     opened-parts c k 1 (nextTag (c .maxtag) 0 r) p (next-low c 0 r)
-    (record { round = omega arith; tag = next-high c 0 r p (rw z at o); first = λ x. absurd (omega arith) }) (omega arith))
+    (record { round = omega arith; tag = next-high c 0 r p (rw z at o); first = λ x. absurd (omega arith) })
+    (omega arith))
     (λ t. closed-parts c Idle p refl refl)
 
 after-failed-parts : (s : Step) (c : Node) (k : Kind) (i r : ℕ) → Parts c → Round i r → 3 - i ≤ limit - c .request

@@ -16,11 +16,13 @@ use Rattle.record.specs.declared.Wait.{Wait}
 use Rattle.record.specs.declared.Wait.the-variants.{Idle, Reading, Writing, Comparing, Borrowing}
 use Rattle.step.specs.declared.Step.{Step}
 use Rattle.step.specs.React.{raised, received, keep, react}
-use Rattle.step.specs.Move.{opened, afterRead, readPass, writePass, afterGood, afterFailed, comparePass, borrowPass, reads, writes, compares, borrows, moveOn}
+use Rattle.step.specs.Move.{opened, afterRead, readPass, writePass, afterGood, afterFailed, comparePass}
+use Rattle.step.specs.Move.{borrowPass, reads, writes, compares, borrows, moveOn}
 use Rattle.step.proofs.Numbers.{on-pick}
 
 -- g is whatever is read of a record beside those three
-module _ {X : Type 0} (g : Node → X) (same : (c : Node) (q : ℕ) (w : Wait) (v : View) → g (setWait c q w v) ≡ g c) (f : ℕ) (s : Step) where
+module _ {X : Type 0} (g : Node → X) (same : (c : Node) (q : ℕ) (w : Wait) (v : View) → g (setWait c q w v) ≡ g c)
+    (f : ℕ) (s : Step) where
   abbrev Same : Step → Type 0
   Same x = g (x .node) ≡ g (s .node)
 
@@ -48,7 +50,8 @@ module _ {X : Type 0} (g : Node → X) (same : (c : Node) (q : ℕ) (w : Wait) (
   compare-keeps : (w : Wait) → Same (comparePass f s (s .node) w)
   unfolding comparePass afterGood afterFailed opened
   compare-keeps (Comparing kd i r) =
-      on-pick Same (isQuorum (s .node .n) f (agreeing (s .node .n) (s .node .own) (s .node .heard) (s .node .atround .tags))) _ _
+      on-pick Same (isQuorum (s .node .n) f (agreeing (s .node .n) (s .node .own) (s .node .heard)
+      (s .node .atround .tags))) _ _
       (λ e. on-pick Same (leb (s .node .maxtag) r) _ _
       (λ e. on-pick Same (eqb i 0) _ _ (λ e. same _ _ _ _) (λ e. same _ _ _ _))
       (λ e. on-pick Same (ltb i 3) _ _ (λ e. same _ _ _ _) (λ e. same _ _ _ _)))
@@ -88,7 +91,8 @@ module _ {X : Type 0} (g : Node → X) (same : (c : Node) (q : ℕ) (w : Wait) (
 
   -- so does a handler, of what its kind does not speak of
   pub react-keeps : (c : Node) (s : ℕ) (m : Message) (v : View)
-      → ((t : ℕ) → g (raised c t) ≡ g c) → ((w t : ℕ) (p : Report) → g (received c s w t p) ≡ g c) → ((t : ℕ) → g (keep c t v) ≡ g c)
+      → ((t : ℕ) → g (raised c t) ≡ g c) → ((w t : ℕ) (p : Report) → g (received c s w t p) ≡ g c)
+      → ((t : ℕ) → g (keep c t v) ≡ g c)
       → g (react c s m v .node) ≡ g c
   unfolding react
   react-keeps c s (Read q) v a b d = refl

@@ -21,7 +21,8 @@ use Rattle.step.specs.declared.Rule.the-variants.{Direct}
 use Rattle.step.specs.declared.Step.{Step}
 use Rattle.step.specs.Step.{messages}
 use Rattle.step.specs.React.{react, raised, received, keep}
-use Rattle.step.specs.Move.{messageStep, begun, beginStep, moveOn, readPass, writePass, comparePass, borrowPass, afterRead, afterGood, afterFailed, opened}
+use Rattle.step.specs.Move.{messageStep, begun, beginStep, moveOn, readPass, writePass, comparePass, borrowPass}
+use Rattle.step.specs.Move.{afterRead, afterGood, afterFailed, opened}
 
 -- a message on the node's channel to itself, with the view that a good one carries
 record Letter : Type 0 where
@@ -64,10 +65,13 @@ update : Step
 update = beginStep 0 (blank 1 1) (Update p)
 
 updated : deliver 12 (update .node) (letters update) ≡
-    quiet (ReadAnswer 1 0 ∷ []) ∷ quiet (Value 1 1 p ∷ Write 2 0 ∷ []) ∷ quiet (Value 1 1 p ∷ []) ∷ quiet (WriteAnswer 2 0 ∷ [])
+    quiet (ReadAnswer 1 0 ∷ []) ∷ quiet (Value 1 1 p ∷ Write 2 0 ∷ []) ∷ quiet (Value 1 1 p ∷ []) ∷ quiet
+    (WriteAnswer 2 0 ∷ [])
     ∷ quiet [] ∷ quiet (Good 0 ∷ Write 3 1 ∷ []) ∷ quiet [] ∷ quiet (Echo 1 ∷ WriteAnswer 3 1 ∷ []) ∷ quiet []
     ∷ record { sent = Good 1 ∷ []; ending = Done (Direct 1); view = put noView 1 1 p } ∷ quiet [] ∷ []
-unfolding deliver update p quiet messageStep begun beginStep moveOn readPass writePass comparePass borrowPass afterRead afterGood afterFailed opened react raised received keep all count tab newest member with size agrees agreeing firstOf Octets.tab
+unfolding deliver update p quiet messageStep begun beginStep moveOn readPass writePass comparePass borrowPass afterRead
+    afterGood afterFailed opened react raised received keep all count tab newest member with size agrees agreeing
+    firstOf Octets.tab
 updated = refl
 
 -- the scan after it
@@ -77,5 +81,7 @@ scan = beginStep 0 (last 11 (update .node) (letters update)) Scan
 scanned : deliver 6 (scan .node) (letters scan) ≡
     quiet (ReadAnswer 4 1 ∷ []) ∷ quiet (Write 5 1 ∷ []) ∷ quiet (WriteAnswer 5 1 ∷ [])
     ∷ record { sent = Good 1 ∷ []; ending = Scanned (Direct 1); view = put noView 1 1 p } ∷ quiet [] ∷ []
-unfolding deliver last scan update p quiet messageStep begun beginStep moveOn readPass writePass comparePass borrowPass afterRead afterGood afterFailed opened react raised received keep all count tab newest member with size agrees agreeing firstOf Octets.tab
+unfolding deliver last scan update p quiet messageStep begun beginStep moveOn readPass writePass comparePass borrowPass
+    afterRead afterGood afterFailed opened react raised received keep all count tab newest member with size agrees
+    agreeing firstOf Octets.tab
 scanned = refl

@@ -37,7 +37,8 @@ use Rattle.step.proofs.Shown.{move-on-shows}
 use Rattle.step.proofs.Handled.{react-parts, begun-parts}
 use Rattle.step.proofs.Same.{move-on-keeps, react-keeps}
 use Rattle.step.proofs.Waits.{must-wait, begin-asks}
-use Rattle.step.proofs.Lawful.{Sends, react-sends, react-started, begun-sends, move-on-sends, all-lawful, four-most, bytes-most}
+use Rattle.step.proofs.Lawful.{Sends, react-sends, react-started, begun-sends, move-on-sends, all-lawful}
+use Rattle.step.proofs.Lawful.{four-most, bytes-most}
 use Rattle.step.proofs.Exclusive.{one-empty, handler-first}
 
 react-n : (c : Node) (s : ℕ) (m : Message) (v : View) → react c s m v .node .n ≡ c .n
@@ -107,7 +108,8 @@ carried : (f : ℕ) (old : ℕ) (d : Step)
     → Echoed old (moveOn f d .node .maxtag) (messages (moveOn f d .outbox))
 carried f old d x =
     let o = moveOn f d .outbox in
-    let a : moveOn f d .node .maxtag ≡ d .node .maxtag = move-on-keeps (λ (c : Node). c .maxtag) (λ c q x u. refl) f d in
+    let a : moveOn f d .node .maxtag ≡ d .node .maxtag = move-on-keeps (λ (c : Node). c .maxtag) (λ c q x u. refl) f
+    d in
     subst (λ (n : ℕ). Echoed old n (messages o)) (sym a)
     (subst (λ (h : Sent). Echoed old (d .node .maxtag) (listed h ++ listed (o .reading) ++ listed (o .comparing)))
     (sym (handler-first f d)) (x (listed (o .reading)) (listed (o .comparing))))

@@ -17,7 +17,8 @@ use Rattle.record.specs.declared.Wait.the-variants.{Idle, Reading, Writing, Com
 use Rattle.step.specs.declared.Step.{Step}
 use Rattle.step.specs.Claims.{MustWait}
 use Rattle.step.specs.Step.{ended}
-use Rattle.step.specs.Move.{opened, afterRead, readPass, writePass, afterGood, afterFailed, comparePass, borrowPass, reads, writes, compares, borrows, moveOn, begun, beginStep}
+use Rattle.step.specs.Move.{opened, afterRead, readPass, writePass, afterGood, afterFailed, comparePass}
+use Rattle.step.specs.Move.{borrowPass, reads, writes, compares, borrows, moveOn, begun, beginStep}
 use Rattle.step.proofs.Numbers.{on-pick}
 use Rattle.step.proofs.Same.{reads-keep, writes-keep, compares-keep}
 
@@ -50,13 +51,15 @@ module _ (f : ℕ) (s : Step) (h : f < s .node .n) where
       (λ e. on-pick (At f 1) (eqb (max m (s .node .maxtag)) limit) _ _ (λ e. tt) (λ e l. no-quorum (s .node .n) f h))
       (λ e l. e)
   read-past (Reading Scan a m) =
-      on-pick (At f 1) (isQuorum (s .node .n) f (size (s .node .n) a)) _ _ (λ e l. no-quorum (s .node .n) f h) (λ e l. e)
+      on-pick (At f 1) (isQuorum (s .node .n) f (size (s .node .n) a)) _ _ (λ e l. no-quorum (s .node .n) f h)
+      (λ e l. e)
   read-past Idle = tt
   read-past (Writing kd i r a) = λ l. absurd (omega arith)
   read-past (Comparing kd i r) = λ l. absurd (omega arith)
   read-past (Borrowing kd r) = λ l. absurd (omega arith)
 
-  write-past : (w : Wait) → Past f 1 (waiting (s .node) w) w → At f 2 (writePass f (with-wait s w) (waiting (s .node) w) w)
+  write-past : (w : Wait) → Past f 1 (waiting (s .node) w) w
+      → At f 2 (writePass f (with-wait s w) (waiting (s .node) w) w)
   unfolding writePass
   write-past (Writing kd i r a) p =
       on-pick (At f 2) (isQuorum (s .node .n) f (size (s .node .n) a)) _ _ (λ e l. absurd (omega arith)) (λ e l. e)
@@ -65,10 +68,12 @@ module _ (f : ℕ) (s : Step) (h : f < s .node .n) where
   write-past (Comparing kd i r) p = λ l. absurd (omega arith)
   write-past (Borrowing kd r) p = λ l. absurd (omega arith)
 
-  compare-past : (w : Wait) → Past f 2 (waiting (s .node) w) w → At f 3 (comparePass f (with-wait s w) (waiting (s .node) w) w)
+  compare-past : (w : Wait) → Past f 2 (waiting (s .node) w) w
+      → At f 3 (comparePass f (with-wait s w) (waiting (s .node) w) w)
   unfolding comparePass afterGood afterFailed opened
   compare-past (Comparing kd i r) p =
-      on-pick (At f 3) (isQuorum (s .node .n) f (agreeing (s .node .n) (s .node .own) (s .node .heard) (s .node .atround .tags))) _ _
+      on-pick (At f 3) (isQuorum (s .node .n) f (agreeing (s .node .n) (s .node .own) (s .node .heard)
+      (s .node .atround .tags))) _ _
       (λ e. on-pick (At f 3) (leb (s .node .maxtag) r) _ _
       (λ e. on-pick (At f 3) (eqb i 0) _ _ (λ e l. no-quorum (s .node .n) f h) (λ e. tt))
       (λ e. on-pick (At f 3) (ltb i 3) _ _ (λ e l. no-quorum (s .node .n) f h) (λ e l. absurd (omega arith))))
@@ -78,7 +83,8 @@ module _ (f : ℕ) (s : Step) (h : f < s .node .n) where
   compare-past (Writing kd i r a) p = λ l. p (omega arith)
   compare-past (Borrowing kd r) p = λ l. absurd (omega arith)
 
-  borrow-past : (w : Wait) → Past f 3 (waiting (s .node) w) w → At f 4 (borrowPass (with-wait s w) (waiting (s .node) w) w)
+  borrow-past : (w : Wait) → Past f 3 (waiting (s .node) w) w
+      → At f 4 (borrowPass (with-wait s w) (waiting (s .node) w) w)
   unfolding borrowPass
   borrow-past (Borrowing kd r) p = on-pick (At f 4) (leb r (s .node .kept)) _ _ (λ e. tt) (λ e l. e)
   borrow-past Idle p = tt
@@ -110,7 +116,8 @@ must-wait f s h =
 
 -- where it must wait, no pass does anything
 pub waits-still : (f : ℕ) (s : Step) (w : Wait) → MustWait f (s .node) w
-    → (readPass f s (s .node) w ≡ s) × (writePass f s (s .node) w ≡ s) × (comparePass f s (s .node) w ≡ s) × (borrowPass s (s .node) w ≡ s)
+    → (readPass f s (s .node) w ≡ s) × (writePass f s (s .node) w ≡ s) × (comparePass f s (s .node) w ≡ s)
+    × (borrowPass s (s .node) w ≡ s)
 unfolding readPass writePass comparePass borrowPass
 waits-still f s Idle h = (refl, refl, refl, refl)
 waits-still f s (Reading o a m) h = (rw h, refl, refl, refl)

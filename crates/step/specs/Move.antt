@@ -76,13 +76,15 @@ lentView c = firstOf (c .n) (c .keptview)
 unfoldable pub afterGood : Step → Node → Kind → ℕ → ℕ → Step
 afterGood s c k i r =
     pick (eqb i 0)
-    (afterComparing s (opened c k 1 (nextTag (c .maxtag) 0 r)) (Two (Good r) (writing c (nextTag (c .maxtag) 0 r))) (heldView c))
+    (afterComparing s (opened c k 1 (nextTag (c .maxtag) 0 r)) (Two (Good r) (writing c (nextTag (c .maxtag) 0 r)))
+    (heldView c))
     (ended (afterComparing s c (One (Good r)) (heldView c)) (closed c Idle) (endingOf k (Direct i)) (heldView c))
 
 -- Line 21: a failed round. The next one opens, and after the third the operation borrows (lines 26 to 29).
 unfoldable pub afterFailed : Step → Node → Kind → ℕ → ℕ → Step
 afterFailed s c k i r =
-    pick (ltb i 3) (afterComparing s (opened c k (i + 1) (nextTag (c .maxtag) i r)) (One (writing c (nextTag (c .maxtag) i r))) noView)
+    pick (ltb i 3) (afterComparing s (opened c k (i + 1) (nextTag (c .maxtag) i r))
+    (One (writing c (nextTag (c .maxtag) i r))) noView)
     (afterComparing s (closed c (Borrowing k r)) Nothing noView)
 
 -- Lines 15 to 17: a quorum agrees; the round is good where maxtag has not passed its tag.

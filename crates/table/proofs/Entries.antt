@@ -19,13 +19,15 @@ use Rattle.view.specs.Size.{limit, nodes}
 use Rattle.view.specs.View.{noView, firstOf}
 use Rattle.view.proofs.First.{first-tag, first-report, first-absent}
 use Rattle.table.specs.Loop.{either, all}
-use Rattle.table.specs.Table.{at, tagOf, reportOf, put, newestTag, newestReport, newest, entryOk, entryWithin, within, heardWithin}
+use Rattle.table.specs.Table.{at, tagOf, reportOf, put, newestTag, newestReport, newest, entryOk, entryWithin}
+use Rattle.table.specs.Table.{within, heardWithin}
 use Rattle.table.specs.Table.{cells}
 use Rattle.table.proofs.Laws.{all-at, all-all, getD-tab}
 
 -- ---- the entries of a view by the newest reports
 
-pub newest-tag : (t : ℕ) (last held : View) (w : ℕ) → 1 ≤ w → w ≤ nodes → tagOf (newest t last held) w ≡ newestTag t last held w
+pub newest-tag : (t : ℕ) (last held : View) (w : ℕ) → 1 ≤ w → w ≤ nodes → tagOf (newest t last held) w
+    ≡ newestTag t last held w
 unfolding newest
 newest-tag t last held w l k = getD-tab nodes (newestTag t last held) w 0 l k
 
@@ -67,10 +69,12 @@ entry-up t u x p h e =
 -- the tag of an entry of such a view
 pub within-tag : (t : ℕ) (v : View) (w : ℕ) → within t v ≡ true → 1 ≤ w → w ≤ nodes → tagOf v w ≤ t
 within-tag t v w e l k =
-    leb-true (tagOf v w) t (both-left (leb (tagOf v w) t) (either (leb 1 (tagOf v w)) (isNone (reportOf v w))) (within-at t v w e l k))
+    leb-true (tagOf v w) t (both-left (leb (tagOf v w) t) (either (leb 1 (tagOf v w)) (isNone (reportOf v w)))
+    (within-at t v w e l k))
 
 -- of two entries that are fit for t, the chosen one
-entry-pick : (b : Bool) (t x y : ℕ) (p q : Report) → (b ≡ true → entryOk t x p ≡ true) → (b ≡ false → entryOk t y q ≡ true)
+entry-pick : (b : Bool) (t x y : ℕ) (p q : Report) → (b ≡ true → entryOk t x p ≡ true)
+    → (b ≡ false → entryOk t y q ≡ true)
     → entryOk t (pick b x y) (pick b p q) ≡ true
 entry-pick true t x y p q f g = f refl
 entry-pick false t x y p q f g = g refl
@@ -80,7 +84,8 @@ pub within-newest : (u m t : ℕ) (last held : View) → within u last ≡ true 
 within-newest u m t last held a b h = within-all t (newest t last held) (λ w l k.
     rw (newest-tag t last held w l k, newest-report t last held w l k)
     (entry-pick (leb (tagOf last w) t) t (tagOf last w) (tagOf held w) (reportOf last w) (reportOf held w)
-    (λ e. both-true e (both-right (leb (tagOf last w) u) (either (leb 1 (tagOf last w)) (isNone (reportOf last w))) (within-at u last w a l k)))
+    (λ e. both-true e (both-right (leb (tagOf last w) u) (either (leb 1 (tagOf last w)) (isNone (reportOf last w)))
+    (within-at u last w a l k)))
     (λ e. entry-up m t (tagOf held w) (reportOf held w) h (within-at m held w b l k))))
 
 -- ---- one entry stored

@@ -30,7 +30,8 @@ pub all-at : (n : ℕ) (p : ℕ → Bool) (w : ℕ) → all n p ≡ true → 1 �
 unfolding all
 all-at zero p w h l k = absurd (let e : 1 ≤ 0 = omega arith in not-suc-le-zero e)
 all-at (suc n) p w h l k =
-    upTo-suc k (λ e. ap p e ∙ both-left (p (suc n)) (all n p) h) (λ m. all-at n p w (both-right (p (suc n)) (all n p) h) l m)
+    upTo-suc k (λ e. ap p e ∙ both-left (p (suc n)) (all n p) h)
+    (λ m. all-at n p w (both-right (p (suc n)) (all n p) h) l m)
 
 pub all-all : (n : ℕ) (p : ℕ → Bool) → ((w : ℕ) → 1 ≤ w → w ≤ n → p w ≡ true) → all n p ≡ true
 unfolding all
@@ -64,7 +65,8 @@ unfolding tab
 getD-tab zero f w d l k = absurd (let e : 1 ≤ 0 = omega arith in not-suc-le-zero e)
 getD-tab (suc n) f w d l k =
     upTo-suc k
-    (λ e. getD-at (tab n f) (f (suc n)) [] d (w - 1) (length-tab n f ∙ let q : n ≡ w - 1 = omega arith in q) ∙ ap f (sym e))
+    (λ e. getD-at (tab n f) (f (suc n)) [] d (w - 1) (length-tab n f ∙ let q : n ≡ w - 1 = omega arith in q)
+    ∙ ap f (sym e))
     (λ m. let q : w - 1 < length (tab n f) = rw (length-tab n f) (omega arith) in
     List·getD-append (tab n f) (f (suc n) ∷ []) d (w - 1) q ∙ getD-tab n f w d l m)
 
@@ -74,7 +76,14 @@ pub filled {ℓ} : {X : Type ℓ} (k : ℕ) (f : ℕ → X) (l : List X) (b : Bo
     → pick b (set (tab k f ++ drop k l) (k + 1 - 1) x) (tab k f ++ drop k l) ≡ tab (k + 1) f ++ drop (k + 1) l
 filled k f l true x d h e =
     let back : k + 1 - 1 ≡ k = omega arith in
-    rw (back, drop-cons l k d, set-at (tab k f) (getD l k d) (drop (suc k) l) x k (length-tab k f), tab-more k f, e, add-one k)
+    rw (
+      back,
+      drop-cons l k d,
+      set-at (tab k f) (getD l k d) (drop (suc k) l) x k (length-tab k f),
+      tab-more k f,
+      e,
+      add-one k,
+    )
     (sym (append-snoc (tab k f) x (drop (suc k) l)))
 filled k f l false x d h e =
     let back : k + 1 - 1 ≡ k = omega arith in

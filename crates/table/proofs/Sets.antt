@@ -68,7 +68,8 @@ pub only-with : (n m s : ℕ) → 1 ≤ s → s ≤ n → only n (with m s) ≡ 
 unfolding only with
 only-with n m s a b =
     ap (λ (k : ℕ). eqb k 0)
-    (or-shr m (2 ^ (s - 1)) n ∙ ap (bitOr (m / 2 ^ n)) (bit-above (s - 1) n (let q : s - 1 < n = omega arith in q)) ∙ or-zero-r (m / 2 ^ n))
+    (or-shr m (2 ^ (s - 1)) n ∙ ap (bitOr (m / 2 ^ n)) (bit-above (s - 1) n (let q : s - 1 < n = omega arith in q))
+    ∙ or-zero-r (m / 2 ^ n))
 
 pub only-none : (n : ℕ) → only n 0 ≡ true
 unfolding only
@@ -98,7 +99,8 @@ pub count-same : (n : ℕ) (p q : ℕ → Bool) → ((w : ℕ) → 1 ≤ w → w
 unfolding count
 count-same zero p q h = refl
 count-same (suc k) p q h =
-    ap₂ (λ (b : Bool) (c : ℕ). pick b (c + 1) c) (h (suc k) (omega arith) (omega arith)) (count-same k p q (λ w l m. h w l (omega arith)))
+    ap₂ (λ (b : Bool) (c : ℕ). pick b (c + 1) c) (h (suc k) (omega arith) (omega arith))
+    (count-same k p q (λ w l m. h w l (omega arith)))
 
 -- a test that holds of s besides counts one more
 count-one-more : (n : ℕ) (p q : ℕ → Bool) (s : ℕ) → 1 ≤ s → s ≤ n → p s ≡ false → q s ≡ true

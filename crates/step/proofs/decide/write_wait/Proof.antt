@@ -28,7 +28,8 @@ returns-2 c =
     ))
 
 returns-3 : tie.Need-returns-3
-returns-3 c = rw (c .before .before .before .wait .given .1) (simp (eq-eqb _ _ (c .before .if1 .taken), ne-eqb _ _ (c .if2 .left)))
+returns-3 c = rw (c .before .before .before .wait .given .1)
+    (simp (eq-eqb _ _ (c .before .if1 .taken), ne-eqb _ _ (c .if2 .left)))
 
 returns-4 : tie.Need-returns-4
 returns-4 c = rw (c .enum-told .given .1)

@@ -19,10 +19,28 @@ loop-holds : tie.Need-loop-holds Inv-loop μ-loop
 loop-holds c = (search needs, search needs, sym (count-none _))
 
 loop-again : tie.Need-loop-again Inv-loop μ-loop
-loop-again c = (search needs, search needs, simp (count-more, sym (c .before .is-member .ensures) ∙ c .if1 .taken, c .before .before .before .loop .inv .2))
+loop-again c = (
+  search needs,
+  search needs,
+  simp (
+    count-more,
+    sym (c .before .is-member .ensures)
+        ∙ c .if1 .taken,
+    c .before .before .before .loop .inv .2,
+  ),
+)
 
 loop-again-2 : tie.Need-loop-again-2 Inv-loop μ-loop
-loop-again-2 c = (search needs, search needs, simp (count-more, sym (c .before .is-member .ensures) ∙ c .if1 .left, c .before .before .before .loop .inv .2))
+loop-again-2 c = (
+  search needs,
+  search needs,
+  simp (
+    count-more,
+    sym (c .before .is-member .ensures)
+        ∙ c .if1 .left,
+    c .before .before .before .loop .inv .2,
+  ),
+)
 
 returns : tie.Need-returns Inv-loop μ-loop
 unfolding size

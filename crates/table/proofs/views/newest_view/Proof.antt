@@ -16,7 +16,8 @@ use Rattle.table.proofs.views.newest_view.Statement.{statement}
 use Rattle.table.proofs.views.newest_view.Tie as tie
 
 abbrev Inv-loop : tie.InvT-loop
-Inv-loop t last v₀ w₀ v w = (w ≤ nodes) × (v .tags ≡ tab w (newestTag t last v₀) ++ drop w (v₀ .tags)) × (v .reports ≡ tab w (newestReport t last v₀) ++ drop w (v₀ .reports))
+Inv-loop t last v₀ w₀ v w = (w ≤ nodes) × (v .tags ≡ tab w (newestTag t last v₀) ++ drop w (v₀ .tags))
+    × (v .reports ≡ tab w (newestReport t last v₀) ++ drop w (v₀ .reports))
 
 abbrev μ-loop : tie.MeasureT-loop
 μ-loop t last v₀ w₀ v w = nodes - w
@@ -47,4 +48,5 @@ returns c = let a = c .before .before .args in let i = c .before .loop .inv in
 pub newest-view-spec : {M : Type 1} → statement M
 newest-view-spec =
     tie.close
-    (tie.spec Inv-loop μ-loop loop-holds (λ c. search needs) (λ c κs. search needs) (λ c. search needs) loop-again returns)
+    (tie.spec Inv-loop μ-loop loop-holds (λ c. search needs) (λ c κs. search needs) (λ c. search needs) loop-again
+    returns)

@@ -20,7 +20,15 @@ loop-holds : tie.Need-loop-holds Inv-loop μ-loop
 loop-holds c = (search needs, sym (all-none _))
 
 loop-again : tie.Need-loop-again Inv-loop μ-loop
-loop-again c = (search needs, simp (all-more, c .and .ensures, c .before .entry-within .ensures, c .before .before .before .loop .inv .1))
+loop-again c = (
+  search needs,
+  simp (
+    all-more,
+    c .and .ensures,
+    c .before .entry-within .ensures,
+    c .before .before .before .loop .inv .1,
+  ),
+)
 
 returns : tie.Need-returns Inv-loop μ-loop
 unfolding within
@@ -29,4 +37,5 @@ returns c = let e : c .before .loop .w ≡ nodes = omega arith in rw e at (c .be
 pub view-within-spec : {M : Type 1} → statement M
 view-within-spec =
     tie.close
-    (tie.spec Inv-loop μ-loop loop-holds (λ c. search needs) (λ c κs. search needs) (λ c κs. search needs) (λ c. search needs) loop-again returns)
+    (tie.spec Inv-loop μ-loop loop-holds (λ c. search needs) (λ c κs. search needs) (λ c κs. search needs)
+    (λ c. search needs) loop-again returns)
