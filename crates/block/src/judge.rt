@@ -64,7 +64,8 @@ fn tables_sound(r: &[u8], maxtag: u64, round: u64, kept: u64) -> bool
     requires { ⌜ length (now r) ≡ recordSize ⌝ }
     ensures { λ t. ⌜ t ≡ both
         (both (heardWithin (words cells (now (r .entry)) heardPlace)) (within limit (viewIn (now (r .entry)) lastIn)))
-        (both (both (within maxtag (viewIn (now (r .entry)) atmaxIn)) (within round (viewIn (now (r .entry)) atroundIn)))
+        (both (both (within maxtag (viewIn (now (r .entry)) atmaxIn))
+        (within round (viewIn (now (r .entry)) atroundIn)))
         (within kept (viewIn (now (r .entry)) keptIn))) ⌝ }
 {
     and(

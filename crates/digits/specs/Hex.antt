@@ -31,6 +31,10 @@ abbrev pub byteOf : List ℕ → ℕ → ℕ
 byteOf s i = 16 * hexValue (getD s (2 * i) 0) + hexValue (getD s (2 * i + 1) 0)
 
 -- k bytes, from 2 * k digits
+-- how many digits k bytes have
+abbrev pub hexSize : ℕ → ℕ
+hexSize k = 2 * k
+
 unfoldable pub hexBytes : ℕ → List ℕ → List ℕ
 hexBytes k s = tab k (byteOf s)
 
@@ -43,4 +47,4 @@ halfOf b j = half (getD b (j / 2) 0) j
 
 -- the 2 * k digits of k bytes
 unfoldable pub hexText : ℕ → List ℕ → List ℕ
-hexText k b = tab (2 * k) (halfOf b)
+hexText k b = tab (hexSize k) (halfOf b)

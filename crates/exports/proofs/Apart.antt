@@ -30,12 +30,13 @@ use Rattle.step.specs.Stale.{staleMessage}
 use Rattle.step.specs.Told.{spentNumber, told}
 use Rattle.region.specs.Channel.{countOf, first}
 use Rattle.block.specs.Block.{takeOff}
-use Rattle.entries.specs.Entries.{entries}
+use Rattle.outgoing.specs.Entries.{entries}
 use Rattle.layout.specs.Layout.{clusterSize, stated, stopped, node, channel, onBlock, fits, sound, isNode}
-use Rattle.cluster.specs.declared.Extent.{Extent}
-use Rattle.cluster.specs.Event.{Result, demand, checked, within, mayStop, mayCut, stepped, roomy, settle}
+use Rattle.outgoing.specs.declared.Extent.{Extent}
+use Rattle.cluster.specs.Event.{Result, demand, checked, settle}
+use Rattle.outgoing.specs.Outgoing.{within, mayStop, mayCut, stepped, roomy}
 use Rattle.cluster.specs.Event.{deliverMessage, fresh, begin, deliver}
-use Rattle.halting.specs.Stop.{stop}
+use Rattle.cluster.specs.Stop.{stop}
 use Rattle.exports.specs.Code.{lastRefusal, doneFrom, scanFrom, ruleCode, eventCode, ruleIn, codeOf}
 use Rattle.exports.specs.Apart.{meant, ruleMeant, Called, by-fresh, by-begin, by-deliver, by-stop}
 use Rattle.exports.specs.Apart.{Numbered, Apart}
@@ -124,7 +125,7 @@ of-checked b h = demanded b (fits b) 12 refl (demanded b (sound b) 2 refl h)
 settled : (n a c : ℕ) (x : Extent) (s : Step) (found b : List ℕ) → Proper (settle n a c x s found b)
 unfolding settle
 settled n a c x s found b =
-    demanded b (roomy n c (within x (entries n a (s .outbox))) (stepped n c x s found)) 11 refl
+    demanded b (roomy n c (within x (entries n a (s .outbox))) (stepped n c x (s .node) found)) 11 refl
     (record { numbered = accepted })
 
 of-begin : (c : ℕ) (o : Operation) (x : Extent) (b : List ℕ) → Proper (begin c o x b)

@@ -13,10 +13,10 @@ use Rattle.figures.specs.Figures.{figuresOf}
 use Rattle.record.specs.declared.Operation.{Operation}
 use Rattle.step.specs.declared.Ending.{Ending}
 use Rattle.step.specs.Told.{Told, refusal, nothing, done, scan, spent, spentNumber, told}
-use Rattle.cluster.specs.declared.Extent.{Extent}
+use Rattle.outgoing.specs.declared.Extent.{Extent}
 use Rattle.cluster.specs.Event.{Result, fresh, begin, deliver}
 use Rattle.cluster.specs.Outcome.{toldOf}
-use Rattle.halting.specs.Stop.{stop}
+use Rattle.cluster.specs.Stop.{stop}
 use Rattle.exports.specs.Code.{lastRefusal, doneFrom, scanFrom, eventCode, ruleIn, codeOf}
 
 -- What a code means, v the view beside it, and the rule in it. It names no refusal, so that it stands where others come.

@@ -22,8 +22,8 @@ use Rattle.step.specs.declared.Rule.the-variants.{Direct, Borrowed}
 use Rattle.step.specs.declared.Ending.{Ending}
 use Rattle.step.specs.declared.Ending.the-variants.{None, Done, Scan, Spent}
 use Rattle.step.specs.Told.{Told, refusal, nothing, done, scan, spent}
-use Rattle.cluster.specs.declared.Extent.{Extent}
-use Rattle.cluster.specs.declared.Extent.the-variants.{Whole, Cut}
+use Rattle.outgoing.specs.declared.Extent.{Extent}
+use Rattle.outgoing.specs.declared.Extent.the-variants.{Whole, Cut}
 use Rattle.cluster.specs.Event.{Result}
 use Rattle.cluster.specs.Outcome.{toldOf}
 

@@ -9,7 +9,7 @@ use Rattle.view.specs.Size.{nodes, entrySize}
 use Rattle.step.specs.declared.Rule.{Rule}
 use Rattle.step.specs.declared.Ending.the-variants.{Scan}
 use Rattle.layout.specs.Layout.{stated}
-use Rattle.cluster.specs.declared.Extent.{Extent}
+use Rattle.outgoing.specs.declared.Extent.{Extent}
 use Rattle.cluster.specs.Event.{deliver}
 use Rattle.cluster.specs.Outcome.{toldOf}
 use Rattle.exports.specs.Code.{eventView}

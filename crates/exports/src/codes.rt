@@ -1,7 +1,7 @@
 // The numbers that stand for enums at the border to C.
 use cluster::Answer;
-use cluster::Extent;
 use cluster::Outcome;
+use outgoing::Extent;
 use step::Ending;
 use step::Rule;
 use step::SPENT;

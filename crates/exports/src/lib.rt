@@ -40,7 +40,7 @@ ghost use Rattle.record.specs.declared.Operation.the-variants.{Update, Scan};
 ghost use Rattle.layout.specs.Layout.{size as sizeOf};
 ghost use Rattle.cluster.specs.Event.{begin, deliver, fresh};
 ghost use Rattle.cluster.specs.Outcome.{toldOf};
-ghost use Rattle.halting.specs.Stop.{stop};
+ghost use Rattle.cluster.specs.Stop.{stop};
 ghost use Rattle.exports.specs.Code.{extentOf, eventView, leaves};
 ghost use Rattle.exports.specs.Code.{numbers as numbersOf, reportIn, messageIn, sums as sumsOf};
 ghost use Rattle.exports.specs.Code.{answerCode, lent, wrote};
@@ -114,7 +114,7 @@ pub extern "C" fn snapshot_deliver(
 pub extern "C" fn snapshot_stop(b: &mut [u8], c: usize) -> u8
     ensures { λ r. ⌜ leaves r (now (b .exit)) (stop c (now (b .entry))) ⌝ }
 {
-    event_code(halting::stop(b, c))
+    event_code(cluster::stop(b, c))
 }
 
 // Reads one message: its numbers go to `numbers`, 0 where the kind has none, its report to `report`, zeros where it has

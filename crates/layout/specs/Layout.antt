@@ -30,7 +30,7 @@ size n = pick (isSize n) (clusterSize n) 0
 abbrev pub blockPlace : ℕ → ℕ
 blockPlace c = blocksPlace + blockSize * (c - 1)
 
--- What the bytes say: n and f, and of each node its block, whether it has stopped, its record and its incoming channels.
+-- What the bytes say: n, f, and of each node its block, whether it has stopped, its record and its incoming channels.
 abbrev pub stated : List ℕ → ℕ
 stated b = getD b statedPlace 0
 

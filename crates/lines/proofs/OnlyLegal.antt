@@ -11,9 +11,10 @@ use borrow.Author.Tests.{eqb-true, leb-true}
 use Rattle.octets.specs.Test.{pick, both}
 use Rattle.octets.specs.Bytes.{same}
 use Rattle.octets.proofs.Test.{both-left, both-right, same-true}
+use Rattle.view.specs.Size.{reportSize}
 use Rattle.view.specs.Report.{reportOf}
 use Rattle.digits.specs.Decimal.{allDigits, value}
-use Rattle.digits.specs.Hex.{allHex, hexBytes}
+use Rattle.digits.specs.Hex.{allHex, hexBytes, hexSize}
 use Rattle.lines.specs.Grammar.{space, isNumber, numberOf, isReport, reportIn, placeOf, fieldLength, word}
 use Rattle.lines.specs.Grammar.{after, cutIs, cutBy, tailOf, updateBy, scanBy, deliverBy, stopBy, eventOf}
 use Rattle.lines.specs.Grammar.{nodesBy, nodesOf}
@@ -44,14 +45,14 @@ number-view w = cases (isNumber w) refl
     cases false e = none
 
 data ReportView (w : List ℕ) : Reported → Type 0 where
-  report : isReport w ≡ true → ReportView w (Shown (reportOf (hexBytes 8 w)))
+  report : isReport w ≡ true → ReportView w (Shown (reportOf (hexBytes reportSize w)))
   none : ReportView w NoReport
 
 report-view : (w : List ℕ) → ReportView w (reportIn w)
 unfolding reportIn
 report-view w = cases (isReport w) refl
   where
-    cases : (t : Bool) → isReport w ≡ t → ReportView w (pick t (Shown (reportOf (hexBytes 8 w))) NoReport)
+    cases : (t : Bool) → isReport w ≡ t → ReportView w (pick t (Shown (reportOf (hexBytes reportSize w))) NoReport)
     cases true e = report e
     cases false e = none
 
@@ -65,8 +66,9 @@ number-most w e =
     leb-true (length w) 4 (both-right (leb 1 (length w)) (leb (length w) 4) (both-left (both (leb 1 (length w)) (leb
     (length w) 4)) (allDigits w) e))
 
-report-length : (w : List ℕ) → isReport w ≡ true → length w ≡ 16
-report-length w e = eqb-true (length w) 16 (both-left (eqb (length w) 16) (allHex w) e)
+report-length : (w : List ℕ) → isReport w ≡ true → length w ≡ hexSize reportSize
+report-length w e =
+    eqb-true (length w) (hexSize reportSize) (both-left (eqb (length w) (hexSize reportSize)) (allHex w) e)
 
 -- a field whose word is not empty, and what comes after it
 field-split : (t : List ℕ) → 1 ≤ length (word t) → t ≡ field (word t) ++ after t

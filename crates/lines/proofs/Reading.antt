@@ -12,9 +12,10 @@ use Rattle.octets.specs.Test.{pick, both}
 use Rattle.octets.specs.Loop.{allTo}
 use Rattle.octets.proofs.Test.{both-left, both-right}
 use Rattle.octets.proofs.Loop.{allTo-at}
+use Rattle.view.specs.Size.{reportSize}
 use Rattle.view.specs.Report.{reportOf}
 use Rattle.digits.specs.Decimal.{isDigit, allDigits, value}
-use Rattle.digits.specs.Hex.{isLetter, isHex, allHex, hexBytes}
+use Rattle.digits.specs.Hex.{isLetter, isHex, allHex, hexBytes, hexSize}
 use Rattle.lines.specs.Grammar.{space, isNumber, numberOf, isReport, reportIn, placeOf, fieldLength, word}
 use Rattle.lines.specs.Grammar.{after, cutIs, cutBy, tailOf, updateBy, scanBy, deliverBy, stopBy, eventOf}
 use Rattle.lines.specs.Legal.{field, End, whole, cut, Legal, update, scan, deliver, stop}
@@ -59,7 +60,7 @@ number-no-space : (w : List ℕ) → isNumber w ≡ true → NoSpace w
 number-no-space w e = digits-no-space w (both-right (both (leb 1 (length w)) (leb (length w) 4)) (allDigits w) e)
 
 report-no-space : (w : List ℕ) → isReport w ≡ true → NoSpace w
-report-no-space w e = hex-no-space w (both-right (eqb (length w) 16) (allHex w) e)
+report-no-space w e = hex-no-space w (both-right (eqb (length w) (hexSize reportSize)) (allHex w) e)
 
 -- ---- the first field, before the end or another field
 
@@ -94,7 +95,7 @@ number-read : (w : List ℕ) → isNumber w ≡ true → numberOf w ≡ Value (v
 unfolding numberOf
 number-read w e = rw e
 
-report-read : (w : List ℕ) → isReport w ≡ true → reportIn w ≡ Shown (reportOf (hexBytes 8 w))
+report-read : (w : List ℕ) → isReport w ≡ true → reportIn w ≡ Shown (reportOf (hexBytes reportSize w))
 unfolding reportIn
 report-read w e = rw e
 
@@ -103,7 +104,7 @@ number-next : (w u : List ℕ) → isNumber w ≡ true → Begins u → numberOf
 number-next w u e b = ap numberOf (word-next w u (number-no-space w e) b) ∙ number-read w e
 
 report-next : (w u : List ℕ) → isReport w ≡ true → Begins u
-    → reportIn (word (field w ++ u)) ≡ Shown (reportOf (hexBytes 8 w))
+    → reportIn (word (field w ++ u)) ≡ Shown (reportOf (hexBytes reportSize w))
 report-next w u e b = ap reportIn (word-next w u (report-no-space w e) b) ∙ report-read w e
 
 number-after : (w u : List ℕ) → isNumber w ≡ true → Begins u → after (field w ++ u) ≡ u

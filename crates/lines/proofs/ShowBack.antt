@@ -7,11 +7,12 @@ use native.Mathlib.Omega.{arith}
 use lib.ListN.{length}
 use borrow.Author.Tests.{le-leb, eq-eqb}
 use Rattle.octets.proofs.Test.{both-true}
+use Rattle.view.specs.Size.{reportSize}
 use Rattle.view.specs.Report.{Counts, reportBytes, reportOf}
 use Rattle.view.specs.declared.Report.{Report}
 use Rattle.view.proofs.ReportBytes.{report-back, report-bytes}
 use Rattle.digits.specs.Decimal.{value, decimal}
-use Rattle.digits.specs.Hex.{hexBytes, hexText}
+use Rattle.digits.specs.Hex.{hexBytes, hexText, hexSize}
 use Rattle.digits.proofs.DecimalBack.{value-decimal, digits-fewest, fewest-some, fewest-most}
 use Rattle.digits.proofs.HexBack.{bytes-back, text-hex, length-text}
 use Rattle.lines.specs.Grammar.{isNumber, isReport, eventOf}
@@ -33,13 +34,14 @@ number-shown x h =
 number-same : (x : ℕ) → Small x → value (decimal x) ≡ x
 number-same x h = value-decimal x (omega arith)
 
-report-shown : (p : Report) → Counts p → isReport (hexText 8 (reportBytes p)) ≡ true
+report-shown : (p : Report) → Counts p → isReport (hexText reportSize (reportBytes p)) ≡ true
 report-shown p h =
-    both-true (eq-eqb (length (hexText 8 (reportBytes p))) 16 (length-text 8 (reportBytes p)))
-    (text-hex 8 (reportBytes p) (report-bytes p h))
+    both-true (eq-eqb (length (hexText reportSize (reportBytes p))) (hexSize reportSize)
+    (length-text reportSize (reportBytes p)))
+    (text-hex reportSize (reportBytes p) (report-bytes p h))
 
-report-same : (p : Report) → Counts p → reportOf (hexBytes 8 (hexText 8 (reportBytes p))) ≡ p
-report-same p h = ap reportOf (bytes-back 8 (reportBytes p) (report-bytes p h) refl) ∙ report-back p
+report-same : (p : Report) → Counts p → reportOf (hexBytes reportSize (hexText reportSize (reportBytes p))) ≡ p
+report-same p h = ap reportOf (bytes-back reportSize (reportBytes p) (report-bytes p h) refl) ∙ report-back p
 
 end-shown : (x : Extent) → SmallCut x → End (showExtent x) x
 end-shown Whole h = whole
@@ -49,7 +51,8 @@ end-shown (Cut m) h = rw (number-same m h) at (cut (decimal m) (number-shown m h
 pub show-legal : (l : Line) → HasLine l → Legal (show l) l
 show-legal (Update c p x) h =
     rw (number-same c (h .0), report-same p (h .1)) at
-    (update (decimal c) (hexText 8 (reportBytes p)) (number-shown c (h .0)) (report-shown p (h .1)) (end-shown x
+    (update (decimal c) (hexText reportSize (reportBytes p)) (number-shown c (h .0)) (report-shown p (h .1))
+    (end-shown x
     (h .2)))
 show-legal (Scan c x) h = rw (number-same c (h .0)) at (scan (decimal c) (number-shown c (h .0)) (end-shown x (h .1)))
 show-legal (Deliver a b x) h =

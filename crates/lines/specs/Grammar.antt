@@ -9,9 +9,10 @@ use lib.ListN.{length, take, drop, getD}
 use lib.Dec.{leb, eqb}
 use Rattle.octets.specs.Test.{pick, both}
 use Rattle.octets.specs.Bytes.{same}
+use Rattle.view.specs.Size.{reportSize}
 use Rattle.view.specs.Report.{reportOf}
 use Rattle.digits.specs.Decimal.{allDigits, value}
-use Rattle.digits.specs.Hex.{allHex, hexBytes}
+use Rattle.digits.specs.Hex.{allHex, hexBytes, hexSize}
 use Rattle.lines.specs.declared.Number.{Number}
 use Rattle.lines.specs.declared.Number.the-variants.{Value, NoNumber}
 use Rattle.lines.specs.declared.Reported.{Reported}
@@ -31,12 +32,12 @@ isNumber w = both (both (leb 1 (length w)) (leb (length w) 4)) (allDigits w)
 unfoldable pub numberOf : List ℕ → Number
 numberOf w = pick (isNumber w) (Value (value w)) NoNumber
 
--- sixteen hexadecimal digits
+-- the hexadecimal digits of a report
 abbrev pub isReport : List ℕ → Bool
-isReport w = both (eqb (length w) 16) (allHex w)
+isReport w = both (eqb (length w) (hexSize reportSize)) (allHex w)
 
 unfoldable pub reportIn : List ℕ → Reported
-reportIn w = pick (isReport w) (Shown (reportOf (hexBytes 8 w))) NoReport
+reportIn w = pick (isReport w) (Shown (reportOf (hexBytes reportSize w))) NoReport
 
 -- ---- fields: a space, and the bytes up to the next space or the end
 

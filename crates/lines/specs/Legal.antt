@@ -4,6 +4,7 @@ use Prim.Native.Nat.{ℕ}
 use mathlib.Core.Path.{_≡_}
 use mathlib.Core.Bool.{true}
 use mathlib.Core.List.{List, [], _∷_, _++_}
+use Rattle.view.specs.Size.{reportSize}
 use Rattle.view.specs.Report.{reportOf}
 use Rattle.digits.specs.Decimal.{value}
 use Rattle.digits.specs.Hex.{hexBytes}
@@ -24,7 +25,7 @@ pub data End : List ℕ → Extent → Type 0 where
 -- `u c h`, `s c`, `d a b` and `x c`; all but the last with an end
 pub data Legal : List ℕ → Line → Type 0 where
   update : (c h : List ℕ) {t : List ℕ} {x : Extent} → isNumber c ≡ true → isReport h ≡ true → End t x
-      → Legal (117 ∷ (field c ++ (field h ++ t))) (Update (value c) (reportOf (hexBytes 8 h)) x)
+      → Legal (117 ∷ (field c ++ (field h ++ t))) (Update (value c) (reportOf (hexBytes reportSize h)) x)
   scan : (c : List ℕ) {t : List ℕ} {x : Extent} → isNumber c ≡ true → End t x → Legal (115 ∷ (field c ++ t)) (Scan
       (value c) x)
   deliver : (a b : List ℕ) {t : List ℕ} {x : Extent} → isNumber a ≡ true → isNumber b ≡ true → End t x

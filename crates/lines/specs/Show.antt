@@ -1,6 +1,7 @@
 -- The line of an event as a program writes it: numbers with the fewest digits. A bad line has none.
 use Prim.Native.Nat.{ℕ, _<_}
 use mathlib.Core.List.{List, [], _∷_, _++_}
+use Rattle.view.specs.Size.{reportSize}
 use Rattle.view.specs.Report.{Counts, reportBytes}
 use Rattle.view.specs.declared.Report.{Report}
 use Rattle.digits.specs.Decimal.{decimal}
@@ -17,7 +18,7 @@ showExtent Whole = []
 showExtent (Cut m) = field cutIs ++ field (decimal m)
 
 abbrev pub show : Line → List ℕ
-show (Update c p x) = 117 ∷ (field (decimal c) ++ (field (hexText 8 (reportBytes p)) ++ showExtent x))
+show (Update c p x) = 117 ∷ (field (decimal c) ++ (field (hexText reportSize (reportBytes p)) ++ showExtent x))
 show (Scan c x) = 115 ∷ (field (decimal c) ++ showExtent x)
 show (Deliver a b x) = 100 ∷ (field (decimal a) ++ (field (decimal b) ++ showExtent x))
 show (Stop c) = 120 ∷ field (decimal c)

@@ -5,6 +5,7 @@ ghost use Prim.Native.Nat.{_≤_};
 ghost use lib.ListN.{length};
 ghost use lib.Dec.{eqb};
 ghost use Rattle.octets.specs.Bytes.{same};
+ghost use Rattle.view.specs.Size.{nodes};
 ghost use Rattle.lines.specs.Grammar.{numberOf, reportIn, placeOf, fieldLength, cutIs, cutBy, tailOf, eventOf, nodesOf};
 ghost use Rattle.lines.specs.Grammar.{updateBy, scanBy, deliverBy, stopBy};
 ghost use Rattle.lines.specs.Grammar.{word as Grammar·word, after as Grammar·after};
@@ -12,6 +13,7 @@ use digits::all_digits;
 use digits::all_hex;
 use digits::hex_bytes;
 use octets::and;
+use view::REPORT;
 use view::Report;
 
 // How much of what an event sends is let out: all, or so many entries, and then the node stops.
@@ -58,6 +60,9 @@ pub enum Tail {
     NoTail,
 }
 
+// The hexadecimal digits of a report.
+const DIGITS: usize = 2 * REPORT;
+
 // The number that a word of one to four digits says.
 fn read_number(w: &[u8]) -> Number
     ensures { λ r. ⌜ r ≡ numberOf (now (w .entry)) ⌝ }
@@ -69,11 +74,11 @@ fn read_number(w: &[u8]) -> Number
     }
 }
 
-// The report that a word of sixteen hexadecimal digits says.
+// The report that a word of its hexadecimal digits says.
 fn read_report(w: &[u8]) -> Reported
     ensures { λ r. ⌜ r ≡ reportIn (now (w .entry)) ⌝ }
 {
-    if and(w.len() == 16, all_hex(w)) {
+    if and(w.len() == DIGITS, all_hex(w)) {
         let b = hex_bytes(w);
         Reported::Shown(view::read_report(&b))
     } else {

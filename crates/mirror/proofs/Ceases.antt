@@ -7,8 +7,8 @@ use mathlib.Core.List.{List}
 use Rattle.theory.specs.Count as C
 use Rattle.table.specs.Quorum.{faults}
 use Rattle.layout.specs.Layout.{stated}
-use Rattle.cluster.specs.declared.Extent.the-variants.{Cut}
-use Rattle.halting.specs.Stop.{stopIn, stop}
+use Rattle.outgoing.specs.declared.Extent.the-variants.{Cut}
+use Rattle.cluster.specs.Stop.{stopIn, stop}
 use Rattle.eqaso.specs.Cluster as K
 use Rattle.mirror.specs.Mirrors.{Mirrors}
 use Rattle.mirror.specs.SameResult.{SameResult}

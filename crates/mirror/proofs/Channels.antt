@@ -12,7 +12,7 @@ use Rattle.table.specs.Loop.{tab}
 use Rattle.view.specs.declared.View.{View}
 use Rattle.wire.specs.declared.Message.{Message}
 use Rattle.wire.specs.declared.Message.the-variants.{Read, ReadAnswer, Write, WriteAnswer, Echo, Value, Good}
-use Rattle.entries.specs.Entries.{Entry, entry, addressed, entriesOf, goTo}
+use Rattle.outgoing.specs.Entries.{Entry, entry, addressed, entriesOf, goTo}
 use Rattle.history.specs.Message as M
 use Rattle.history.specs.Event as H
 use Rattle.eqaso.specs.Algorithm as A

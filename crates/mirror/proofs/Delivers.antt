@@ -28,7 +28,7 @@ use Rattle.step.proofs.Allowed.{allowed-lawful}
 use Rattle.region.specs.Channel.{capacity, countOf, first}
 use Rattle.layout.specs.Layout.{stated, stopped, node, channel, isNode}
 use Rattle.cluster.specs.Event as E
-use Rattle.cluster.specs.declared.Extent.{Extent}
+use Rattle.outgoing.specs.declared.Extent.{Extent}
 use Rattle.history.specs.Message as M
 use Rattle.history.specs.Order.{OneTo}
 use Rattle.eqaso.specs.Algorithm as A

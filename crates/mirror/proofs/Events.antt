@@ -17,9 +17,10 @@ use Rattle.record.specs.Usable.{isOpen}
 use Rattle.record.specs.declared.Operation.{Operation}
 use Rattle.step.specs.Move.{beginStep}
 use Rattle.layout.specs.Layout.{stated, stopped, node, isNode}
+use Rattle.outgoing.specs.Outgoing as O
 use Rattle.cluster.specs.Event as E
-use Rattle.cluster.specs.declared.Extent.{Extent}
-use Rattle.cluster.specs.declared.Extent.the-variants.{Whole, Cut}
+use Rattle.outgoing.specs.declared.Extent.{Extent}
+use Rattle.outgoing.specs.declared.Extent.the-variants.{Whole, Cut}
 use Rattle.history.specs.Order.{OneTo}
 use Rattle.eqaso.specs.Algorithm as A
 use Rattle.eqaso.specs.Cluster as K
@@ -61,7 +62,7 @@ module _ {n : ℕ} (low : 1 ≤ n) (small : n ≤ 16) {b : List ℕ} {σ : K.Clu
   pub stands-tells : (c : ℕ) → OneTo n c → Tells (not (stopped b c)) (K.stands σ c ≡ true)
   stands-tells c o = tells-true (ap not (mirror .shows .says c o .stop))
 
-  pub cut-tells : (x : Extent) → Tells (E.mayCut n x b) (K.mayCut n (faults n) (extentOf x) σ ≡ true)
+  pub cut-tells : (x : Extent) → Tells (O.mayCut n x b) (K.mayCut n (faults n) (extentOf x) σ ≡ true)
   cut-tells Whole = tells-true refl
   cut-tells (Cut m) = tells-true (ap (λ k. ltb k (faults n)) (same-stopped low small mirror)
       ∙ lt-decides (C.count (σ .stopped) n) (faults n))

@@ -13,7 +13,7 @@ use Rattle.view.specs.View.{viewBytes}
 use Rattle.view.specs.declared.View.{View}
 use Rattle.wire.specs.Layout.{allowed}
 use Rattle.wire.specs.declared.Message.{Message}
-use Rattle.entries.specs.Entries.{Entry, entry, isAnswer, addressed, entriesOf}
+use Rattle.outgoing.specs.Entries.{Entry, entry, isAnswer, addressed, entriesOf}
 use Rattle.history.specs.Order.{OneTo}
 use Rattle.mirror.proofs.Shows.{Fit}
 

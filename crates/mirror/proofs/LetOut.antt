@@ -14,9 +14,9 @@ use Rattle.octets.specs.Test.{both}
 use Rattle.view.specs.Size.{isSize}
 use Rattle.table.specs.Loop.{all}
 use Rattle.region.specs.Channel.{capacity}
-use Rattle.entries.specs.Entries.{Entry, goTo}
-use Rattle.entries.proofs.Laws.{goTo-append}
-use Rattle.cluster.specs.Event.{letOut, roomAt, roomy}
+use Rattle.outgoing.specs.Entries.{Entry, goTo}
+use Rattle.outgoing.proofs.Laws.{goTo-append}
+use Rattle.outgoing.specs.Outgoing.{letOut, roomAt, roomy}
 use Rattle.history.specs.Message as M
 use Rattle.history.specs.Event as H
 use Rattle.history.specs.Order.{OneTo}

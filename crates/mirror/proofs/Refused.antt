@@ -18,11 +18,12 @@ use Rattle.step.specs.declared.Ending.{Ending}
 use Rattle.step.specs.declared.Ending.the-variants.{None}
 use Rattle.region.specs.Channel.{countOf, first}
 use Rattle.block.specs.Block.{takeOff, halt}
-use Rattle.entries.specs.Entries.{entries}
+use Rattle.outgoing.specs.Entries.{entries}
 use Rattle.layout.specs.Layout.{stated, stopped, node, channel, onBlock, fits, sound, isNode}
+use Rattle.outgoing.specs.Outgoing as O
 use Rattle.cluster.specs.Event as E
-use Rattle.cluster.specs.declared.Extent.{Extent}
-use Rattle.halting.specs.Stop as S
+use Rattle.outgoing.specs.declared.Extent.{Extent}
+use Rattle.cluster.specs.Stop as S
 use Rattle.mirror.specs.Run.{Event, begin, deliver, stop, event, seen, traceFrom}
 use Rattle.mirror.specs.Refused.{RefusedDoesNothing}
 
@@ -53,8 +54,8 @@ module _ (b : List ℕ) where
   settles : (n a c : ℕ) (x : Extent) (s : Step) (found : List ℕ) → Plain (E.settle n a c x s found b)
   unfolding E.settle
   settles n a c x s found =
-      let out = E.within x (entries n a (s .outbox)) in
-      demands (E.roomy n c out (E.stepped n c x s found)) 11 (accepts (E.commit n c x s out found) tt)
+      let out = O.within x (entries n a (s .outbox)) in
+      demands (O.roomy n c out (O.stepped n c x (s .node) found)) 11 (accepts (E.commit n c x s out found) tt)
 
   abbrev n : ℕ
   n = stated b
@@ -69,7 +70,7 @@ module _ (b : List ℕ) where
       (demands (not (stopped b c)) 4
       (demands (not (isOpen (node b c .wait))) 5
       (demands (not (full (node b c))) 6
-      (demands (E.mayCut n x b) 10
+      (demands (O.mayCut n x b) 10
       (settles n c c x (beginStep (faults n) (node b c) o) b))))))
   plain (deliver a c x) = checks
       (demands (both (isNode n a) (isNode n c)) 3
@@ -83,13 +84,13 @@ module _ (b : List ℕ) where
       handed (refused k) = refuses 7
       handed (result p) =
           demands (not (staleMessage (node b c) a (p .0))) 9
-          (demands (E.mayCut n x b) 10
+          (demands (O.mayCut n x b) 10
           (settles n a c x (messageStep (faults n) (node b c) a (p .0) (viewOf n (viewAt n slot)))
           (onBlock c (takeOff a) b)))
   plain (stop c) = checks
       (demands (isNode n c) 3
       (demands (not (stopped b c)) 4
-      (demands (E.mayStop n b) 10
+      (demands (O.mayStop n b) 10
       (accepts (record { bytes = onBlock c (halt n) b; answer = result None; view = noView; sent = [] }) tt))))
 
 pub refused-does-nothing : RefusedDoesNothing

@@ -25,7 +25,7 @@ use Rattle.block.specs.Block.{blockSize, hasStopped, recordIn, channelIn, onCha
 use Rattle.block.proofs.Changes.{channel-length, channel-same, keep-length, keep-record}
 use Rattle.layout.specs.Layout.{clusterSize, block, node, onBlock}
 use Rattle.layout.proofs.Blocks.{block-same}
-use Rattle.cluster.specs.declared.Extent.the-variants.{Whole}
+use Rattle.outgoing.specs.declared.Extent.the-variants.{Whole}
 use Rattle.history.specs.Message as M
 use Rattle.history.specs.Event as H
 use Rattle.history.specs.Trace.{stopped, letOutTo, handedOver, waits}

@@ -12,7 +12,7 @@ use Rattle.view.specs.Report.{noReport}
 use Rattle.view.specs.declared.View.{View}
 use Rattle.layout.specs.Layout.{clusterSize}
 use Rattle.cluster.specs.Event.{Result, refuse}
-use Rattle.cluster.specs.declared.Extent.the-variants.{Whole}
+use Rattle.outgoing.specs.declared.Extent.the-variants.{Whole}
 use Rattle.history.specs.Event as H
 use Rattle.history.specs.Trace.{Seen, at}
 use Rattle.eqaso.specs.Cluster as K

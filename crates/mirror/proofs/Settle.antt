@@ -22,10 +22,11 @@ use Rattle.step.specs.Step.{messages}
 use Rattle.step.specs.declared.Ending.the-variants.{None}
 use Rattle.step.specs.declared.Step.{Step}
 use Rattle.region.specs.Channel.{capacity}
-use Rattle.entries.specs.Entries.{Entry, entries}
+use Rattle.outgoing.specs.Entries.{Entry, entries}
+use Rattle.outgoing.specs.Outgoing as O
 use Rattle.cluster.specs.Event as E
-use Rattle.cluster.specs.declared.Extent.{Extent}
-use Rattle.cluster.specs.declared.Extent.the-variants.{Whole, Cut}
+use Rattle.outgoing.specs.declared.Extent.{Extent}
+use Rattle.outgoing.specs.declared.Extent.the-variants.{Whole, Cut}
 use Rattle.history.specs.Message as M
 use Rattle.history.specs.Event as H
 use Rattle.history.specs.Order.{OneTo}
@@ -67,19 +68,19 @@ module _ {n : ℕ} (small : n ≤ 16) (sized : isSize n ≡ true) (a c : ℕ) (f
 
   -- The same entries are let out.
   abbrev out : List Entry
-  out = E.within x (entries n a (s .outbox))
+  out = O.within x (entries n a (s .outbox))
 
   whole-out : map (mail n) (entries n a (s .outbox)) ≡ K.entries n (t .sent)
   whole-out = same-entries n a (s .outbox .view) (messages (s .outbox))
       ∙ ap (K.entries n) (ap (λ k. map (messageOf n k (s .outbox .view)) (messages (s .outbox))) (sym (same .to))
       ∙ same .sent)
 
-  same-out : (x : Extent) → map (mail n) (E.within x (entries n a (s .outbox))) ≡ K.letOut (extentOf x)
+  same-out : (x : Extent) → map (mail n) (O.within x (entries n a (s .outbox))) ≡ K.letOut (extentOf x)
       (K.entries n (t .sent))
   same-out Whole = whole-out
   same-out (Cut m) = map-take (mail n) m (entries n a (s .outbox)) ∙ ap (take m) whole-out
 
-  fits-out : (x : Extent) → Fits n (E.within x (entries n a (s .outbox)))
+  fits-out : (x : Extent) → Fits n (O.within x (entries n a (s .outbox)))
   fits-out Whole = fits-entries n a from (s .outbox .view) (messages (s .outbox)) (safe .layout)
   fits-out (Cut m) = fits-take n m (entries n a (s .outbox))
       (fits-entries n a from (s .outbox .view) (messages (s .outbox)) (safe .layout))
@@ -95,7 +96,7 @@ module _ {n : ℕ} (small : n ≤ 16) (sized : isSize n ≡ true) (a c : ℕ) (f
   mid-end = ap (λ l. K.channels stopped c l mid) (same-out x)
       ∙ channels-emptied stopped c (K.letOut (extentOf x) (K.entries n (t .sent))) q
 
-  after-step : Shows n (E.stepped n c x s found) (upd (σ .nodes) c (t .node)) stopped mid
+  after-step : Shows n (O.stepped n c x (s .node) found) (upd (σ .nodes) c (t .node)) stopped mid
   after-step = shows-step small S c node x s (same .node) (safe .node) gone
 
   -- The event is accepted.
@@ -105,7 +106,7 @@ module _ {n : ℕ} (small : n ≤ 16) (sized : isSize n ≡ true) (a c : ℕ) (f
     answer = answers x;
     sent = same-out x;
     mirrors = record {
-      shows = subst (Shows n (E.letOut n c out (E.stepped n c x s found)) (upd (σ .nodes) c (t .node)) stopped) mid-end
+      shows = subst (Shows n (O.letOut n c out (O.stepped n c x (s .node) found)) (upd (σ .nodes) c (t .node)) stopped) mid-end
           (shows-out small sized c node out after-step (emptied-gone stopped q) (fits-out x)
           (room-of small after-step c node out (ap (K.roomy channelRoom c n) mid-end ∙ e)));
       room = λ a d p o. fits a d p o (stopped d) refl (ℕ-discrete a c);
@@ -117,8 +118,8 @@ module _ {n : ℕ} (small : n ≤ 16) (sized : isSize n ≡ true) (a c : ℕ) (f
       l : List H.Sent
       l = K.letOut (extentOf x) (K.entries n (t .sent))
 
-      answers : (x : Extent) → answerOf n (pick (E.isCut x) noView (s .view))
-          (result (pick (E.isCut x) None (s .ending)))
+      answers : (x : Extent) → answerOf n (pick (O.isCut x) noView (s .view))
+          (result (pick (O.isCut x) None (s .ending)))
           ≡ H.accepted (K.given (extentOf x) (t .ending))
       answers Whole = ap H.accepted (same .ending)
       answers (Cut m) = refl

@@ -17,11 +17,11 @@ use Rattle.record.specs.declared.Node.{Node}
 use Rattle.step.specs.declared.Step.{Step}
 use Rattle.region.specs.Channel.{capacity}
 use Rattle.block.specs.Block.{takeOff, receive, keep, halt}
-use Rattle.entries.specs.Entries.{Entry, goTo, slot}
+use Rattle.outgoing.specs.Entries.{Entry, goTo, slot}
 use Rattle.layout.specs.Layout.{clusterSize, block, onBlock}
-use Rattle.cluster.specs.Event.{stepped, send}
-use Rattle.cluster.specs.declared.Extent.{Extent}
-use Rattle.cluster.specs.declared.Extent.the-variants.{Whole, Cut}
+use Rattle.outgoing.specs.Outgoing.{stepped, send}
+use Rattle.outgoing.specs.declared.Extent.{Extent}
+use Rattle.outgoing.specs.declared.Extent.the-variants.{Whole, Cut}
 use Rattle.history.specs.Message as M
 use Rattle.history.specs.Order.{OneTo}
 use Rattle.eqaso.specs.Algorithm as A

@@ -22,7 +22,7 @@ use Rattle.wire.specs.declared.Message.the-variants.{Read, ReadAnswer, Write, W
 use Rattle.wire.proofs.Numbers.{length-encode}
 use Rattle.wire.proofs.RoundTrip.{front-back, view-place}
 use Rattle.region.specs.Channel.{slotSize}
-use Rattle.entries.specs.Entries.{slot}
+use Rattle.outgoing.specs.Entries.{slot}
 use Rattle.history.specs.Message as M
 use Rattle.history.specs.Order.{OneTo}
 use Rattle.refine.specs.Meaning as R

@@ -13,10 +13,10 @@ use Rattle.wire.specs.declared.Message.{Message}
 use Rattle.table.specs.Quorum.{faults}
 use Rattle.region.specs.Channel.{capacity, waiting}
 use Rattle.block.specs.Block.{blockSize, hasStopped, recordIn, channelIn, nodeIn, recordSound}
-use Rattle.entries.specs.Entries.{Entry}
+use Rattle.outgoing.specs.Entries.{Entry}
 use Rattle.layout.specs.Layout.{clusterSize, stated, block}
-use Rattle.cluster.specs.declared.Extent.{Extent}
-use Rattle.cluster.specs.declared.Extent.the-variants.{Whole, Cut}
+use Rattle.outgoing.specs.declared.Extent.{Extent}
+use Rattle.outgoing.specs.declared.Extent.the-variants.{Whole, Cut}
 use Rattle.history.specs.Message as M
 use Rattle.history.specs.Event as H
 use Rattle.history.specs.Event.{Sent}

@@ -10,8 +10,8 @@ use Rattle.octets.specs.Answer.{Answer, result, refused}
 use Rattle.record.specs.declared.Operation.{Operation}
 use Rattle.step.specs.declared.Ending.{Ending}
 use Rattle.cluster.specs.Event as E
-use Rattle.halting.specs.Stop as S
-use Rattle.cluster.specs.declared.Extent.{Extent}
+use Rattle.cluster.specs.Stop as S
+use Rattle.outgoing.specs.declared.Extent.{Extent}
 use Rattle.history.specs.Event as H
 use Rattle.history.specs.Trace.{Seen, Trace}
 use Rattle.refine.specs.Meaning.{operationOf}

@@ -23,15 +23,16 @@ use Rattle.step.proofs.Waits.{begin-asks}
 use Rattle.region.specs.Channel.{capacity, countOf}
 use Rattle.region.specs.Record.{heardPlace, recordOf}
 use Rattle.block.specs.Block.{recordIn}
-use Rattle.entries.specs.Entries.{addressed, entries, goTo}
-use Rattle.entries.proofs.Laws.{entries-one, goTo-once, others-reach}
+use Rattle.outgoing.specs.Entries.{addressed, entries, goTo}
+use Rattle.outgoing.proofs.Laws.{entries-one, goTo-once, others-reach}
 use Rattle.layout.specs.Layout.{stated, block, stopped, node, channel}
-use Rattle.cluster.specs.Event.{Result, mayCut, begin, settle}
-use Rattle.cluster.specs.declared.Extent.{Extent}
-use Rattle.cluster.specs.declared.Extent.the-variants.{Whole, Cut}
-use Rattle.cluster.proofs.Handed.{sound-n}
+use Rattle.cluster.specs.Event.{Result, begin, settle}
+use Rattle.outgoing.specs.Outgoing.{mayCut}
+use Rattle.outgoing.specs.declared.Extent.{Extent}
+use Rattle.outgoing.specs.declared.Extent.the-variants.{Whole, Cut}
+use Rattle.cluster.proofs.Admitted.{sound-n}
 use Rattle.cluster.proofs.Settled.{open-settles}
-use Rattle.cluster.proofs.Told.{begin-is, begin-opens}
+use Rattle.cluster.proofs.Admitted.{begin-is, begin-opens}
 use Rattle.history.specs.Order.{OneTo}
 use Rattle.mirror.specs.Run as R
 use Rattle.points.specs.Calls.{code}

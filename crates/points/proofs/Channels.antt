@@ -34,16 +34,16 @@ use Rattle.region.specs.Channel.{capacity, countOf, first}
 use Rattle.region.specs.Record.{recordOf, recordBytes}
 use Rattle.region.proofs.Back.{Sized}
 use Rattle.block.specs.Block.{recordIn, takeOff}
-use Rattle.entries.specs.Entries.{entry, addressed, entriesOf, entries, goTo}
-use Rattle.entries.proofs.Laws.{entries-two, goTo-append, goTo-once}
+use Rattle.outgoing.specs.Entries.{entry, addressed, entriesOf, entries, goTo}
+use Rattle.outgoing.proofs.Laws.{entries-two, goTo-append, goTo-once}
 use Rattle.handlers.proofs.Handling.{reacted}
 use Rattle.layout.specs.Layout.{stated, block, stopped, node, channel, onBlock}
 use Rattle.layout.proofs.Check.{is-size, sound-size, sound-channel}
 use Rattle.cluster.specs.Event.{Result, refuse, begin, deliver, settle}
-use Rattle.cluster.specs.declared.Extent.{Extent}
-use Rattle.cluster.specs.declared.Extent.the-variants.{Whole}
+use Rattle.outgoing.specs.declared.Extent.{Extent}
+use Rattle.outgoing.specs.declared.Extent.the-variants.{Whole}
 use Rattle.cluster.proofs.Handed.{deliver-hands, hand-settles}
-use Rattle.cluster.proofs.Room.{goneIn}
+use Rattle.outgoing.specs.Room.{goneIn}
 use Rattle.history.specs.Order.{OneTo}
 use Rattle.mirror.specs.Run as R
 use Rattle.points.specs.Calls.{code}

@@ -27,10 +27,10 @@ use Rattle.region.proofs.Waiting.{waiting-pop, length-waiting}
 use Rattle.block.specs.Block.{blockSize, hasStopped, channelIn, keep, takeOff, receive, halt}
 use Rattle.block.proofs.Changes.{keep-length, keep-channel, takeOff-length, takeOff-same, takeOff-other}
 use Rattle.block.proofs.Changes.{receive-length, receive-flag, receive-same, receive-stopped, receive-other}
-use Rattle.entries.specs.Entries.{Entry, entry, isAnswer, addressed, entriesOf, goTo, slot}
+use Rattle.outgoing.specs.Entries.{Entry, entry, isAnswer, addressed, entriesOf, goTo, slot}
 use Rattle.layout.specs.Layout.{clusterSize, block, stopped, channel, onBlock}
 use Rattle.layout.proofs.Blocks.{length-block, length-channel, length-onBlock, block-same, block-other}
-use Rattle.cluster.specs.Event.{letOut}
+use Rattle.outgoing.specs.Outgoing.{letOut}
 use Rattle.history.specs.Order.{OneTo}
 use Rattle.mirror.proofs.Halted.{halted}
 

@@ -23,9 +23,10 @@ use Rattle.wire.specs.declared.Message.the-variants.{Read, ReadAnswer, Write, W
 use Rattle.record.specs.declared.Node.{Node}
 use Rattle.step.specs.Stale.{staleMessage}
 use Rattle.region.specs.Channel.{capacity, countOf, first}
-use Rattle.entries.specs.Entries.{Entry, entry, goTo}
+use Rattle.outgoing.specs.Entries.{Entry, entry, goTo}
 use Rattle.layout.specs.Layout.{clusterSize, stated, channel}
-use Rattle.cluster.specs.Event.{letOut, freshBytes}
+use Rattle.cluster.specs.Event.{freshBytes}
+use Rattle.outgoing.specs.Outgoing.{letOut}
 use Rattle.history.specs.Message as M
 use Rattle.history.specs.Event as H
 use Rattle.history.specs.Order.{OneTo}

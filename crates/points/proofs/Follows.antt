@@ -25,10 +25,10 @@ use Rattle.record.specs.declared.Node.{Node}
 use Rattle.record.specs.declared.Operation.{Operation}
 use Rattle.record.specs.declared.Operation.the-variants.{Update}
 use Rattle.region.specs.Channel.{countOf}
-use Rattle.entries.specs.Entries.{goTo}
+use Rattle.outgoing.specs.Entries.{goTo}
 use Rattle.layout.specs.Layout.{stated, stopped, node, channel}
 use Rattle.cluster.specs.Event.{refuse}
-use Rattle.cluster.specs.declared.Extent.the-variants.{Whole}
+use Rattle.outgoing.specs.declared.Extent.the-variants.{Whole}
 use Rattle.history.specs.Message.{absent}
 use Rattle.history.specs.Event as H
 use Rattle.history.specs.Trace as T

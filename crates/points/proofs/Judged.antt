@@ -21,14 +21,17 @@ use Rattle.region.specs.Channel.{capacity, countOf}
 use Rattle.block.specs.Block.{blockSize, hasStopped, channelIn, keep, takeOff, halt}
 use Rattle.block.proofs.Changes.{keep-length, keep-flag, keep-channel, halt-length}
 use Rattle.block.proofs.Changes.{takeOff-length, takeOff-flag, takeOff-same, takeOff-other}
-use Rattle.entries.specs.Entries.{Entry, entries, goTo}
+use Rattle.outgoing.specs.Entries.{Entry, entries, goTo}
 use Rattle.layout.specs.Layout.{clusterSize, stated, block, stopped, channel, onBlock, fits, sound}
 use Rattle.layout.proofs.Check.{is-size, sound-size, sound-channel, fits-size}
-use Rattle.cluster.specs.Event.{Result, refuse, within, isCut, stepped, roomy, commit, settle}
-use Rattle.cluster.specs.Room.{roomBefore}
-use Rattle.cluster.specs.declared.Extent.{Extent}
-use Rattle.cluster.specs.declared.Extent.the-variants.{Whole, Cut}
-use Rattle.cluster.proofs.Room.{foundIn, goneIn, room-before}
+use Rattle.cluster.specs.Event.{Result, refuse, commit, settle}
+use Rattle.outgoing.specs.Outgoing.{within, isCut, stepped, roomy}
+use Rattle.outgoing.specs.Room.{roomBefore}
+use Rattle.outgoing.specs.declared.Extent.{Extent}
+use Rattle.outgoing.specs.declared.Extent.the-variants.{Whole, Cut}
+use Rattle.outgoing.proofs.Room.{room-before}
+use Rattle.outgoing.specs.Room.{goneIn}
+use Rattle.outgoing.specs.Outgoing.{foundIn}
 use Rattle.cluster.proofs.Settled.{settle-full, settle-commits}
 use Rattle.history.specs.Order.{OneTo}
 use Rattle.mirror.specs.Run as R
@@ -75,7 +78,7 @@ module _ (b : List ℕ) (fit : fits b ≡ true) (usable : sound b ≡ true) (too
   abbrev test : ℕ → Bool
   test = roomBefore (isCut x) (goneIn took a c) c l b
 
-  judges : all n test ≡ roomy n c l (stepped n c x s found)
+  judges : all n test ≡ roomy n c l (stepped n c x (s .node) found)
   judges = room-before n a c b small (from .0) (from .1) (at .0) (at .1) size (s .node) heard took (isCut x) l
 
   room-says : all n test ≡ true → Room b c x waits l
@@ -134,10 +137,10 @@ module _ (b : List ℕ) (fit : fits b ≡ true) (usable : sound b ≡ true) (too
   held-wrote : Held n small wrote
   held-wrote = held-keep n small held-found c at (s .node) heard
 
-  held-stepped : Held n small (stepped n c x s found)
+  held-stepped : Held n small (stepped n c x (s .node) found)
   held-stepped = go x
     where
-      go : (x : Extent) → Held n small (stepped n c x s found)
+      go : (x : Extent) → Held n small (stepped n c x (s .node) found)
       go Whole = held-wrote
       go (Cut m) = held-halt n small held-wrote c at
 
@@ -150,10 +153,10 @@ module _ (b : List ℕ) (fit : fits b ≡ true) (usable : sound b ≡ true) (too
           (takeOff-length (block b c) (own n small held c at) a (from .0) (omega (arith, small))) k o e
       go false = refl
 
-  other : (k : ℕ) → OneTo n k → (k ≡ c → ⊥) → block (stepped n c x s found) k ≡ block b k
+  other : (k : ℕ) → OneTo n k → (k ≡ c → ⊥) → block (stepped n c x (s .node) found) k ≡ block b k
   other k o e = go x ∙ on-other n small held-found c at (keep (s .node)) kept k o e ∙ found-other k o e
     where
-      go : (x : Extent) → block (stepped n c x s found) k ≡ block wrote k
+      go : (x : Extent) → block (stepped n c x (s .node) found) k ≡ block wrote k
       go Whole = refl
       go (Cut m) = on-other n small held-wrote c at (halt n)
           (halt-length (block wrote c) (own n small held-wrote c at) n small) k o e
@@ -192,9 +195,9 @@ module _ (b : List ℕ) (fit : fits b ≡ true) (usable : sound b ≡ true) (too
           let all-left : countOf (channel b c c) - 0 ≡ countOf (channel b c c) = omega arith in
           (refl, sym (own-waits ∙ ap (λ y. countOf (channel b c c) - goneIn y a c) e ∙ all-left))
 
-  still : (k : ℕ) → StandsAfter b c x k → Waits n small c at (stepped n c x s found) k (waits k)
+  still : (k : ℕ) → StandsAfter b c x k → Waits n small c at (stepped n c x (s .node) found) k (waits k)
   still k S = elim (ℕ-discrete k c) [
-    | yes e ↦ subst (λ j. Waits n small c at (stepped n c x s found) j (waits j)) (sym e)
+    | yes e ↦ subst (λ j. Waits n small c at (stepped n c x (s .node) found) j (waits j)) (sym e)
         (go x (λ h. S .uncut h e) (ap (stopped b) (sym e) ∙ S .stood))
     | no e ↦ record {
       stands = ap hasStopped (other k (S .at) e) ∙ S .stood;
@@ -203,7 +206,7 @@ module _ (b : List ℕ) (fit : fits b ≡ true) (usable : sound b ≡ true) (too
   ]
     where
       go : (x : Extent) → (isCut x ≡ true → ⊥) → stopped b c ≡ false
-          → Waits n small c at (stepped n c x s found) c (waits c)
+          → Waits n small c at (stepped n c x (s .node) found) c (waits c)
       go Whole h up =
           let same = on-same n small held-found c at (keep (s .node)) kept in
           record {

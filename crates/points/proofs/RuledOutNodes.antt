@@ -28,7 +28,7 @@ use Rattle.endpoint.specs.Outcome.{Outcome}
 use Rattle.block.specs.Block.{halt}
 use Rattle.layout.specs.Layout.{stated, stopped, onBlock}
 use Rattle.cluster.specs.Event as E
-use Rattle.halting.specs.Stop.{stop}
+use Rattle.cluster.specs.Stop.{stop}
 use Rattle.history.specs.Order.{OneTo}
 use Rattle.points.specs.LastTag.{LastAnswer, spentBy}
 use Rattle.points.specs.Stops.{OneStopped}

@@ -21,9 +21,9 @@ use Rattle.step.specs.declared.Rule.the-variants.{Direct}
 use Rattle.region.specs.Channel.{countOf}
 use Rattle.layout.specs.Layout.{stated, channel}
 use Rattle.cluster.specs.Event as E
-use Rattle.cluster.specs.Event.{isCut}
-use Rattle.cluster.specs.declared.Extent.{Extent}
-use Rattle.cluster.specs.declared.Extent.the-variants.{Whole, Cut}
+use Rattle.outgoing.specs.Outgoing.{isCut}
+use Rattle.outgoing.specs.declared.Extent.{Extent}
+use Rattle.outgoing.specs.declared.Extent.the-variants.{Whole, Cut}
 use Rattle.history.specs.Message.{Entry, absent, read}
 use Rattle.history.specs.Event as H
 use Rattle.history.specs.Trace as T

@@ -20,8 +20,8 @@ use Rattle.block.specs.Block.{halt}
 use Rattle.layout.specs.Layout.{clusterSize, stopped, onBlock, isNode}
 use Rattle.layout.proofs.Check.{sound-few}
 use Rattle.cluster.specs.Event.{Result, refuse, fresh}
-use Rattle.halting.specs.Stop.{stop}
-use Rattle.halting.proofs.Told.{stop-is, stop-stopped, stop-many, stop-halts}
+use Rattle.cluster.specs.Stop.{stop}
+use Rattle.cluster.proofs.Admitted.{stop-is, stop-stopped, stop-many, stop-halts}
 use Rattle.history.specs.Event as H
 use Rattle.history.specs.Order.{OneTo}
 use Rattle.eqaso.specs.Algorithm as A

@@ -8,7 +8,7 @@ use Rattle.record.specs.declared.Node.{Node}
 use Rattle.record.specs.declared.Operation.{Operation}
 use Rattle.endpoint.specs.Outcome.{Outcome}
 use Rattle.cluster.specs.Event.{Result}
-use Rattle.cluster.specs.declared.Extent.{Extent}
+use Rattle.outgoing.specs.declared.Extent.{Extent}
 use Rattle.points.specs.Calls.{Calls, code}
 
 abbrev pub reads : (ℕ → List ℕ → Answer Message) → Calls

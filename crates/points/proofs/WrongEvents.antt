@@ -19,9 +19,9 @@ use Rattle.step.specs.declared.Ending.the-variants.{None, Spent}
 use Rattle.region.specs.Channel.{countOf}
 use Rattle.layout.specs.Layout.{stated, stopped, channel}
 use Rattle.cluster.specs.Event as E
-use Rattle.cluster.specs.Event.{isCut}
-use Rattle.cluster.specs.declared.Extent.{Extent}
-use Rattle.cluster.specs.declared.Extent.the-variants.{Whole, Cut}
+use Rattle.outgoing.specs.Outgoing.{isCut}
+use Rattle.outgoing.specs.declared.Extent.{Extent}
+use Rattle.outgoing.specs.declared.Extent.the-variants.{Whole, Cut}
 use Rattle.history.specs.Order.{OneTo}
 use Rattle.points.specs.Channels.{MayBegin, StandsAfter, Room, waits, stillWaits, begun, handled, Filled}
 use Rattle.points.proofs.Begins.{still-stands, accepts, one-in-cut}

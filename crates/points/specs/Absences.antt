@@ -6,8 +6,8 @@ use mathlib.Core.List.{List, [], _∷_, map}
 use lib.ListN.{length, replicate}
 use Rattle.record.specs.declared.Operation.the-variants.{Scan}
 use Rattle.layout.specs.Layout.{clusterSize}
-use Rattle.cluster.specs.declared.Extent.{Extent}
-use Rattle.cluster.specs.declared.Extent.the-variants.{Whole}
+use Rattle.outgoing.specs.declared.Extent.{Extent}
+use Rattle.outgoing.specs.declared.Extent.the-variants.{Whole}
 use Rattle.history.specs.Message.{absent}
 use Rattle.history.specs.Trace as T
 pub use Rattle.history.specs.Order.{NothingWaits}

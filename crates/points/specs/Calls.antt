@@ -16,8 +16,8 @@ use Rattle.endpoint.specs.Outcome.{Outcome}
 use Rattle.endpoint.specs.Entry as N
 use Rattle.layout.specs.Layout.{size}
 use Rattle.cluster.specs.Event as E
-use Rattle.cluster.specs.declared.Extent.{Extent}
-use Rattle.halting.specs.Stop as S
+use Rattle.outgoing.specs.declared.Extent.{Extent}
+use Rattle.cluster.specs.Stop as S
 use Rattle.history.specs.Trace.{Trace}
 use Rattle.mirror.specs.Run as R
 

@@ -19,11 +19,12 @@ use Rattle.step.specs.Stale.{staleMessage}
 use Rattle.step.specs.declared.Ending.{Ending}
 use Rattle.step.specs.declared.Ending.the-variants.{None}
 use Rattle.region.specs.Channel.{countOf, first}
-use Rattle.entries.specs.Entries.{Entry, entries, goTo}
+use Rattle.outgoing.specs.Entries.{Entry, entries, goTo}
 use Rattle.layout.specs.Layout.{stated, stopped, node, channel, fits, sound}
-use Rattle.cluster.specs.Event.{Result, refuse, within, isCut}
-use Rattle.cluster.specs.declared.Extent.{Extent}
-use Rattle.cluster.specs.declared.Extent.the-variants.{Whole}
+use Rattle.cluster.specs.Event.{Result, refuse}
+use Rattle.outgoing.specs.Outgoing.{within, isCut}
+use Rattle.outgoing.specs.declared.Extent.{Extent}
+use Rattle.outgoing.specs.declared.Extent.the-variants.{Whole}
 use Rattle.history.specs.Order.{OneTo}
 use Rattle.mirror.specs.Run as R
 use Rattle.points.specs.Calls.{Calls, event}

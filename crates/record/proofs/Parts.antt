@@ -66,7 +66,8 @@ module _ (c : Node) where
   restT = both heldT (within (c .kept) (c .keptview))
 
 pub sizes-most : (c : Node) → sizesOk c ≡ true → c .n ≤ nodes
-sizes-most c h = halves (nT c) (ownT c) h (λ p q. leb-true (c .n) nodes (both-right (leb 1 (c .n)) (leb (c .n) nodes) p))
+sizes-most c h =
+    halves (nT c) (ownT c) h (λ p q. leb-true (c .n) nodes (both-right (leb 1 (c .n)) (leb (c .n) nodes) p))
 
 pub parts : (c : Node) → usable c ≡ true → Parts c
 unfolding usable numbersOk tablesOk

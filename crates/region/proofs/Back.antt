@@ -29,7 +29,8 @@ use Rattle.record.specs.declared.Wait.{Wait}
 use Rattle.record.specs.declared.Wait.the-variants.{Idle, Reading, Writing, Comparing, Borrowing}
 use Rattle.region.specs.Record.{nPlace, codePlace, reportPlace, heardPlace, heardSize, viewPlace}
 use Rattle.region.specs.Record.{lastIn, atmaxIn, atroundIn, keptIn, waitIn, waitOf, waitWords, waitReport, kindOf}
-use Rattle.region.specs.Record.{kindCode, codesKnown, headOf, headIn, headBytes, numbers, recordBytes, recordOf, viewIn}
+use Rattle.region.specs.Record.{kindCode, codesKnown, headOf, headIn, headBytes, numbers}
+use Rattle.region.specs.Record.{recordBytes, recordOf, viewIn}
 use Rattle.region.specs.declared.stored.Head.{Head}
 use Rattle.region.proofs.Saved.{six-words, head-end}
 

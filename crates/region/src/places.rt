@@ -46,8 +46,8 @@ pub const REPORT_PLACE: usize = LARGEST_PLACE + WORD;
 
 pub const HEARD_PLACE: usize = REPORT_PLACE + REPORT;
 
-// The views by number: of the last reports, of those held for `maxtag` and for the open round, and the kept one; how many
-// they are, and where the first stands.
+// The views by number: of the last reports, of those held for `maxtag` and for the open round, and the kept one; how
+// many they are, and where the first stands.
 pub const LAST_IN: usize = 0;
 
 pub const ATMAX_IN: usize = 1;

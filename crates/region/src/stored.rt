@@ -33,7 +33,8 @@ ghost use Rattle.octets.specs.Bytes.{put};
 ghost use Rattle.view.specs.Size.{nodes};
 ghost use Rattle.view.specs.View.{viewBytes, firstOf};
 ghost use Rattle.region.specs.Record.{recordSize, nPlace, codePlace, lastIn, views, viewPlace};
-ghost use Rattle.region.specs.Record.{kindCode, kindOf, operationOf, waitOf, waitIn, waitWords, waitReport, waitBytes};
+ghost use Rattle.region.specs.Record.{kindCode, kindOf, operationOf, waitOf, waitIn};
+ghost use Rattle.region.specs.Record.{waitWords, waitReport, waitBytes};
 ghost use Rattle.region.specs.Record.{headOf, headBytes, withMaxtag, withRequest, withKept, withWait};
 ghost use Rattle.region.specs.Record.{viewsBytes, viewIn, recordBytes, codesKnown};
 

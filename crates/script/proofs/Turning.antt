@@ -10,6 +10,7 @@ use lib.ListN.{length, take, getD, length-append}
 use lib.Seq.{take-all, take-suc}
 use Rattle.octets.specs.Bytes.{put}
 use Rattle.octets.proofs.Put.{put-nil, put-then}
+use Rattle.answers.specs.Answer.{room}
 use Rattle.script.specs.Progress.{Turned, behind, stepped, turned}
 use Rattle.script.specs.declared.Progress.{Progress}
 use Rattle.script.proofs.Short.{step-short}
@@ -39,7 +40,7 @@ pub record Read (p : Progress) (s m o : List ℕ) (i : ℕ) (q : Progress) (k b 
   pub memory : k ≡ turned p (take i s) m .memory
   pub buffer : b ≡ put o 0 (turned p (take i s) m .text)
   pub place : at ≡ length (turned p (take i s) m .text)
-  pub short : at ≤ i * 320
+  pub short : at ≤ i * room
 
 pub read-none : (p : Progress) (s m o : List ℕ) → Read p s m o 0 p m o 0
 unfolding turned

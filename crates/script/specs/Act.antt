@@ -5,11 +5,11 @@ use mathlib.Core.List.{List}
 use Rattle.record.specs.declared.Operation.the-variants.{Update as UpdateOf, Scan as ScanOf}
 use Rattle.step.specs.Told.{Told, refusal, nothing, done, scan, spent, shown}
 use Rattle.layout.specs.Layout.{stated}
-use Rattle.cluster.specs.declared.Extent.{Extent}
-use Rattle.cluster.specs.declared.Extent.the-variants.{Whole, Cut}
+use Rattle.outgoing.specs.declared.Extent.{Extent}
+use Rattle.outgoing.specs.declared.Extent.the-variants.{Whole, Cut}
 use Rattle.cluster.specs.Event.{Result, refuse, begin, deliver}
 use Rattle.cluster.specs.Outcome.{toldOf}
-use Rattle.halting.specs.Stop.{stop}
+use Rattle.cluster.specs.Stop.{stop}
 use Rattle.lines.specs.declared.Extent.{Extent as Written}
 use Rattle.lines.specs.declared.Extent.the-variants.{Whole as WrittenWhole, Cut as WrittenCut}
 use Rattle.lines.specs.declared.Line.{Line}

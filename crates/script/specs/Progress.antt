@@ -14,17 +14,20 @@ use Rattle.lines.specs.declared.Line.{Line}
 use Rattle.input.specs.Input.{feed}
 use Rattle.input.specs.Carry.{carryOf, push, eventIn, nodesIn}
 use Rattle.input.specs.declared.Carry.{Carry}
-use Rattle.answers.specs.Answer.{line}
+use Rattle.answers.specs.Answer.{line, room}
 use Rattle.answers.specs.declared.Reply.the-variants.{No}
 use Rattle.script.specs.Act.{ran, printed}
 use Rattle.script.specs.declared.Stage.{Stage}
 use Rattle.script.specs.declared.Stage.the-variants.{First, Events, Over}
 use Rattle.script.specs.declared.Progress.{Progress}
 
--- The memory has room for five nodes. What a cluster of n nodes has of it, what stands there, and the memory with that
--- changed.
+-- The most nodes of a session, and its memory, which has room for them. What a cluster of n nodes has of it, what
+-- stands there, and the memory with that changed.
+abbrev pub sessionNodes : ℕ
+sessionNodes = 5
+
 abbrev pub memorySize : ℕ
-memorySize = clusterSize 5
+memorySize = clusterSize sessionNodes
 
 abbrev pub lent : ℕ → ℕ
 lent n = min (size n) memorySize
@@ -103,7 +106,7 @@ abbrev pub pieceSize : ℕ
 pieceSize = 1024
 
 abbrev pub textSize : ℕ
-textSize = pieceSize * 320
+textSize = pieceSize * room
 
 -- Before the first byte; whether it is over; and what is printed at the end of the text, where a first line that never
 -- came and a last line without its line feed are bad.

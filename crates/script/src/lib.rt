@@ -3,9 +3,12 @@
 use answers::ROOM;
 use answers::Reply;
 use answers::put_line;
+use block::BLOCK;
 use cluster::Answer;
 use cluster::Outcome;
 use input::Carry;
+use layout::BLOCKS_PLACE;
+use layout::STATED_PLACE;
 use lines::Line;
 use octets::least;
 use record::Operation;
@@ -17,6 +20,8 @@ ghost use Prim.Native.Nat.{_+_, _≤_};
 ghost use lib.ListN.{length, take};
 ghost use Rattle.octets.specs.Answer.{result};
 ghost use Rattle.octets.specs.Bytes.{put};
+ghost use Rattle.view.specs.Size.{nodes};
+ghost use Rattle.answers.specs.Answer.{room};
 ghost use Rattle.step.specs.Told.{told as tellsOf};
 ghost use Rattle.layout.specs.Layout.{stated};
 ghost use Rattle.cluster.specs.Event.{fresh};
@@ -27,14 +32,16 @@ ghost use Rattle.script.specs.Progress.{memorySize, pieceSize, textSize,
 ghost use Rattle.script.specs.Progress.{opened, told, stepped, turned, begun, finished, isOver};
 ghost use Rattle.script.specs.Progress.{next as nextOf};
 
-// The memory of a session: the bytes of a cluster of five nodes.
-pub const MEMORY: usize = 366726;
+// The most nodes of a session, and its memory: the bytes of their cluster.
+const SESSION_NODES: usize = 5;
+
+pub const MEMORY: usize = BLOCKS_PLACE + BLOCK * SESSION_NODES;
 
 // The most bytes of a piece of the text, and the room for what is printed for it: PIECE * ROOM, since each byte ends at
 // most one line.
 pub const PIECE: usize = 1024;
 
-pub const TEXT: usize = 327680;
+pub const TEXT: usize = PIECE * ROOM;
 
 // Where a session is: before its first line; among its events, with the number of nodes and of the next event; or over,
 // after a bad first line.
@@ -62,12 +69,12 @@ pub struct Turn {
     pub end: usize,
 }
 
-fn extent_of(x: lines::Extent) -> cluster::Extent
+fn extent_of(x: lines::Extent) -> outgoing::Extent
     ensures { λ r. ⌜ r ≡ extentOf x ⌝ }
 {
     match x {
-        lines::Extent::Whole => cluster::Extent::Whole,
-        lines::Extent::Cut(m) => cluster::Extent::Cut(m),
+        lines::Extent::Whole => outgoing::Extent::Whole,
+        lines::Extent::Cut(m) => outgoing::Extent::Cut(m),
     }
 }
 
@@ -85,7 +92,7 @@ fn act(b: &mut [u8], l: Line) -> Answer
             cluster::begin(b, node, Operation::Scan, extent_of(extent))
         }
         Line::Deliver { from, to, extent } => { cluster::deliver(b, from, to, extent_of(extent)) }
-        Line::Stop { node } => halting::stop(b, node),
+        Line::Stop { node } => cluster::stop(b, node),
         Line::Bad => cluster::refused(1),
     }
 }
@@ -129,12 +136,16 @@ fn reply_at(c: usize, a: Answer) -> Reply
 fn nodes_in(b: &[u8]) -> usize
     ensures { λ r. ⌜ r ≡ stated (now (b .entry)) ⌝ }
 {
-    if b.len() == 0 { 0 } else { index(b[0]) }
+    if b.len() == 0 {
+        0
+    } else {
+        index(b[STATED_PLACE])
+    }
 }
 
 // Runs a line as event e, writes what is printed at a place, and answers the place after it.
 fn run_at(b: &mut [u8], e: u64, l: Line, out: &mut [u8], at: usize) -> usize
-    requires { ⌜ at + 320 ≤ length (now out) ⌝ }
+    requires { ⌜ at + room ≤ length (now out) ⌝ }
     ensures { λ r. ⌜ (now (b .exit) ≡ ran l (now (b .entry)) .bytes)
         × (now (out .exit) ≡ put (now (out .entry)) at (printed e l (now (b .entry))))
         × (r ≡ at + length (printed e l (now (b .entry)))) ⌝ }
@@ -170,7 +181,7 @@ fn lent_for(n: usize) -> usize
 
 // Runs a line on the cluster of n nodes in the memory.
 fn run_in(m: &mut [u8], e: u64, n: usize, l: Line, out: &mut [u8], at: usize) -> usize
-    requires { ⌜ (length (now m) ≡ memorySize) × (at + 320 ≤ length (now out)) ⌝ }
+    requires { ⌜ (length (now m) ≡ memorySize) × (at + room ≤ length (now out)) ⌝ }
     ensures { λ r. ⌜ (now (m .exit) ≡ onCluster n (λ b. ran l b .bytes) (now (m .entry)))
         × (now (out .exit) ≡ put (now (out .entry)) at (printed e l (cluster n (now (m .entry)))))
         × (r ≡ at + length (printed e l (cluster n (now (m .entry))))) ⌝ }
@@ -190,7 +201,7 @@ fn fresh_in(m: &mut [u8], n: usize)
 
 // A bad line.
 fn put_bad(out: &mut [u8], at: usize, e: u64) -> usize
-    requires { ⌜ at + 320 ≤ length (now out) ⌝ }
+    requires { ⌜ at + room ≤ length (now out) ⌝ }
     ensures { λ r. ⌜ (now (out .exit) ≡ put (now (out .entry)) at (badLine e)) × (r ≡ at + length (badLine e)) ⌝ }
 {
     put_line(out, at, e, Reply::No(1), 0, view::absent())
@@ -198,7 +209,7 @@ fn put_bad(out: &mut [u8], at: usize, e: u64) -> usize
 
 // The first line, which says n, or 0 where it is bad.
 fn first_line(m: &mut [u8], n: usize, out: &mut [u8], at: usize) -> Passed
-    requires { ⌜ (length (now m) ≡ memorySize) × (at + 320 ≤ length (now out)) ⌝ }
+    requires { ⌜ (length (now m) ≡ memorySize) × (at + room ≤ length (now out)) ⌝ }
     ensures { λ r. ⌜ (r .stage ≡ opened n (now (m .entry)) .stage) × (now (m .exit) ≡ opened n (now (m .entry)) .memory)
         × (now (out .exit) ≡ put (now (out .entry)) at (opened n (now (m .entry)) .text))
         × (r .end ≡ at + length (opened n (now (m .entry)) .text)) ⌝ }
@@ -218,7 +229,7 @@ fn first_line(m: &mut [u8], n: usize, out: &mut [u8], at: usize) -> Passed
 
 // A line that has ended.
 fn pass(m: &mut [u8], s: Stage, c: Carry, out: &mut [u8], at: usize) -> Passed
-    requires { ⌜ (length (now m) ≡ memorySize) × (at + 320 ≤ length (now out)) ⌝ }
+    requires { ⌜ (length (now m) ≡ memorySize) × (at + room ≤ length (now out)) ⌝ }
     ensures { λ r. ⌜ (r .stage ≡ told s c (now (m .entry)) .stage) × (now (m .exit) ≡ told s c (now (m .entry)) .memory)
         × (now (out .exit) ≡ put (now (out .entry)) at (told s c (now (m .entry)) .text))
         × (r .end ≡ at + length (told s c (now (m .entry)) .text)) ⌝ }
@@ -241,7 +252,7 @@ fn pass(m: &mut [u8], s: Stage, c: Carry, out: &mut [u8], at: usize) -> Passed
 
 // One byte of the text.
 fn step(m: &mut [u8; MEMORY], p: Progress, x: u8, out: &mut [u8; TEXT], at: usize) -> Turn
-    requires { ⌜ at + 320 ≤ textSize ⌝ }
+    requires { ⌜ at + room ≤ textSize ⌝ }
     ensures { λ r. ⌜ (r .progress ≡ stepped p x (now (m .entry)) .progress)
         × (now (m .exit) ≡ stepped p x (now (m .entry)) .memory)
         × (now (out .exit) ≡ put (now (out .entry)) at (stepped p x (now (m .entry)) .text))

@@ -26,8 +26,8 @@ use Rattle.table.proofs.Laws.{all-at, all-all, getD-tab}
 
 -- ---- the entries of a view by the newest reports
 
-pub newest-tag : (t : ℕ) (last held : View) (w : ℕ) → 1 ≤ w → w ≤ nodes → tagOf (newest t last held) w
-    ≡ newestTag t last held w
+pub newest-tag : (t : ℕ) (last held : View) (w : ℕ) → 1 ≤ w → w ≤ nodes
+    → tagOf (newest t last held) w ≡ newestTag t last held w
 unfolding newest
 newest-tag t last held w l k = getD-tab nodes (newestTag t last held) w 0 l k
 

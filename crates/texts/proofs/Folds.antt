@@ -5,6 +5,7 @@ use mathlib.Core.Path.{_≡_, refl, sym, ap, subst, _∙_}
 use mathlib.Core.List.{List, [], _∷_, _++_, map, append-nil, append-assoc}
 use native.Mathlib.Omega.{arith}
 use lib.ListN.{length, replicate, length-replicate}
+use Rattle.view.specs.Size.{nodes}
 use Rattle.table.specs.Quorum.{faults}
 use Rattle.layout.specs.Layout.{clusterSize, stated}
 use Rattle.cluster.specs.Event.{Result, fresh, freshBytes}
@@ -54,7 +55,7 @@ left-events b (Stop c ∷ ls) = left-events (ran (Stop c) b .bytes) ls
 left-events b (Bad ∷ ls) = left-events b ls
 
 module _ (n : ℕ) (low : 1 ≤ n) (high : n ≤ 5) where
-  small : n ≤ 16
+  small : n ≤ nodes
   small = omega arith
 
   pub fresh-is : (b : List ℕ) → length b ≡ clusterSize n → fresh n b .bytes ≡ freshOf n

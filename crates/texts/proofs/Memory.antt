@@ -8,14 +8,15 @@ use borrow.Author.Tests.{le-leb}
 use Rattle.octets.specs.Bytes.{part}
 use Rattle.octets.proofs.Test.{both-true}
 use Rattle.octets.proofs.Put.{length-part, length-put, part-same}
+use Rattle.view.specs.Size.{nodes}
 use Rattle.layout.specs.Layout.{clusterSize, size}
 use Rattle.script.specs.Progress.{memorySize, lent, cluster, onCluster}
 
 size-is : (n : ℕ) → 1 ≤ n → n ≤ 5 → size n ≡ clusterSize n
 unfolding size
 size-is n low high =
-    let small : n ≤ 16 = omega arith in
-    rw (both-true (le-leb 1 n low) (le-leb n 16 small)) refl
+    let small : n ≤ nodes = omega arith in
+    rw (both-true (le-leb 1 n low) (le-leb n nodes small)) refl
 
 pub lent-is : (n : ℕ) → 1 ≤ n → n ≤ 5 → lent n ≡ clusterSize n
 lent-is n low high =

@@ -5,6 +5,7 @@ use mathlib.Core.List.{List, [], _∷_, _++_, append-assoc, append-nil}
 use native.Mathlib.Omega.{arith}
 use Rattle.octets.specs.Loop.{join}
 use Rattle.octets.specs.Answer.{Answer, result, refused}
+use Rattle.view.specs.Size.{nodes}
 use Rattle.view.specs.declared.View.{View}
 use Rattle.step.specs.declared.Ending.{Ending}
 use Rattle.step.specs.declared.Ending.the-variants.{None, Done, Scan as Scanned, Spent}
@@ -41,15 +42,15 @@ join-reports (suc n) v =
     ∙ ap (λ (r : List ℕ). reports (viewOf n v) ++ r) (sym (append-nil (entryAt v (suc n - 1))))
     ∙ sym (reports-append (viewOf n v) (entryOf v (suc n) ∷ []))
 
-entries-reports : (n : ℕ) → n ≤ 16 → (v : View) → entries n v ≡ reports (viewOf n v)
+entries-reports : (n : ℕ) → n ≤ nodes → (v : View) → entries n v ≡ reports (viewOf n v)
 unfolding entries
 entries-reports n most v =
-    let all : min n 16 ≡ n = omega (arith, most) in
+    let all : min n nodes ≡ n = omega (arith, most) in
     ap (λ (k : ℕ). join k (entryAt v)) all ∙ join-reports n v
 
 -- ---- a cluster of n nodes
 
-module _ (n : ℕ) (most : n ≤ 16) where
+module _ (n : ℕ) (most : n ≤ nodes) where
   shows : (e c : ℕ) (a : Answer Ending) (v : View)
       → Shows e c (answerOf n v a) (line e (replyOf c (told a v)) n (shown (told a v)))
   unfolding line

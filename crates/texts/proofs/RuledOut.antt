@@ -15,7 +15,7 @@ use Rattle.theory.specs.Update.{upd, upd2}
 use Rattle.record.specs.declared.Operation.the-variants.{Scan as ScanOf}
 use Rattle.layout.specs.Layout.{clusterSize, node}
 use Rattle.cluster.specs.Event.{fresh}
-use Rattle.cluster.specs.declared.Extent.the-variants.{Whole}
+use Rattle.outgoing.specs.declared.Extent.the-variants.{Whole}
 use Rattle.digits.specs.Decimal.{allDigits, value}
 use Rattle.lines.specs.Grammar.{numberOf, placeOf, fieldLength, word, after, tailOf, eventOf, nodesOf}
 use Rattle.lines.specs.declared.Line.{Line}

@@ -13,7 +13,7 @@ use Rattle.theory.specs.Count.{count}
 use Rattle.theory.specs.Update.{upd, upd2}
 use Rattle.view.specs.Report.{noReport, reportOf}
 use Rattle.record.specs.declared.Operation.the-variants.{Update}
-use Rattle.cluster.specs.declared.Extent.the-variants.{Whole}
+use Rattle.outgoing.specs.declared.Extent.the-variants.{Whole}
 use Rattle.digits.specs.Decimal.{allDigits, value}
 use Rattle.digits.specs.Hex.{allHex, hexValue, hexBytes}
 use Rattle.lines.specs.Grammar.{numberOf, reportIn, placeOf, fieldLength, word, after, tailOf, eventOf, nodesOf}

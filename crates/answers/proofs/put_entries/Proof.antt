@@ -11,7 +11,7 @@ use Rattle.octets.proofs.Put.{put-nil, put-then}
 use Rattle.octets.proofs.Table.{join-none, join-more}
 use Rattle.view.specs.Report.{noReport, reportNumber}
 use Rattle.view.specs.declared.Report.{Report}
-use Rattle.answers.specs.Answer.{entry, entryAt}
+use Rattle.answers.specs.Answer.{entry, entryAt, entryRoom}
 use Rattle.answers.proofs.put_entries.Statement.{statement}
 use Rattle.answers.proofs.put_entries.Tie as tie
 
@@ -20,7 +20,7 @@ rule tags reports i = entry (getD tags i 0) (reportNumber (getD reports i noRepo
 
 abbrev Inv-loop : tie.InvT-loop
 Inv-loop out₀ at n tags reports k₀ i₀ out k i = (i ≤ n) × (out ≡ put out₀ at (join i (rule tags reports))) ×
-    (k ≡ at + length (join i (rule tags reports))) × (k ≤ at + 17 * i) × (length out ≡ length out₀)
+    (k ≡ at + length (join i (rule tags reports))) × (k ≤ at + entryRoom * i) × (length out ≡ length out₀)
 
 abbrev μ-loop : tie.MeasureT-loop
 μ-loop out₀ at n tags reports k₀ i₀ out k i = n - i

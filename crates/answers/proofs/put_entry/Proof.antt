@@ -9,11 +9,12 @@ use lib.Dec.{eqb}
 use borrow.Author.Tests.{eq-eqb, ne-eqb}
 use Rattle.octets.specs.Bytes.{be, put}
 use Rattle.octets.proofs.Put.{put-then}
+use Rattle.view.specs.Size.{reportSize}
 use Rattle.view.specs.Report.{reportNumber}
 use Rattle.view.proofs.ReportBytes.{number-bytes}
 use Rattle.digits.specs.Hex.{hexText}
 use Rattle.digits.proofs.HexBack.{length-text}
-use Rattle.answers.specs.Answer.{entry}
+use Rattle.answers.specs.Answer.{entry, entryRoom}
 use Rattle.answers.proofs.put_entry.Statement.{statement}
 use Rattle.answers.proofs.put_entry.Tie as tie
 
@@ -32,11 +33,11 @@ returns-2 c =
     let o = a .out .now in
     let e : eqb (a .tag) 0 ≡ false = ne-eqb _ _ (c .before .before .before .before .before .before .before .before
     .before .before .before .before .before .if1 .left) in
-    let b : List ℕ = be 8 (reportNumber (a .p)) in
+    let b : List ℕ = be reportSize (reportNumber (a .p)) in
     let same = number-bytes (a .p)
     (record { extensions = search needs; lines = search needs; waiting = search needs; wakeups = search needs }) in
     let h : List ℕ = hexText 8 b in
-    let l : a .at + 17 ≡ a .at + length (32 ∷ h) = omega (arith, length-text 8 b) in
+    let l : a .at + entryRoom ≡ a .at + length (32 ∷ h) = omega (arith, length-text reportSize b) in
     rw e (
       put-then o (a .at) (32 ∷ []) h (a .at + 1) (search needs) refl
           (c .before .before .before .before .before .before .before .before .before .before .put-bytes2 .ensures)

@@ -44,7 +44,8 @@ returns-2 c =
     let r = a .r .now in
     let head = c .before .before .before .before .before .before .head-of .ensures in
     let e : ltb (word r maxtagPlace) (a .t) ≡ false =
-    sym (ap (λ (h : Head). ltb (h .maxtag) (a .t)) head) ∙ le-ltb _ _ (c .before .before .before .before .if1 .left) in (
+    sym (ap (λ (h : Head). ltb (h .maxtag) (a .t)) head)
+    ∙ le-ltb _ _ (c .before .before .before .before .if1 .left) in (
       sym e,
       c .before .before .save-head2 .ensures ∙ ap (λ (h : Head). put r nPlace (headBytes h)) head
           ∙ raised-bytes r (λ i. c .before .before .before .before .before .before .before .before .slice-known .given i

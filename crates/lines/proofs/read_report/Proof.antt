@@ -5,7 +5,8 @@ use lib.ListN.{length}
 use lib.Dec.{eqb}
 use borrow.Author.Tests.{eqb-true}
 use Rattle.octets.proofs.Test.{both-left}
-use Rattle.digits.specs.Hex.{allHex}
+use Rattle.view.specs.Size.{reportSize}
+use Rattle.digits.specs.Hex.{allHex, hexSize}
 use Rattle.lines.specs.Grammar.{isReport, reportIn}
 use Rattle.lines.proofs.read_report.Statement.{statement}
 use Rattle.lines.proofs.read_report.Tie as tie
@@ -15,7 +16,7 @@ hex-bytes-requires c κs =
     let w = c .before .before .before .before .args .w .now in
     let e : isReport w ≡ true = sym (c .before .and .ensures ∙ simp (c .before .before .all-hex .ensures))
     ∙ c .if1 .taken in
-    eqb-true (length w) 16 (both-left (eqb (length w) 16) (allHex w) e)
+    eqb-true (length w) (hexSize reportSize) (both-left (eqb (length w) (hexSize reportSize)) (allHex w) e)
 
 returns : tie.Need-returns
 unfolding reportIn

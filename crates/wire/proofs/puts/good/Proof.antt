@@ -29,7 +29,8 @@ returns c =
     let head = c11 .put-one in
     let field = c6 .put-bytes in
     let q : field .last .0 ≡ put (head .last .0) secondHead h =
-    field .ensures ∙ ap (λ (x : ℕ). put (head .last .0) secondHead (6 ∷ n / 256 ∷ x ∷ [])) (sym (div-one (n % 256))) in (
+    field .ensures
+    ∙ ap (λ (x : ℕ). put (head .last .0) secondHead (6 ∷ n / 256 ∷ x ∷ [])) (sym (div-one (n % 256))) in (
       simp (k, le-leb _ _ room),
       put-then o 0 (u ++ h) (a .v .now) goodHead (omega arith) refl
           (put-then o 0 u h secondHead (omega arith) refl (head .ensures) q) (c2 .put-bytes2 .ensures),
