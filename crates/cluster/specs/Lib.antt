@@ -1,5 +1,6 @@
 pub mod Event
+pub mod Stop
 pub mod Outcome
-pub mod Room
+pub mod Ready
 pub mod First
 pub mod Shown

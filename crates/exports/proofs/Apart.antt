@@ -1,7 +1,7 @@
 -- The codes at the border to C are told apart: by cases of what is told, and by the refusals of each event in turn.
 use Prim.Native.Nat.{ℕ, _+_, _*_, _≤_, _<_}
 use native.Mathlib.Omega.{arith}
-use mathlib.Core.Path.{_≡_, refl, ap}
+use mathlib.Core.Path.{_≡_, refl, sym, ap, subst}
 use mathlib.Core.Bool.{Bool, true, false, not}
 use mathlib.Core.List.{List}
 use lib.ListN.{length}
@@ -17,7 +17,6 @@ use Rattle.wire.specs.Layout.{encode, allowed}
 use Rattle.wire.specs.Codec.{said, viewAt, begins, front, whole, decode, answer}
 use Rattle.wire.specs.declared.Message.{Message}
 use Rattle.figures.specs.Figures.{figuresOf}
-use Rattle.table.specs.Quorum.{faults}
 use Rattle.record.specs.Usable.{isOpen, full}
 use Rattle.record.specs.declared.Operation.{Operation}
 use Rattle.step.specs.declared.Rule.{Rule}
@@ -30,13 +29,12 @@ use Rattle.step.specs.Stale.{staleMessage}
 use Rattle.step.specs.Told.{spentNumber, told}
 use Rattle.region.specs.Channel.{countOf, first}
 use Rattle.block.specs.Block.{takeOff}
-use Rattle.outgoing.specs.Entries.{entries}
-use Rattle.layout.specs.Layout.{clusterSize, stated, stopped, node, channel, onBlock, fits, sound, isNode}
+use Rattle.layout.specs.Layout.{clusterSize, stated, faultsIn, stopped, node, channel, onBlock, fits, sound, isNode}
 use Rattle.outgoing.specs.declared.Extent.{Extent}
-use Rattle.cluster.specs.Event.{Result, demand, checked, settle}
-use Rattle.outgoing.specs.Outgoing.{within, mayStop, mayCut, stepped, roomy}
-use Rattle.cluster.specs.Event.{deliverMessage, fresh, begin, deliver}
+use Rattle.outgoing.specs.Outgoing.{mayStop, mayCut, hasRoom}
+use Rattle.cluster.specs.Event.{Result, demand, admitted, settle, deliverMessage, fresh, begin, deliver}
 use Rattle.cluster.specs.Stop.{stop}
+use Rattle.cluster.proofs.Admitted.{admitted-is}
 use Rattle.exports.specs.Code.{lastRefusal, doneFrom, scanFrom, ruleCode, eventCode, ruleIn, codeOf}
 use Rattle.exports.specs.Apart.{meant, ruleMeant, Called, by-fresh, by-begin, by-deliver, by-stop}
 use Rattle.exports.specs.Apart.{Numbered, Apart}
@@ -118,44 +116,42 @@ demanded : (b : List ℕ) (t : Bool) (k : ℕ) {next : Result} → both (leb 1 k
 demanded b true k within-range h = h
 demanded b false k within-range h = record { numbered = in-range k within-range }
 
--- what comes after 12 and 2
-of-checked : (b : List ℕ) {next : Result} → Proper next → Proper (checked b next)
-of-checked b h = demanded b (fits b) 12 refl (demanded b (sound b) 2 refl h)
+-- what comes after 12, 2, 3 and 4
+of-admitted : (a c : ℕ) (b : List ℕ) {next : Result} → Proper next → Proper (admitted a c b next)
+of-admitted a c b {next} h =
+    subst Proper (sym (admitted-is a c b next))
+    (demanded b (fits b) 12 refl
+    (demanded b (sound b) 2 refl
+    (demanded b (both (isNode (stated b) a) (isNode (stated b) c)) 3 refl (demanded b (not (stopped b c)) 4 refl h))))
 
 settled : (n a c : ℕ) (x : Extent) (s : Step) (found b : List ℕ) → Proper (settle n a c x s found b)
 unfolding settle
 settled n a c x s found b =
-    demanded b (roomy n c (within x (entries n a (s .outbox))) (stepped n c x (s .node) found)) 11 refl
-    (record { numbered = accepted })
+    demanded b (hasRoom n a c x (s .node) (s .outbox) found) 11 refl (record { numbered = accepted })
 
 of-begin : (c : ℕ) (o : Operation) (x : Extent) (b : List ℕ) → Proper (begin c o x b)
 unfolding begin
 of-begin c o x b =
     let n = stated b in
-    of-checked b
-    (demanded b (isNode n c) 3 refl
-    (demanded b (not (stopped b c)) 4 refl
+    of-admitted c c b
     (demanded b (not (isOpen (node b c .wait))) 5 refl
     (demanded b (not (full (node b c))) 6 refl
     (demanded b (mayCut n x b) 10 refl
-    (settled n c c x (beginStep (faults n) (node b c) o) b b))))))
+    (settled n c c x (beginStep (faultsIn b) (node b c) o) b b))))
 
 handed : (n a c : ℕ) (x : Extent) (b s : List ℕ) (m : Answer (Message × ℕ)) → Proper (deliverMessage n a c x b s m)
 handed n a c x b s (refused k) = record { numbered = in-range 7 refl }
 handed n a c x b s (result p) =
     demanded b (not (staleMessage (node b c) a (p .0))) 9 refl
     (demanded b (mayCut n x b) 10 refl
-    (settled n a c x (messageStep (faults n) (node b c) a (p .0) (viewOf n (viewAt n s))) (onBlock c (takeOff a) b) b))
+    (settled n a c x (messageStep (faultsIn b) (node b c) a (p .0) (viewOf n (viewAt n s))) (onBlock c (takeOff a) b) b))
 
 of-deliver : (a c : ℕ) (x : Extent) (b : List ℕ) → Proper (deliver a c x b)
 unfolding deliver
 of-deliver a c x b =
     let n = stated b in
     let s = first (channel b a c) in
-    of-checked b
-    (demanded b (both (isNode n a) (isNode n c)) 3 refl
-    (demanded b (not (stopped b c)) 4 refl
-    (demanded b (ltb 0 (countOf (channel b a c))) 8 refl (handed n a c x b s (front n s)))))
+    of-admitted a c b (demanded b (ltb 0 (countOf (channel b a c))) 8 refl (handed n a c x b s (front n s)))
 
 of-fresh : (n : ℕ) (b : List ℕ) → Proper (fresh n b)
 unfolding fresh
@@ -165,10 +161,7 @@ of-fresh n b =
 of-stop : (c : ℕ) (b : List ℕ) → Proper (stop c b)
 unfolding stop
 of-stop c b =
-    let n = stated b in
-    of-checked b
-    (demanded b (isNode n c) 3 refl
-    (demanded b (not (stopped b c)) 4 refl (demanded b (mayStop n b) 10 refl (record { numbered = accepted }))))
+    of-admitted c c b (demanded b (mayStop (stated b) b) 10 refl (record { numbered = accepted }))
 
 proper : {e : Result} → Called e → Proper e
 proper (by-fresh n b) = of-fresh n b

@@ -11,14 +11,13 @@ use borrow.Author.Tests.{eqb-true, eq-eqb, ne-eqb, leb-true}
 use Rattle.octets.specs.Test.{pick, both}
 use Rattle.octets.proofs.Test.{both-left, both-right}
 use Rattle.table.specs.Loop.{all, count}
-use Rattle.table.specs.Quorum.{faults}
 use Rattle.table.proofs.Laws.{all-at}
 use Rattle.view.specs.Size.{isSize, nodes}
 use Rattle.record.specs.Usable.{usable}
 use Rattle.region.specs.Channel.{countOf, capacity}
 use Rattle.region.specs.Record.{recordOf, codesKnown}
 use Rattle.block.specs.Block.{recordIn, recordSound, channelsSound, blockSound}
-use Rattle.layout.specs.Layout.{clusterSize, stated, block, stopped, node, channel, fits, sound, isNode, faultsIn}
+use Rattle.layout.specs.Layout.{clusterSize, stated, faultsIn, block, stopped, node, channel, fits, sound, isNode}
 
 pub is-size : (n : ℕ) → isSize n ≡ true → (1 ≤ n) × (n ≤ nodes)
 is-size n h = (
@@ -68,7 +67,7 @@ unfolding fits
 fits-unsized b n h e s = rw (ne-eqb (length b) 0 h, sym e, s) refl
 
 pub sound-sized : (b : List ℕ) (n : ℕ) → n ≡ stated b → isSize n ≡ true
-    → sound b ≡ both (all n (λ c. blockSound n c (block b c))) (leb (count n (stopped b)) (faults n))
+    → sound b ≡ both (all n (λ c. blockSound n c (block b c))) (leb (count n (stopped b)) (faultsIn b))
 unfolding sound
 sound-sized b n e s = rw (sym e, s) refl
 

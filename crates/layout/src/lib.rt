@@ -14,7 +14,7 @@ ghost use Rattle.table.specs.Loop.{all, count};
 ghost use Rattle.region.specs.Channel.{slotSize, countOf, first};
 ghost use Rattle.region.specs.Record.{recordSize, recordOf, recordBytes};
 ghost use Rattle.block.specs.Block.{recordIn, keep, takeOff, receive, halt, blockSound};
-ghost use Rattle.layout.specs.Layout.{clusterSize, size as sizeOf, stated, block, stopped, channel, onBlock, fits, sound, isNode};
+ghost use Rattle.layout.specs.Layout.{clusterSize, size as sizeOf, stated, faultsIn, block, stopped, channel, onBlock, fits, sound, isNode};
 
 // Where n is stated, and where the blocks stand.
 pub const STATED_PLACE: usize = 0;
@@ -30,6 +30,14 @@ pub fn size(n: usize) -> usize
     } else {
         0
     }
+}
+
+// f: the most nodes that may stop.
+pub fn faults_in(b: &[u8]) -> usize
+    requires { ⌜ 1 ≤ length (now b) ⌝ }
+    ensures { λ r. ⌜ r ≡ faultsIn (now (b .entry)) ⌝ }
+{
+    most_faults(index(b[STATED_PLACE]))
 }
 
 // Whether c is a node's number.
@@ -183,7 +191,7 @@ pub fn is_sound(b: &[u8]) -> bool
 {
     let n = index(b[STATED_PLACE]);
     if and(1 <= n, n <= NODES) {
-        return and(blocks_sound(b, n), stopped_nodes(b, n) <= most_faults(n));
+        return and(blocks_sound(b, n), stopped_nodes(b, n) <= faults_in(b));
     }
     false
 }

@@ -1,37 +1,30 @@
 -- A stop on bytes is a stop of the algorithm's cluster.
 use Prim.Native.Nat.{ℕ, _≤_}
 use native.Mathlib.Decide.{decLt}
-use mathlib.Core.Path.{_≡_, refl, sym, ap, _∙_, subst}
+use mathlib.Core.Path.{refl}
 use mathlib.Core.Bool.{decide-iff}
 use mathlib.Core.List.{List}
 use Rattle.theory.specs.Count as C
 use Rattle.table.specs.Quorum.{faults}
-use Rattle.layout.specs.Layout.{stated}
 use Rattle.outgoing.specs.declared.Extent.the-variants.{Cut}
 use Rattle.cluster.specs.Stop.{stopIn, stop}
 use Rattle.eqaso.specs.Cluster as K
 use Rattle.mirror.specs.Mirrors.{Mirrors}
 use Rattle.mirror.specs.SameResult.{SameResult}
 use Rattle.mirror.proofs.Settle.{tells-true}
-use Rattle.mirror.proofs.Checks.{is-checked}
-use Rattle.mirror.proofs.Events.{same-isNode, one-to, same-demand, stands-tells, cut-tells}
+use Rattle.mirror.proofs.Events.{twice-isNode, one-to, same-demand, same-admitted, cut-tells}
 use Rattle.mirror.proofs.Stops.{stop-mirrors}
 
 module _ {n : ℕ} (low : 1 ≤ n) (small : n ≤ 16) {b : List ℕ} {σ : K.Cluster} (mirror : Mirrors n b σ) where
-  ceases-in : (c : ℕ) → SameResult n (stopIn n c b) (K.stopEvent n (faults n) c σ)
-  ceases-in c =
-      same-demand low small mirror (K.holds (K.isNode n c)) (tells-true (same-isNode n c)) 3 λ is.
+  pub ceases : (c : ℕ) → SameResult n (stop c b) (K.stopEvent n (faults n) c σ)
+  unfolding stop
+  ceases c =
+      same-admitted low small mirror c c (λ k. stopIn k c b) (K.holds (K.isNode n c)) (tells-true (twice-isNode n c))
+      (one-to n c) λ is stands.
       let at = one-to n c is in
-      same-demand low small mirror (K.holds (K.stands σ c)) (stands-tells low small mirror c at) 4 λ stands.
       same-demand low small mirror (K.holds (K.mayStop n (faults n) σ)) (cut-tells low small mirror (Cut 0)) 10 λ may.
       record {
         answer = refl;
         sent = refl;
         mirrors = stop-mirrors small mirror c at (decide-iff (decLt (C.count (σ .stopped) n) (faults n)) .0 may);
       }
-
-  pub ceases : (c : ℕ) → SameResult n (stop c b) (K.stopEvent n (faults n) c σ)
-  unfolding stop
-  ceases c = subst (λ r. SameResult n r (K.stopEvent n (faults n) c σ))
-      (ap (λ k. stopIn k c b) (sym (mirror .shows .states)) ∙ sym (is-checked low small mirror (stopIn (stated b) c b)))
-      (ceases-in c)

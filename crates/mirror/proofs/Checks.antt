@@ -1,8 +1,8 @@
 -- Bytes that mirror a cluster pass the checks that every event begins with: 12 and 2 do not come up.
 use Prim.Native.Nat.{ℕ, _≤_}
 use native.Mathlib.Omega.{arith}
-use mathlib.Core.Path.{_≡_, refl, sym}
-use mathlib.Core.Bool.{true}
+use mathlib.Core.Path.{_≡_, refl, sym, _∙_}
+use mathlib.Core.Bool.{true, not}
 use mathlib.Core.List.{List}
 use lib.Dec.{leb, eqb}
 use lib.ListN.{length}
@@ -18,8 +18,9 @@ use Rattle.record.specs.Usable.{usable}
 use Rattle.region.specs.Channel.{capacity}
 use Rattle.region.specs.Record.{codesKnown, recordOf}
 use Rattle.block.specs.Block.{waitingIn, recordIn, nodeIn, blockSound}
-use Rattle.layout.specs.Layout.{clusterSize, block, stopped, fits, sound}
+use Rattle.layout.specs.Layout.{clusterSize, stated, block, stopped, fits, sound, isNode}
 use Rattle.cluster.specs.Event as E
+use Rattle.cluster.proofs.Admitted.{admitted-is}
 use Rattle.history.specs.Order.{OneTo}
 use Rattle.eqaso.specs.Cluster as K
 use Rattle.refine.proofs.Quorums.{same-count}
@@ -57,5 +58,7 @@ module _ {n : ℕ} (low : 1 ≤ n) (small : n ≤ 16) {b : List ℕ} {σ : K.Clu
       both-right (codesKnown r) (usable (recordOf r)) (both-left (both (codesKnown r) (usable (recordOf r)))
       (both (eqb (recordOf r .n) n) (eqb (recordOf r .own) c)) (M .shows .says c o .sound))
 
-  pub is-checked : (r : E.Result) → E.checked b r ≡ r
-  is-checked r = rw (is-fit, is-sound) refl
+  -- Of the refusals before an event's own only 3 and 4 are left.
+  pub is-admitted : (a c : ℕ) (next : ℕ → E.Result) → E.admitted a c b (next (stated b))
+      ≡ E.demand (both (isNode n a) (isNode n c)) 3 b (E.demand (not (stopped b c)) 4 b (next n))
+  is-admitted a c next = admitted-is a c b (next (stated b)) ∙ rw (is-fit, is-sound, M .shows .states) refl

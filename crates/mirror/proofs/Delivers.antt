@@ -26,7 +26,7 @@ use Rattle.step.specs.Move.{messageStep}
 use Rattle.step.specs.Stale.{staleMessage}
 use Rattle.step.proofs.Allowed.{allowed-lawful}
 use Rattle.region.specs.Channel.{capacity, countOf, first}
-use Rattle.layout.specs.Layout.{stated, stopped, node, channel, isNode}
+use Rattle.layout.specs.Layout.{node, channel}
 use Rattle.cluster.specs.Event as E
 use Rattle.outgoing.specs.declared.Extent.{Extent}
 use Rattle.history.specs.Message as M
@@ -45,9 +45,9 @@ use Rattle.mirror.proofs.LetOut.{both-and}
 use Rattle.mirror.proofs.Says.{says-count, says-first}
 use Rattle.mirror.proofs.Shows.{Gone, shows-take}
 use Rattle.mirror.proofs.Settle.{same-refusal, tells-true, settles}
-use Rattle.mirror.proofs.Checks.{sized, is-usable, is-checked}
+use Rattle.mirror.proofs.Checks.{sized, is-usable}
 use Rattle.mirror.proofs.Safety.{message-safe}
-use Rattle.mirror.proofs.Events.{same-isNode, one-to, same-demand, stands-tells, cut-tells, few-then}
+use Rattle.mirror.proofs.Events.{same-isNode, one-to, same-demand, same-admitted, cut-tells, few-then}
 
 abbrev pub IsResult : {X : Type 0} → Answer X → Type 0
 IsResult (result x) = Unit {0}
@@ -111,12 +111,13 @@ module _ {n : ℕ} (low : 1 ≤ n) (small : n ≤ 16) {b : List ℕ} {σ : K.Clu
         means (rw (not-stale small F a from (p .0) v ex)
         (same-demand low small mirror (K.holds (K.mayCut n (faults n) (extentOf x) σ))
         (cut-tells low small mirror x) 10 λ cut.
-        settles small (sized low small mirror) a c from at x (few-then low small mirror x c cut) mirror q
+        rw (mirror .shows .states)
+        (settles small (sized low small mirror) a c from at x (few-then low small mirror x c cut) mirror q
         (shows-take small (mirror .shows) a c from at waits) gone room (messageStep (faults n) (node b c) a (p .0) v)
         (A.messageStep n (faults n) c a (messageOf n c v (p .0)) (σ .nodes c))
         (message-follows small F (bounded c) (faults n) a from (p .0) v (sized-view n (viewAt n s) small) ex)
         (message-safe small F (is-usable low small mirror c at) (faults n) a from (p .0) v
-        (allowed-lawful n (p .0) (viewAt n s) (front-only n s (p .0) (p .1) e .allowed-is)))))
+        (allowed-lawful n (p .0) (viewAt n s) (front-only n s (p .0) (p .1) e .allowed-is))))))
       where
         v : View
         v = viewOf n (viewAt n s)
@@ -139,16 +140,14 @@ module _ {n : ℕ} (low : 1 ≤ n) (small : n ≤ 16) {b : List ℕ} {σ : K.Clu
   module _ (expects : (m : M.Message) (rest : List M.Message) → OneTo n c → σ .stopped c ≡ false
       → σ .channel a c ≡ m ∷ rest
       → Expected n a (σ .nodes c) m) where
-    delivers-in : SameResult n (E.deliverIn n a c x b) (K.deliverEvent n (faults n) channelRoom a c (extentOf x) σ)
-    unfolding s
-    delivers-in =
-        same-demand low small mirror (K.holds (K.isNode n a && K.isNode n c))
-        (tells-true (ap₂ both (same-isNode n a) (same-isNode n c) ∙ both-and (K.isNode n a) (K.isNode n c))) 3 λ is.
+    pub delivers : SameResult n (E.deliver a c x b) (K.deliverEvent n (faults n) channelRoom a c (extentOf x) σ)
+    unfolding s E.deliver
+    delivers =
+        same-admitted low small mirror a c (λ k. E.deliverIn k a c x b) (K.holds (K.isNode n a && K.isNode n c))
+        (tells-true (ap₂ both (same-isNode n a) (same-isNode n c) ∙ both-and (K.isNode n a) (K.isNode n c)))
+        (λ is. one-to n c (and-both (K.isNode n a) (K.isNode n c) is .1)) λ is up.
         let (f, g) = and-both (K.isNode n a) (K.isNode n c) is in
-        let from : OneTo n a = one-to n a f in
-        let at : OneTo n c = one-to n c g in
-        same-demand low small mirror (K.holds (K.stands σ c)) (stands-tells low small mirror c at) 4 λ up.
-        go from at (not-true (σ .stopped c) up) (σ .channel a c) refl
+        go (one-to n a f) (one-to n c g) (not-true (σ .stopped c) up) (σ .channel a c) refl
       where
         go : OneTo n a → OneTo n c → σ .stopped c ≡ false → (l : List M.Message) → σ .channel a c ≡ l
             → SameResult n (E.demand (ltb 0 (countOf (channel b a c))) 8 b
@@ -159,10 +158,3 @@ module _ {n : ℕ} (low : 1 ≤ n) (small : n ≤ 16) {b : List ℕ} {σ : K.Clu
             (omega arith) in
             rw (le-ltb 0 (countOf (channel b a c)) none) (same-refusal mirror 8)
         go from at up (m ∷ rest) e = handles from at up m rest e (expects m rest at up e)
-
-    pub delivers : SameResult n (E.deliver a c x b) (K.deliverEvent n (faults n) channelRoom a c (extentOf x) σ)
-    unfolding E.deliver
-    delivers = subst (λ r. SameResult n r (K.deliverEvent n (faults n) channelRoom a c (extentOf x) σ))
-        (ap (λ k. E.deliverIn k a c x b) (sym (mirror .shows .states))
-        ∙ sym (is-checked low small mirror (E.deliverIn (stated b) a c x b)))
-        delivers-in

@@ -34,7 +34,7 @@ use Rattle.mirror.specs.Mirrors.{channelRoom, extentOf, Mirrors}
 use Rattle.mirror.specs.SameResult.{SameResult}
 use Rattle.mirror.proofs.LetOut.{leb-decides, both-and}
 use Rattle.mirror.proofs.Settle.{same-refusal, tells-true, settles}
-use Rattle.mirror.proofs.Checks.{sized, same-stopped, is-usable, is-checked}
+use Rattle.mirror.proofs.Checks.{sized, same-stopped, is-usable, is-admitted}
 use Rattle.mirror.proofs.Safety.{begin-safe}
 
 -- The tests of the code are the decisions of the algorithm.
@@ -48,6 +48,14 @@ lt-decides a b = elim (decLt a b) as (λ d. leb (suc a) b ≡ decide d) [
 
 pub same-isNode : (n c : ℕ) → isNode n c ≡ K.isNode n c
 same-isNode n c = ap₂ both (lt-decides 0 c) (leb-decides c n) ∙ both-and (decide (decLt 0 c)) (decide (decLe c n))
+
+-- The test of one node is asked twice.
+pub twice-isNode : (n c : ℕ) → both (isNode n c) (isNode n c) ≡ K.isNode n c
+twice-isNode n c = go (isNode n c) ∙ same-isNode n c
+  where
+    go : (t : Bool) → both t t ≡ t
+    go true = refl
+    go false = refl
 
 pub one-to : (n c : ℕ) → K.isNode n c ≡ true → OneTo n c
 one-to n c e = let (x, y) = and-both (decide (decLt 0 c)) (decide (decLe c n)) e in
@@ -64,8 +72,17 @@ module _ {n : ℕ} (low : 1 ≤ n) (small : n ≤ 16) {b : List ℕ} {σ : K.Clu
 
   pub cut-tells : (x : Extent) → Tells (O.mayCut n x b) (K.mayCut n (faults n) (extentOf x) σ ≡ true)
   cut-tells Whole = tells-true refl
-  cut-tells (Cut m) = tells-true (ap (λ k. ltb k (faults n)) (same-stopped low small mirror)
+  cut-tells (Cut m) = tells-true (ap₂ ltb (same-stopped low small mirror) (ap faults (mirror .shows .states))
       ∙ lt-decides (C.count (σ .stopped) n) (faults n))
+
+  -- An event is admitted on the same conditions.
+  pub same-admitted : (a c : ℕ) (next : ℕ → E.Result) {P : Type 0} (d : Dec P)
+      → Tells (both (isNode n a) (isNode n c)) P → (P → OneTo n c) → {r′ : K.Result} → (P → K.stands σ c ≡ true → SameResult n (next n) r′)
+      → SameResult n (E.admitted a c b (next (stated b))) (K.demand d 3 σ (K.demand (K.holds (K.stands σ c)) 4 σ r′))
+  same-admitted a c next d t at {r′} k = subst
+      (λ r. SameResult n r (K.demand d 3 σ (K.demand (K.holds (K.stands σ c)) 4 σ r′)))
+      (sym (is-admitted low small mirror a c next))
+      (same-demand d t 3 λ p. same-demand (K.holds (K.stands σ c)) (stands-tells c (at p)) 4 λ up. k p up)
 
   pub few-then : (x : Extent) (c : ℕ) → K.mayCut n (faults n) (extentOf x) σ ≡ true
       → C.count (K.halted (extentOf x) c (σ .stopped)) n ≤ faults n
@@ -78,23 +95,26 @@ module _ {n : ℕ} (low : 1 ≤ n) (small : n ≤ 16) {b : List ℕ} {σ : K.Clu
   )
 
   module _ (bounded : (c : ℕ) → BoundedNode n (σ .nodes c)) where
-    begins-in : (c : ℕ) (o : Operation) (x : Extent)
-        → SameResult n (E.beginIn n c o x b) (K.beginEvent n (faults n) channelRoom c (operationOf o) (extentOf x) σ)
-    begins-in c o x =
-        same-demand (K.holds (K.isNode n c)) (tells-true (same-isNode n c)) 3 λ is.
+    -- The begin of an operation.
+    pub begins : (c : ℕ) (o : Operation) (x : Extent)
+        → SameResult n (E.begin c o x b) (K.beginEvent n (faults n) channelRoom c (operationOf o) (extentOf x) σ)
+    unfolding E.begin
+    begins c o x =
+        same-admitted c c (λ k. E.openIn k c o x b) (K.holds (K.isNode n c)) (tells-true (twice-isNode n c))
+        (one-to n c) λ is stands.
         let at : OneTo n c = one-to n c is in
         let F : Follows n c (σ .nodes c) (node b c) = mirror .shows .says c at .node in
-        same-demand (K.holds (K.stands σ c)) (stands-tells c at) 4 λ stands.
         same-demand (K.holds (K.isIdle (σ .nodes c .wait))) (idle F) 5 λ free.
         same-demand (decLe 5 (A.limit - σ .nodes c .request))
         (λ h. ap not (not-full F h), λ h. ap not (is-full F h)) 6 λ left.
         same-demand (K.holds (K.mayCut n (faults n) (extentOf x) σ)) (cut-tells x) 10 λ cut.
-        settles small (sized low small mirror) c c at at x (few-then x c cut) mirror (σ .channel) (mirror .shows)
+        rw (mirror .shows .states)
+        (settles small (sized low small mirror) c c at at x (few-then x c cut) mirror (σ .channel) (mirror .shows)
         (mirror .gone) (mirror .room)
         (beginStep (faults n) (node b c) o) (A.beginStep n (faults n) c (operationOf o) (σ .nodes c))
         (begin-follows small F (bounded c) (faults n) o)
         (begin-safe small F (is-usable low small mirror c at) (faults n) o (same-idle (F .wait) ∙ ap not free)
-        (not-full F left))
+        (not-full F left)))
       where
         twice : (y : Bool) → not (not y) ≡ y
         twice true = refl
@@ -103,12 +123,3 @@ module _ {n : ℕ} (low : 1 ≤ n) (small : n ≤ 16) {b : List ℕ} {σ : K.Clu
         idle : Follows n c (σ .nodes c) (node b c)
             → Tells (not (isOpen (node b c .wait))) (K.isIdle (σ .nodes c .wait) ≡ true)
         idle F = tells-true (ap not (same-idle (F .wait)) ∙ twice (K.isIdle (σ .nodes c .wait)))
-
-    -- The begin of an operation.
-    pub begins : (c : ℕ) (o : Operation) (x : Extent)
-        → SameResult n (E.begin c o x b) (K.beginEvent n (faults n) channelRoom c (operationOf o) (extentOf x) σ)
-    unfolding E.begin
-    begins c o x = subst (λ r. SameResult n r (K.beginEvent n (faults n) channelRoom c (operationOf o) (extentOf x) σ))
-        (ap (λ k. E.beginIn k c o x b) (sym (mirror .shows .states))
-        ∙ sym (is-checked low small mirror (E.beginIn (stated b) c o x b)))
-        (begins-in c o x)

@@ -1,15 +1,13 @@
 -- A refused event does nothing: as the events are defined, only a refusal answers with one.
 use Prim.Native.Nat.{ℕ}
-use lib.Dec.{ltb}
+use lib.Dec.{ltb, eqb}
 use mathlib.Core.Path.{_≡_, ap, subst}
 use mathlib.Core.Bool.{Bool, true, false, not}
 use mathlib.Core.List.{List, [], _∷_}
 use Rattle.octets.specs.Answer.{Answer, result, refused}
-use Rattle.octets.specs.Test.{both}
 use Rattle.view.specs.View.{noView, viewOf}
 use Rattle.wire.specs.Codec.{front, viewAt}
 use Rattle.wire.specs.declared.Message.{Message}
-use Rattle.table.specs.Quorum.{faults}
 use Rattle.record.specs.Usable.{isOpen, full}
 use Rattle.step.specs.Move.{messageStep, beginStep}
 use Rattle.step.specs.Stale.{staleMessage}
@@ -18,11 +16,11 @@ use Rattle.step.specs.declared.Ending.{Ending}
 use Rattle.step.specs.declared.Ending.the-variants.{None}
 use Rattle.region.specs.Channel.{countOf, first}
 use Rattle.block.specs.Block.{takeOff, halt}
+use Rattle.layout.specs.Layout.{stated, faultsIn, node, channel, onBlock}
 use Rattle.outgoing.specs.Entries.{entries}
-use Rattle.layout.specs.Layout.{stated, stopped, node, channel, onBlock, fits, sound, isNode}
 use Rattle.outgoing.specs.Outgoing as O
-use Rattle.cluster.specs.Event as E
 use Rattle.outgoing.specs.declared.Extent.{Extent}
+use Rattle.cluster.specs.Event as E
 use Rattle.cluster.specs.Stop as S
 use Rattle.mirror.specs.Run.{Event, begin, deliver, stop, event, seen, traceFrom}
 use Rattle.mirror.specs.Refused.{RefusedDoesNothing}
@@ -54,28 +52,23 @@ module _ (b : List ℕ) where
   settles : (n a c : ℕ) (x : Extent) (s : Step) (found : List ℕ) → Plain (E.settle n a c x s found b)
   unfolding E.settle
   settles n a c x s found =
-      let out = O.within x (entries n a (s .outbox)) in
-      demands (O.roomy n c out (O.stepped n c x (s .node) found)) 11 (accepts (E.commit n c x s out found) tt)
+      demands (O.hasRoom n a c x (s .node) (s .outbox) found) 11
+      (accepts (E.commit n c x s (O.within x (entries n a (s .outbox))) found) tt)
 
   abbrev n : ℕ
   n = stated b
 
-  checks : {r : E.Result} → Plain r → Plain (E.checked b r)
-  checks p = demands (fits b) 12 (demands (sound b) 2 p)
+  admits : (a c : ℕ) {r : E.Result} → Plain r → Plain (E.admitted a c b r)
+  admits a c p = demands (eqb (E.admission a c b) 0) (E.admission a c b) p
 
   plain : (e : Event) → Plain (event e b)
   unfolding E.begin E.deliver S.stop
-  plain (begin c o x) = checks
-      (demands (isNode n c) 3
-      (demands (not (stopped b c)) 4
+  plain (begin c o x) = admits c c
       (demands (not (isOpen (node b c .wait))) 5
       (demands (not (full (node b c))) 6
       (demands (O.mayCut n x b) 10
-      (settles n c c x (beginStep (faults n) (node b c) o) b))))))
-  plain (deliver a c x) = checks
-      (demands (both (isNode n a) (isNode n c)) 3
-      (demands (not (stopped b c)) 4
-      (demands (ltb 0 (countOf (channel b a c))) 8 (handed (front n slot)))))
+      (settles n c c x (beginStep (faultsIn b) (node b c) o) b))))
+  plain (deliver a c x) = admits a c (demands (ltb 0 (countOf (channel b a c))) 8 (handed (front n slot)))
     where
       slot : List ℕ
       slot = first (channel b a c)
@@ -85,13 +78,11 @@ module _ (b : List ℕ) where
       handed (result p) =
           demands (not (staleMessage (node b c) a (p .0))) 9
           (demands (O.mayCut n x b) 10
-          (settles n a c x (messageStep (faults n) (node b c) a (p .0) (viewOf n (viewAt n slot)))
+          (settles n a c x (messageStep (faultsIn b) (node b c) a (p .0) (viewOf n (viewAt n slot)))
           (onBlock c (takeOff a) b)))
-  plain (stop c) = checks
-      (demands (isNode n c) 3
-      (demands (not (stopped b c)) 4
+  plain (stop c) = admits c c
       (demands (O.mayStop n b) 10
-      (accepts (record { bytes = onBlock c (halt n) b; answer = result None; view = noView; sent = [] }) tt))))
+      (accepts (record { bytes = onBlock c (halt n) b; answer = result None; view = noView; sent = [] }) tt))
 
 pub refused-does-nothing : RefusedDoesNothing
 unfolding traceFrom

@@ -97,7 +97,7 @@ module _ {n : ℕ} (small : n ≤ 16) (sized : isSize n ≡ true) (a c : ℕ) (f
       ∙ channels-emptied stopped c (K.letOut (extentOf x) (K.entries n (t .sent))) q
 
   after-step : Shows n (O.stepped n c x (s .node) found) (upd (σ .nodes) c (t .node)) stopped mid
-  after-step = shows-step small S c node x s (same .node) (safe .node) gone
+  after-step = shows-step small S c node x (same .node) (safe .node) gone
 
   -- The event is accepted.
   accepts : K.roomy channelRoom c n end ≡ true → SameResult n (E.commit n c x s out found)

@@ -14,7 +14,6 @@ use Rattle.view.specs.View.{viewBytes}
 use Rattle.wire.specs.Layout.{allowed}
 use Rattle.record.specs.Usable.{usable}
 use Rattle.record.specs.declared.Node.{Node}
-use Rattle.step.specs.declared.Step.{Step}
 use Rattle.region.specs.Channel.{capacity}
 use Rattle.block.specs.Block.{takeOff, receive, keep, halt}
 use Rattle.outgoing.specs.Entries.{Entry, goTo, slot}
@@ -138,12 +137,11 @@ module _ {n : ℕ} (small : n ≤ 16) where
 
   -- Node c takes a step, and stops if it is cut.
   pub shows-step : {b : List ℕ} {ν : Nodes} {s : Flags} {q : Channel} → Shows n b ν s q → (c : ℕ) → OneTo n c
-      → (x : Extent) (t : Step)
-      {μ : A.Node} → Follows n c μ (t .node) → usable (t .node) ≡ true → Gone s q
-      → Shows n (stepped n c x t b) (upd ν c μ) (K.halted (extentOf x) c s)
+      → (x : Extent) {d : Node} {μ : A.Node} → Follows n c μ d → usable d ≡ true → Gone s q
+      → Shows n (stepped n c x d b) (upd ν c μ) (K.halted (extentOf x) c s)
       (λ a d. cond (K.halted (extentOf x) c s d) [] (q a d))
-  shows-step S c o Whole t F u gone = shows-same (shows-keep S c o F u) (λ a d p h. quiet S gone a d)
-  shows-step S c o (Cut m) t F u gone = shows-halt (shows-keep S c o F u) c o gone
+  shows-step S c o Whole F u gone = shows-same (shows-keep S c o F u) (λ a d p h. quiet S gone a d)
+  shows-step S c o (Cut m) F u gone = shows-halt (shows-keep S c o F u) c o gone
 
   module _ (sized : isSize n ≡ true) (c : ℕ) (node : OneTo n c) {ν : Nodes} {s : Flags} where
     pub shows-send : {b : List ℕ} {q : Channel} → Shows n b ν s q → Gone s q → (e : Entry) → Fit n e

@@ -8,8 +8,6 @@ use mathlib.Core.List.{List}
 use lib.ListN.{length, take}
 use borrow.Author.Tests.{lt-ltb}
 use Rattle.octets.specs.Answer.{result}
-use Rattle.octets.specs.Word.{word}
-use Rattle.octets.proofs.Table.{length-tab}
 use Rattle.octets.proofs.Test.{true-false}
 use Rattle.view.specs.View.{noView}
 use Rattle.wire.specs.declared.Message.the-variants.{Read}
@@ -21,18 +19,18 @@ use Rattle.step.specs.declared.Step.{Step}
 use Rattle.step.specs.declared.Ending.the-variants.{None}
 use Rattle.step.proofs.Waits.{begin-asks}
 use Rattle.region.specs.Channel.{capacity, countOf}
-use Rattle.region.specs.Record.{heardPlace, recordOf}
+use Rattle.region.specs.Record.{recordOf}
 use Rattle.block.specs.Block.{recordIn}
 use Rattle.outgoing.specs.Entries.{addressed, entries, goTo}
 use Rattle.outgoing.proofs.Laws.{entries-one, goTo-once, others-reach}
+use Rattle.outgoing.proofs.Judged.{heard-read}
 use Rattle.layout.specs.Layout.{stated, block, stopped, node, channel}
 use Rattle.cluster.specs.Event.{Result, begin, settle}
 use Rattle.outgoing.specs.Outgoing.{mayCut}
 use Rattle.outgoing.specs.declared.Extent.{Extent}
 use Rattle.outgoing.specs.declared.Extent.the-variants.{Whole, Cut}
-use Rattle.cluster.proofs.Admitted.{sound-n}
+use Rattle.cluster.proofs.Admitted.{sound-n, admits, begin-opens}
 use Rattle.cluster.proofs.Settled.{open-settles}
-use Rattle.cluster.proofs.Admitted.{begin-is, begin-opens}
 use Rattle.history.specs.Order.{OneTo}
 use Rattle.mirror.specs.Run as R
 use Rattle.points.specs.Calls.{code}
@@ -50,11 +48,6 @@ may-cut b (Cut m) h = lt-ltb (count (stated b) (stopped b)) (faults (stated b)) 
 pub still-stands : (b : List ℕ) (c k : ℕ) → OneTo (stated b) k → stopped b k ≡ false → StandsAfter b c Whole k
 still-stands b c k p up = record { at = p; stood = up; uncut = λ e. true-false false e refl }
 
--- A record that was read has its table of tags heard.
-pub heard-read : (r : List ℕ) → length (recordOf r .heard) ≡ 256
-unfolding recordOf
-heard-read r = length-tab 256 (λ i. word r (heardPlace + 8 * i))
-
 module _ (b : List ℕ) (c : ℕ) (o : Operation) (x : Extent) (M : MayBegin b c x) where
   abbrev n : ℕ
   n = stated b
@@ -71,8 +64,9 @@ module _ (b : List ℕ) (c : ℕ) (o : Operation) (x : Extent) (M : MayBegin b c
   heard = ap (λ (s : Step). length (s .node .heard)) asks ∙ heard-read (recordIn (block b c))
 
   settles : begin c o x b ≡ settle n c c x step b b
-  settles = begin-is c o x b n refl (M .fit) (M .usable) ∙ begin-opens c o x b n (node-is n c (M .at)) (M .stands)
-      ∙ open-settles n c o x b (node b c) refl (M .idle) (M .left) (may-cut b x (M .cut))
+  settles = begin-opens c o x b n refl
+      (admits c c b (M .fit) (M .usable) (node-is n c (M .at)) (node-is n c (M .at)) (M .stands))
+      ∙ open-settles n c o x b (node b c) refl (M .idle) (M .left) (may-cut b x (M .cut)) refl
       (sound-n b (M .usable) n c refl (node-is n c (M .at))) (omega (arith, M .at .0, M .at .1)) asks
 
   less-none : (k : ℕ) → k ≡ k - 0

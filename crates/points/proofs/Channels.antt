@@ -11,7 +11,7 @@ use lib.Dec.{eqb}
 use borrow.Author.Tests.{lt-ltb, eq-eqb, ne-eqb}
 use Rattle.octets.specs.Answer.{result}
 use Rattle.octets.specs.Test.{pick, both}
-use Rattle.octets.proofs.Test.{both-true, true-false}
+use Rattle.octets.proofs.Test.{true-false}
 use Rattle.view.specs.View.{noView, viewOf}
 use Rattle.view.specs.declared.View.{View}
 use Rattle.view.proofs.ViewBytes.{view-absent}
@@ -42,6 +42,8 @@ use Rattle.layout.proofs.Check.{is-size, sound-size, sound-channel}
 use Rattle.cluster.specs.Event.{Result, refuse, begin, deliver, settle}
 use Rattle.outgoing.specs.declared.Extent.{Extent}
 use Rattle.outgoing.specs.declared.Extent.the-variants.{Whole}
+use Rattle.outgoing.proofs.Judged.{heard-read}
+use Rattle.cluster.proofs.Admitted.{admits}
 use Rattle.cluster.proofs.Handed.{deliver-hands, hand-settles}
 use Rattle.outgoing.specs.Room.{goneIn}
 use Rattle.history.specs.Order.{OneTo}
@@ -51,7 +53,7 @@ use Rattle.points.specs.Channels.{MayDeliver, Room, Judged, stillWaits, 
 use Rattle.points.proofs.Filled.{filled-reads, filled-writes}
 use Rattle.points.proofs.Stops.{node-is}
 use Rattle.points.proofs.Judged.{commits, judged}
-use Rattle.points.proofs.Begins.{may-cut, heard-read, still-stands, begin-judged, accepts, counts, no-room}
+use Rattle.points.proofs.Begins.{may-cut, still-stands, begin-judged, accepts, counts, no-room}
 
 sized-view : (n : ℕ) (b : List ℕ) → n ≤ 16 → Sized (viewOf n b)
 sized-view n b small = let v = view-absent n b small in record { tags = v .tags-length; reports = v .reports-length }
@@ -77,8 +79,9 @@ module _ (b : List ℕ) (a c : ℕ) (x : Extent) (m : Message) (M : MayDeliver b
       ∙ heard-read (recordBytes (s .node))
 
   delivers : deliver a c x b ≡ settle (stated b) a c x handling (onBlock c (takeOff a) b) b
-  delivers = deliver-hands a c x b (stated b) refl (M .fit) (M .usable)
-      (both-true (node-is (stated b) a (M .sender)) (node-is (stated b) c (M .receiver))) (M .stands)
+  delivers = deliver-hands a c x b (stated b) refl
+      (admits a c b (M .fit) (M .usable) (node-is (stated b) a (M .sender)) (node-is (stated b) c (M .receiver))
+      (M .stands))
       (lt-ltb 0 (countOf (channel b a c)) (M .some)) m (M .size) (M .says)
       ∙ hand-settles (stated b) a c x b slot m (node b c) refl (M .new) (may-cut b x (M .cut)) refl refl refl
 

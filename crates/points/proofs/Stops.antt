@@ -8,7 +8,7 @@ use mathlib.Core.List.{List, []}
 use lib.ListN.{length}
 use borrow.Author.Tests.{le-leb, lt-ltb, le-ltb}
 use Rattle.octets.specs.Answer.{result}
-use Rattle.octets.specs.Test.{pick}
+use Rattle.octets.specs.Test.{pick, both}
 use Rattle.octets.proofs.Test.{both-true, not-true-false}
 use Rattle.theory.proofs.Count.{count-none}
 use Rattle.theory.proofs.Update.{upd-same}
@@ -17,11 +17,11 @@ use Rattle.table.specs.Loop.{count}
 use Rattle.table.specs.Quorum.{faults}
 use Rattle.step.specs.declared.Ending.the-variants.{None}
 use Rattle.block.specs.Block.{halt}
-use Rattle.layout.specs.Layout.{clusterSize, stopped, onBlock, isNode}
+use Rattle.layout.specs.Layout.{clusterSize, faultsIn, stopped, onBlock, isNode}
 use Rattle.layout.proofs.Check.{sound-few}
 use Rattle.cluster.specs.Event.{Result, refuse, fresh}
-use Rattle.cluster.specs.Stop.{stop}
-use Rattle.cluster.proofs.Admitted.{stop-is, stop-stopped, stop-many, stop-halts}
+use Rattle.cluster.specs.Stop.{stopIn, stop}
+use Rattle.cluster.proofs.Admitted.{is-stopped, is-admitted, stop-refused, stop-is, stop-many, stop-halts}
 use Rattle.history.specs.Event as H
 use Rattle.history.specs.Order.{OneTo}
 use Rattle.eqaso.specs.Algorithm as A
@@ -81,17 +81,23 @@ module _ {n : ℕ} {b : List ℕ} (I : IsCluster n b) (c : ℕ) (o : OneTo n c) 
   pub few : count n (stopped b) ≤ faults n
   few = subst (λ k. count k (stopped b) ≤ faults k) (I .states) (sound-few b (I .usable))
 
+  here : both (isNode n c) (isNode n c) ≡ true
+  here = both-true (node-is n c o) (node-is n c o)
+
   stopped-before : stopped b c ≡ true → stop c b ≡ refuse 4 b
-  stopped-before e = stop-is c b n (sym (I .states)) (I .fit) (I .usable) ∙ stop-stopped c b n (node-is n c o) e
+  stopped-before e = stop-refused c b (is-stopped c c b n (sym (I .states)) (I .fit) (I .usable) here e) (λ q. omega arith)
+
+  stops-in : stopped b c ≡ false → stop c b ≡ stopIn n c b
+  stops-in e = stop-is c b n (sym (I .states)) (sym (is-admitted c c b n (sym (I .states)) (I .fit) (I .usable) here e))
 
   many-stopped : stopped b c ≡ false → faults n ≤ count n (stopped b) → stop c b ≡ refuse 10 b
-  many-stopped e h = stop-is c b n (sym (I .states)) (I .fit) (I .usable)
-      ∙ stop-many c b n (node-is n c o) e (le-ltb (count n (stopped b)) (faults n) h)
+  many-stopped e h = stops-in e
+      ∙ stop-many c b n (le-ltb (count n (stopped b)) (faultsIn b) (rw (I .states) h))
 
   stops-now : stopped b c ≡ false → count n (stopped b) < faults n
       → stop c b ≡ record { bytes = onBlock c (halt n) b; answer = result None; view = noView; sent = [] }
-  stops-now e h = stop-is c b n (sym (I .states)) (I .fit) (I .usable)
-      ∙ stop-halts c b n (node-is n c o) e (lt-ltb (count n (stopped b)) (faults n) h)
+  stops-now e h = stops-in e
+      ∙ stop-halts c b n (lt-ltb (count n (stopped b)) (faultsIn b) (rw (I .states) h))
 
 -- One node never stops.
 alone : (b : List ℕ) → IsCluster 1 b → stop 1 b ≡ refuse 10 b

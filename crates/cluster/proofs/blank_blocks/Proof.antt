@@ -35,20 +35,27 @@ loop-less : tie.Need-loop-less Inv-loop μ-loop
 loop-less c = search needs
 
 loop-again : tie.Need-loop-again Inv-loop μ-loop
-loop-again c = let i = c .before .before .before .before .before .before .loop .i in (
-  search needs,
-  search needs,
-  c .before .before .keep-at .ensures
-      ∙ ap (λ (d : Node). onBlock (i + 1) (keep d) (c .before .before .before .before .before .before .loop .b)) (c .before .before .before .blank-node .ensures)
-      ∙ ap (λ (t : List ℕ). onBlock (i + 1) (keep (blank (c .before .before .before .before .before .before .before .before .args .n) (i + 1))) t) (c .before .before .before .before .before .before .loop .inv .2)
-      ∙ sym (upTo-more i (λ j. onBlock (j + 1) (keep (blank (c .before .before .before .before .before .before .before .before .args .n) (j + 1)))) (c .before .before .before .before .before .before .before .before .args .b .now)),
-)
+loop-again c =
+    let c3 = c .before .before .before in
+    let c6 = c3 .before .before .before in
+    let c8 = c6 .before .before in
+    let a = c8 .args in
+    let i = c6 .loop .i in (
+      search needs,
+      search needs,
+      c .before .before .keep-at .ensures
+          ∙ ap (λ (d : Node). onBlock (i + 1) (keep d) (c6 .loop .b)) (c3 .blank-node .ensures)
+          ∙ ap (λ (t : List ℕ). onBlock (i + 1) (keep (blank (a .n) (i + 1))) t) (c6 .loop .inv .2)
+          ∙ sym (upTo-more i (λ j. onBlock (j + 1) (keep (blank (a .n) (j + 1)))) (a .b .now)),
+    )
 
 same-length : tie.Need-same-length Inv-loop μ-loop
 same-length c = search needs
 
 returns : tie.Need-returns Inv-loop μ-loop
-returns c = let e : c .before .loop .i ≡ c .before .before .before .args .n = omega arith in rw e at (c .before .loop .inv .2)
+returns c =
+    let c3 = c .before .before .before in
+    let e : c .before .loop .i ≡ c3 .args .n = omega arith in rw e at (c .before .loop .inv .2)
 
 pub blank-blocks-spec : {M : Type 1} → statement M
 blank-blocks-spec =

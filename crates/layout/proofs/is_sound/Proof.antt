@@ -35,8 +35,10 @@ stopped-nodes-requires c κs =
           (c .before .before .and .ensures) ∙ c .before .if1 .taken),
     )
 
-most-faults-requires : tie.Need-most-faults-requires
-most-faults-requires c κs = search needs
+faults-in-requires : tie.Need-faults-in-requires
+faults-in-requires c κs =
+    let c7 = c .before .before .before .before .before .before .before in
+    fits-some (c7 .args .b .now) (c7 .pre)
 
 and-requires-2 : tie.Need-and-requires-2
 and-requires-2 c κs = search needs
@@ -47,7 +49,7 @@ returns c =
     let c6 = c3 .before .before .before in
     let c9 = c6 .before .before .before in
     c .and2 .ensures
-    ∙ ap₂ both (c3 .blocks-sound .ensures) (ap₂ leb (c .before .before .stopped-nodes .ensures) (c .before .most-faults .ensures))
+    ∙ ap₂ both (c3 .blocks-sound .ensures) (ap₂ leb (c .before .before .stopped-nodes .ensures) (c .before .faults-in .ensures))
     ∙ sym (sound-sized (c9 .args .b .now) (c6 .index .result) (c6 .index .ensures .0) (sym
     (c3 .before .before .and .ensures) ∙ c3 .before .if1 .taken))
 
@@ -66,7 +68,7 @@ is-sound-spec =
     and-requires
     blocks-sound-requires
     stopped-nodes-requires
-    most-faults-requires
+    faults-in-requires
     and-requires-2
     returns
     returns-2)

@@ -1,0 +1,130 @@
+// What a step lets out: the slot of each message, and how many entries go to a node.
+use octets::least;
+use region::places::SLOT;
+use step::Outbox;
+use step::Sent;
+use view::ENTRY;
+use view::VIEW;
+use view::View;
+use wire::Message;
+ghost use mathlib.Core.Path.{_≡_};
+ghost use Prim.Native.Nat.{ℕ, _-_, _≤_};
+ghost use lib.ListN.{length, take};
+ghost use Rattle.view.specs.Size.{viewSize, nodes};
+ghost use Rattle.view.specs.declared.View.{View};
+ghost use Rattle.step.specs.Step.{listed};
+ghost use Rattle.view.specs.View.{viewBytes};
+ghost use Rattle.wire.specs.Layout.{encode};
+ghost use Rattle.wire.specs.Codec.{answer, after};
+ghost use Rattle.region.specs.Channel.{slotSize};
+ghost use Rattle.outgoing.specs.Entries.{isAnswer, addressed, entriesOf, entries, goTo, slot};
+
+// Writes a message, with the view that a good message carries, at the front of s. The view's bytes go to w first.
+fn write_slot<'a>(n: usize, m: Message, v: View, w: &'a mut [u8], s: &'a mut [u8])
+    requires { ⌜ (n ≤ nodes) × (length (now w) ≡ viewSize nodes) × (length (now s) ≡ slotSize) ⌝ }
+    ensures { λ _. ⌜ now (s .exit)
+        ≡ after (answer n m (viewBytes n v) slotSize) (encode m (viewBytes n v)) (now (s .entry)) ⌝ }
+{
+    view::write_view(n, v, w);
+    let end = ENTRY * n;
+    wire::write(n, m, &w[..end], s);
+}
+
+// The slot of a message.
+pub fn slot_of(n: usize, m: Message, v: View) -> [u8; SLOT]
+    requires { ⌜ n ≤ nodes ⌝ }
+    ensures { λ r. ⌜ r ≡ slot n m v ⌝ }
+{
+    let mut w = [0u8; VIEW];
+    let mut s = [0u8; SLOT];
+    write_slot(n, m, v, &mut w, &mut s);
+    s
+}
+
+// Whether the message is an answer, which goes to one node.
+pub fn is_answer(m: Message) -> bool
+    ensures { λ r. ⌜ r ≡ isAnswer m ⌝ }
+{
+    match m {
+        Message::Read { request: _ } => false,
+        Message::ReadAnswer { request: _, tag: _ } => true,
+        Message::Write { request: _, tag: _ } => false,
+        Message::WriteAnswer { request: _, tag: _ } => true,
+        Message::Echo { tag: _ } => false,
+        Message::Value {
+            tag: _,
+            writer: _,
+            report: _,
+        } => false,
+        Message::Good { tag: _ } => false,
+    }
+}
+
+// The difference, and 0 where it would be below 0.
+pub fn less(x: usize, y: usize) -> usize
+    ensures { λ r. ⌜ r ≡ x - y ⌝ }
+{
+    if y <= x { x - y } else { 0 }
+}
+
+// How many of `left` entries are left after those of a message.
+pub fn left_after(n: usize, m: Message, left: usize) -> usize
+    ensures { λ r. ⌜ ((a : ℕ) (v : View) → r ≡ left - length (addressed n a v m)) ⌝ }
+{
+    if is_answer(m) {
+        less(left, 1)
+    } else {
+        less(left, n)
+    }
+}
+
+pub fn left_past(n: usize, s: Sent, left: usize) -> usize
+    ensures { λ r. ⌜ ((a : ℕ) (v : View) → r ≡ left - length (entriesOf n a v (listed s))) ⌝ }
+{
+    match s {
+        Sent::Nothing => left,
+        Sent::One(m) => left_after(n, m, left),
+        Sent::Two(m, k) => left_after(n, k, left_after(n, m, left)),
+    }
+}
+
+// How many of the first `left` entries of a message go to node b.
+fn message_to(b: usize, n: usize, a: usize, m: Message, left: usize) -> usize
+    requires { ⌜ (1 ≤ b) × (b ≤ n) ⌝ }
+    ensures { λ r. ⌜ (r ≤ 1) × ((v : View) → r ≡ goTo b (take left (addressed n a v m))) ⌝ }
+{
+    if is_answer(m) {
+        if a == b {
+            return least(left, 1);
+        }
+        return 0;
+    }
+    if b <= left { 1 } else { 0 }
+}
+
+fn sent_to(b: usize, n: usize, a: usize, s: Sent, left: usize) -> usize
+    requires { ⌜ (1 ≤ b) × (b ≤ n) ⌝ }
+    ensures { λ r. ⌜ (r ≤ 2) × ((v : View) → r ≡ goTo b (take left (entriesOf n a v (listed s)))) ⌝ }
+{
+    match s {
+        Sent::Nothing => 0,
+        Sent::One(m) => message_to(b, n, a, m, left),
+        Sent::Two(m, k) => message_to(b, n, a, m, left)
+            + message_to(b, n, a, k, left_after(n, m, left)),
+    }
+}
+
+// How many of the first `left` entries of a step go to node b.
+pub fn entries_to(b: usize, n: usize, a: usize, o: Outbox, left: usize) -> usize
+    requires { ⌜ (1 ≤ b) × (b ≤ n) ⌝ }
+    ensures { λ r. ⌜ (r ≤ 6) × (r ≡ goTo b (take left (entries n a o))) ⌝ }
+{
+    let handler = o.handler;
+    let reading = o.reading;
+    let comparing = o.comparing;
+    let second = left_past(n, handler, left);
+    let third = left_past(n, reading, second);
+    sent_to(b, n, a, handler, left)
+        + sent_to(b, n, a, reading, second)
+        + sent_to(b, n, a, comparing, third)
+}
