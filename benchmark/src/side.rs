@@ -1,4 +1,4 @@
-//! The two sides behind one interface: the calls of the crate `exports`, as numbers and lent memory.
+//! The two sides behind one interface: the calls of the crate `snapshot`, as numbers and lent memory.
 pub use crate::plain::bytes::{Report, NO_REPORT};
 use crate::plain::cluster;
 use crate::plain::figures::figures;
@@ -41,7 +41,7 @@ pub trait Side {
     fn figures(n: usize, view: &[u8], sums: &mut [u32; 4]) -> u8;
 }
 
-/// The proved code. Its declarations repeat those of `crates/exports/src/lib.rt`: a slice is a pointer and a length.
+/// The proved code. Its declarations repeat those of `crates/snapshot/src/lib.rt`: a slice is a pointer and a length.
 pub struct Proved;
 
 extern "C" {

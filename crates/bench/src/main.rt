@@ -3,12 +3,12 @@
 // memory. A read that fails ends the input; a write that fails is passed over.
 use libc::STDIN_FILENO;
 use libc::STDOUT_FILENO;
-use script::MEMORY;
-use script::PIECE;
-use script::TEXT;
+use session::MEMORY;
+use session::PIECE;
+use session::TEXT;
 ghost use Prim.Native.Nat.{_≤_};
 ghost use lib.ListN.{length};
-ghost use Rattle.script.specs.Progress.{textSize};
+ghost use Rattle.session.specs.Progress.{textSize};
 
 // Prints the front of a buffer.
 fn print_front(out: &[u8], end: usize)
@@ -26,22 +26,22 @@ fn print(out: &[u8; TEXT], end: usize)
 // A proved loop has to end, and nothing says that the input does. So the reads are counted down, from a number that no
 // run uses up.
 fn run_all(m: &mut [u8; MEMORY], piece: &mut [u8; PIECE], out: &mut [u8; TEXT]) {
-    let mut now = script::start();
+    let mut now = session::start();
     let mut turns = u64::MAX;
     while turns > 0 {
         let got = libc::read(STDIN_FILENO, piece);
         let count = io::count(got, piece);
-        let t = script::read(m, now, piece, count, out);
+        let t = session::read(m, now, piece, count, out);
         print(out, t.end);
         let next = t.progress;
         now = next;
-        if got <= 0 || script::is_over(now) {
+        if got <= 0 || session::is_over(now) {
             turns = 0;
         } else {
             turns -= 1;
         }
     }
-    let end = script::finish(now, out);
+    let end = session::finish(now, out);
     print(out, end);
 }
 

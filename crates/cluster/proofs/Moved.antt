@@ -20,9 +20,9 @@ use Rattle.step.proofs.Numbers.{on-pick}
 use Rattle.step.proofs.Same.{move-on-keeps}
 use Rattle.region.specs.Record.{recordOf, recordBytes}
 use Rattle.region.proofs.Back.{Sized, SizedNode, record-back}
-use Rattle.handlers.proofs.Handling.{sized-newest}
-use Rattle.moves.specs.Moved.{stepOf, isStep}
-use Rattle.moves.specs.declared.Effect.{Effect}
+use Rattle.react_bytes.proofs.Handling.{sized-newest}
+use Rattle.step_bytes.specs.Moved.{stepOf, isStep}
+use Rattle.step_bytes.specs.declared.Effect.{Effect}
 
 sized-none : Sized noView
 sized-none = record { tags = length-replicate {A = ℕ} 16 0; reports = length-replicate 16 noReport }

@@ -4,10 +4,10 @@ use native.Mathlib.Omega.{arith}
 use mathlib.Core.Path.{_≡_, refl, sym, ap, subst}
 use mathlib.Core.Logic.{_⊎_, inl, inr}
 use mathlib.Core.List.{List, [], _∷_, List·Memᴰ·head}
-use Rattle.theory.specs.Count.{count}
-use Rattle.theory.proofs.Count.{count-none}
-use Rattle.theory.specs.Log.{_∈_, push}
-use Rattle.theory.proofs.Log.{push-or}
+use Rattle.logs.specs.Count.{count}
+use Rattle.logs.proofs.Count.{count-none}
+use Rattle.logs.specs.Log.{_∈_, push}
+use Rattle.logs.proofs.Log.{push-or}
 use Rattle.history.specs.Message.{Value, Message, read, readAnswer, write, writeAnswer, echo, value, good}
 use Rattle.history.specs.Event.{Operation, update, scan, Ending, none, done, shown, spent}
 use Rattle.eqaso.specs.Algorithm.{nobody, Wait, reading, writing, comparing, borrowing, Node, Step, sending}

@@ -5,10 +5,10 @@ use native.Mathlib.Omega.{arith}
 use mathlib.Core.Path.{_≡_, sym, subst}
 use mathlib.Core.Bool.{Bool, false}
 use mathlib.Core.List.{List, [], _∷_}
-use Rattle.theory.specs.Update.{upd}
-use Rattle.theory.proofs.Update.{upd-all, upd-map}
-use Rattle.theory.specs.Log.{_∈_, _⊑_, push}
-use Rattle.theory.proofs.Log.{placed, each-at}
+use Rattle.logs.specs.Update.{upd}
+use Rattle.logs.proofs.Update.{upd-all, upd-map}
+use Rattle.logs.specs.Log.{_∈_, _⊑_, push}
+use Rattle.logs.proofs.Log.{placed, each-at}
 use Rattle.history.specs.Message.{Message, read, readAnswer, write, writeAnswer, echo, value, good}
 use Rattle.history.specs.Event.{Operation, Extent}
 use Rattle.history.specs.Order.{OneTo}

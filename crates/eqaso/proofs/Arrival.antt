@@ -2,10 +2,10 @@
 use Prim.Native.Nat.{ℕ, _+_, _<_}
 use mathlib.Core.Path.{_≡_}
 use mathlib.Core.List.{_∷_}
-use Rattle.theory.specs.Update.{upd}
-use Rattle.theory.proofs.Update.{upd-same, upd-all}
-use Rattle.theory.specs.Log.{_∈_, _⊑_}
-use Rattle.theory.proofs.Log.{⊑-cons, placed}
+use Rattle.logs.specs.Update.{upd}
+use Rattle.logs.proofs.Update.{upd-same, upd-all}
+use Rattle.logs.specs.Log.{_∈_, _⊑_}
+use Rattle.logs.proofs.Log.{⊑-cons, placed}
 use Rattle.history.specs.Message.{Value, Message, read, readAnswer, write, writeAnswer, echo, value, good}
 use Rattle.history.specs.Event.{Operation}
 use Rattle.history.specs.Order.{OneTo}

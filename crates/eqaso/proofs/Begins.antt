@@ -4,8 +4,8 @@ use native.Mathlib.Omega.{arith}
 use mathlib.Core.Path.{_≡_, refl, _∙_, ap}
 use mathlib.Core.Bool.{Bool, false}
 use lib.ListN.{length}
-use Rattle.theory.specs.Update.{upd}
-use Rattle.theory.proofs.Update.{upd-same}
+use Rattle.logs.specs.Update.{upd}
+use Rattle.logs.proofs.Update.{upd-same}
 use Rattle.history.specs.Event.{Operation, update, scan, Ending, none, Extent, begin, accepted}
 use Rattle.history.specs.Trace.{Seen, Trace, begunBy}
 use Rattle.history.specs.Order.{OneTo}

@@ -4,8 +4,8 @@ use Prim.Native.Nat.{ℕ}
 use mathlib.Core.Path.{_≡_, refl, ap, sym, subst, _∙_}
 use mathlib.Core.Logic.{_⊎_, inl, inr}
 use mathlib.Core.List.{List, [], _∷_, _++_, List·Memᴰ·head, List·Memᴰ·tail, nil≢cons}
-use Rattle.theory.specs.Log.{_∈_, _⊑_, here, more, push}
-use Rattle.theory.proofs.Log.{⊑-trans, ⊑-cons, placed, push-append, push-up, push-new, push-or}
+use Rattle.logs.specs.Log.{_∈_, _⊑_, here, more, push}
+use Rattle.logs.proofs.Log.{⊑-trans, ⊑-cons, placed, push-append, push-up, push-new, push-or}
 use Rattle.history.specs.Message.{Message}
 use Rattle.eqaso.proofs.Cert.{Log}
 use Rattle.eqaso.proofs.Meant.{Meant, Others, whose, keep-by, pick, pick-append, pick-in, pick-of}

@@ -2,7 +2,7 @@
 -- operations are facts about the book, and each event changes it in at most one place.
 use Prim.Native.Nat.{ℕ}
 use mathlib.Core.Path.{_≡_}
-use Rattle.theory.specs.Update.{upd}
+use Rattle.logs.specs.Update.{upd}
 use Rattle.history.specs.Trace.{Trace, Begun, nothing, updating, scanning, begun, Fate, unfinished, fate, tagAt}
 
 pub record Book : Type 0 where

@@ -7,10 +7,10 @@ use native.Mathlib.Decide.{decLe}
 use mathlib.Core.Path.{_≡_, sym, subst}
 use mathlib.Core.Logic.{_⊎_, inl, inr, ite}
 use mathlib.Core.List.{List, []}
-use Rattle.theory.proofs.Count.{meet}
-use Rattle.theory.specs.Update.{upd}
-use Rattle.theory.specs.Log.{_∈_, _⊑_}
-use Rattle.theory.proofs.Log.{comparable, mem-up}
+use Rattle.logs.proofs.Count.{meet}
+use Rattle.logs.specs.Update.{upd}
+use Rattle.logs.specs.Log.{_∈_, _⊑_}
+use Rattle.logs.proofs.Log.{comparable, mem-up}
 use Rattle.history.specs.Message.{Value, View, value}
 use Rattle.history.specs.Event.{Operation, update, scan, round3, borrowed}
 use Rattle.eqaso.specs.Algorithm.{Wait, idle, reading, writing, comparing, borrowing, Good, Node, still, ended}

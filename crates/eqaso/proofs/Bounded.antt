@@ -7,7 +7,7 @@ use mathlib.Core.Path.{_≡_, refl, sym, _∙_, ap, subst}
 use mathlib.Core.Logic.{_⊎_, inl, inr, _↔_, ite}
 use mathlib.Core.Bool.{Bool, true, decide, decide-iff, _&&_}
 use mathlib.Core.List.{List, [], _∷_, List·Memᴰ·head, List·Memᴰ·tail}
-use Rattle.theory.specs.Log.{_∈_}
+use Rattle.logs.specs.Log.{_∈_}
 use Rattle.history.specs.Message.{Value}
 use Rattle.history.specs.Order.{OneTo}
 use Rattle.eqaso.specs.Algorithm.{Node, newest, within, agrees}

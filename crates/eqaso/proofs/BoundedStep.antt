@@ -4,9 +4,9 @@ use native.Mathlib.Omega.{arith}
 use native.Mathlib.Decide.{decLt}
 use mathlib.Core.Path.{_≡_, refl, sym, _∙_, ap, subst}
 use mathlib.Core.List.{List, [], _∷_, List·Memᴰ·head, List·Memᴰ·tail}
-use Rattle.theory.specs.Update.{upd}
-use Rattle.theory.proofs.Update.{upd-all}
-use Rattle.theory.specs.Log.{_∈_}
+use Rattle.logs.specs.Update.{upd}
+use Rattle.logs.proofs.Update.{upd-all}
+use Rattle.logs.specs.Log.{_∈_}
 use Rattle.history.specs.Message.{Value, Message, read, readAnswer, write, writeAnswer, echo, value, good}
 use Rattle.history.specs.Event.{Operation}
 use Rattle.eqaso.specs.Algorithm.{Node, sending, _then_, react, messageStep, beginStep}

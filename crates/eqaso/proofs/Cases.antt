@@ -6,8 +6,8 @@ use mathlib.Core.Path.{_≡_, refl, sym, _∙_}
 use mathlib.Core.Logic.{ite}
 use mathlib.Core.Bool.{Bool, true, false, true≢false, cond}
 use mathlib.Core.List.{List, [], _∷_}
-use Rattle.theory.specs.Update.{upd}
-use Rattle.theory.specs.Log.{_∈_}
+use Rattle.logs.specs.Update.{upd}
+use Rattle.logs.specs.Log.{_∈_}
 use Rattle.history.specs.Message.{Value, echo, value}
 use Rattle.history.specs.Event.{Operation, Round}
 use Rattle.eqaso.specs.Algorithm.{Nodes, Wait, idle, reading, writing, comparing, borrowing, Node, Step, still}

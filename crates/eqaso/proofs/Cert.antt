@@ -6,10 +6,10 @@ use mathlib.Core.Path.{_≡_, subst}
 use mathlib.Core.Logic.{_⊎_, inl, inr}
 use mathlib.Core.Bool.{Bool, true}
 use mathlib.Core.List.{List}
-use Rattle.theory.specs.Count.{count}
-use Rattle.theory.proofs.Count.{meet}
-use Rattle.theory.specs.Log.{_∈_, _⊑_}
-use Rattle.theory.proofs.Log.{⊑-trans, mem-up, comparable}
+use Rattle.logs.specs.Count.{count}
+use Rattle.logs.proofs.Count.{meet}
+use Rattle.logs.specs.Log.{_∈_, _⊑_}
+use Rattle.logs.proofs.Log.{⊑-trans, mem-up, comparable}
 use Rattle.history.specs.Message.{Value, Message, read, readAnswer, write, writeAnswer, echo, value, good}
 
 -- Everything that a node ever sent, newest first; and that of all nodes.

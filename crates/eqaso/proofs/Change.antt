@@ -5,12 +5,12 @@ use mathlib.Core.Path.{_≡_, refl, sym, subst}
 use mathlib.Core.Logic.{_⊎_, inl, inr}
 use mathlib.Core.Bool.{Bool, true}
 use mathlib.Core.List.{_∷_, List·Memᴰ·head, List·Memᴰ·tail}
-use Rattle.theory.specs.Count.{count}
-use Rattle.theory.proofs.Count.{meet}
-use Rattle.theory.specs.Update.{upd}
-use Rattle.theory.proofs.Update.{upd-all}
-use Rattle.theory.specs.Log.{_∈_, _⊑_, here, more}
-use Rattle.theory.proofs.Log.{mem-up, cons-or}
+use Rattle.logs.specs.Count.{count}
+use Rattle.logs.proofs.Count.{meet}
+use Rattle.logs.specs.Update.{upd}
+use Rattle.logs.proofs.Update.{upd-all}
+use Rattle.logs.specs.Log.{_∈_, _⊑_, here, more}
+use Rattle.logs.proofs.Log.{mem-up, cons-or}
 use Rattle.history.specs.Message.{Value, View, Message, read, readAnswer, write, writeAnswer, echo, value, good}
 use Rattle.history.specs.Event.{Operation, Round}
 use Rattle.eqaso.specs.Algorithm.{Wait, idle, reading, writing, comparing, borrowing, Node, topping, holding}

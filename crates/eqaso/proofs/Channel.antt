@@ -6,10 +6,10 @@ use mathlib.Core.Path.{_≡_, refl, ap, sym, subst, _∙_}
 use mathlib.Core.Logic.{_≢_}
 use mathlib.Core.Bool.{Bool, true, false, cond, decide, true≢false, false≢true}
 use mathlib.Core.List.{List, [], _∷_, _++_}
-use Rattle.theory.specs.Update.{upd, upd2}
-use Rattle.theory.proofs.Update.{upd-same, upd-other, upd-self, upd-all, upd-both, upd2-both}
-use Rattle.theory.specs.Log.{_⊑_, here, push}
-use Rattle.theory.proofs.Log.{⊑-trans, push-up}
+use Rattle.logs.specs.Update.{upd, upd2}
+use Rattle.logs.proofs.Update.{upd-same, upd-other, upd-self, upd-all, upd-both, upd2-both}
+use Rattle.logs.specs.Log.{_⊑_, here, push}
+use Rattle.logs.proofs.Log.{⊑-trans, push-up}
 use Rattle.history.specs.Message.{Message}
 use Rattle.history.specs.Event.{Extent, whole, cut, Sent, sentTo}
 use Rattle.history.specs.Order.{OneTo}

@@ -3,8 +3,8 @@ use Prim.Native.Nat.{ℕ, _+_, _<_}
 use mathlib.Core.Path.{refl, sym, ap, subst}
 use mathlib.Core.Bool.{Bool}
 use mathlib.Core.List.{List, [], List·Memᴰ·head, Memᴰ·append-right}
-use Rattle.theory.specs.Log.{_∈_}
-use Rattle.theory.proofs.Log.{⊑-trans, ⊑-cons, mem-up, place, each-at}
+use Rattle.logs.specs.Log.{_∈_}
+use Rattle.logs.proofs.Log.{⊑-trans, ⊑-cons, mem-up, place, each-at}
 use Rattle.history.specs.Message.{Value, View, value, good}
 use Rattle.history.specs.Event.{Event}
 use Rattle.history.specs.Trace.{letOutTo}

@@ -7,9 +7,9 @@ use mathlib.Core.Path.{_≡_, refl, sym, _∙_, ap, subst}
 use mathlib.Core.Logic.{_⊎_, inl, inr, _↔_}
 use mathlib.Core.Bool.{true}
 use mathlib.Core.List.{List, _∷_, List·Memᴰ·tail}
-use Rattle.theory.proofs.Count.{meet}
-use Rattle.theory.specs.Log.{_∈_, _⊑_, here, Each}
-use Rattle.theory.proofs.Log.{⊑-trans, mem-up, comparable, cons-or, place, placed, each-at}
+use Rattle.logs.proofs.Count.{meet}
+use Rattle.logs.specs.Log.{_∈_, _⊑_, here, Each}
+use Rattle.logs.proofs.Log.{⊑-trans, mem-up, comparable, cons-or, place, placed, each-at}
 use Rattle.history.specs.Message.{Value, absent, value}
 use Rattle.history.specs.Event.{Operation, update, scan, round0}
 use Rattle.eqaso.specs.Algorithm.{Wait, writing, Node, newest}

@@ -8,12 +8,12 @@ use mathlib.Core.Path.{_≡_, refl, subst}
 use mathlib.Core.Logic.{_⊎_, inl, inr}
 use mathlib.Core.Bool.{true}
 use mathlib.Core.List.{List, [], _∷_}
-use Rattle.theory.specs.Count.{count}
-use Rattle.theory.proofs.Count.{meet, choose}
-use Rattle.theory.specs.Update.{upd}
-use Rattle.theory.proofs.Update.{upd-all}
-use Rattle.theory.specs.Log.{_∈_, _⊑_, here}
-use Rattle.theory.proofs.Log.{⊑-trans, mem-up}
+use Rattle.logs.specs.Count.{count}
+use Rattle.logs.proofs.Count.{meet, choose}
+use Rattle.logs.specs.Update.{upd}
+use Rattle.logs.proofs.Update.{upd-all}
+use Rattle.logs.specs.Log.{_∈_, _⊑_, here}
+use Rattle.logs.proofs.Log.{⊑-trans, mem-up}
 use Rattle.history.specs.Message.{Value, of, echo, value, good}
 use Rattle.history.specs.Event.{Operation, update, Round}
 use Rattle.eqaso.specs.Algorithm.{Wait, idle, comparing, Node, waiting, agrees, viewUpto}

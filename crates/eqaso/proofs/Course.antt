@@ -5,10 +5,10 @@ use native.Mathlib.Omega.{arith}
 use mathlib.Core.Path.{_≡_, refl, ap, subst}
 use mathlib.Core.Logic.{_⊎_, inl, inr, ite}
 use mathlib.Core.List.{List, [], _∷_, List·Memᴰ·head, List·Memᴰ·tail}
-use Rattle.theory.specs.Count.{count}
-use Rattle.theory.proofs.Count.{count-none}
-use Rattle.theory.specs.Log.{_∈_, push}
-use Rattle.theory.proofs.Log.{push-new}
+use Rattle.logs.specs.Count.{count}
+use Rattle.logs.proofs.Count.{count-none}
+use Rattle.logs.specs.Log.{_∈_, push}
+use Rattle.logs.proofs.Log.{push-new}
 use Rattle.history.specs.Message.{Value, of, View, Message, write, value, good}
 use Rattle.history.specs.Event.{Operation, update, scan, Rule, direct, borrowed, Round, round0, round1, round3, Ending}
 use Rattle.history.specs.Event.{none, done, shown, spent}

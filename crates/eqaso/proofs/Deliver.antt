@@ -4,9 +4,9 @@ use mathlib.Core.Path.{_≡_, refl, subst}
 use mathlib.Core.Bool.{Bool, false, not}
 use mathlib.Core.List.{List}
 use lib.ListN.{length}
-use Rattle.theory.specs.Count.{count}
-use Rattle.theory.specs.Update.{upd}
-use Rattle.theory.specs.Log.{_∈_, push}
+use Rattle.logs.specs.Count.{count}
+use Rattle.logs.specs.Update.{upd}
+use Rattle.logs.specs.Log.{_∈_, push}
 use Rattle.history.specs.Message.{Value, Message, value}
 use Rattle.history.specs.Event.{none, Extent, deliver, accepted}
 use Rattle.history.specs.Trace.{Seen, Trace}

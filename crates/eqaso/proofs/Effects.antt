@@ -7,11 +7,11 @@ use mathlib.Core.Logic.{inl, inr, _≢_}
 use mathlib.Core.Bool.{Bool, true, false, cond, decide, _||_, or-false, or-true, true≢false}
 use mathlib.Core.List.{List, [], _∷_, _++_, append-nil, append-assoc}
 use lib.ListN.{length}
-use Rattle.theory.specs.Count.{count}
-use Rattle.theory.proofs.Count.{count-one}
-use Rattle.theory.specs.Update.{upd, upd2, upd-by}
-use Rattle.theory.proofs.Update.{upd-other, upd2-same, upd2-other}
-use Rattle.theory.specs.Log.{_∈_}
+use Rattle.logs.specs.Count.{count}
+use Rattle.logs.proofs.Count.{count-one}
+use Rattle.logs.specs.Update.{upd, upd2, upd-by}
+use Rattle.logs.proofs.Update.{upd-other, upd2-same, upd2-other}
+use Rattle.logs.specs.Log.{_∈_}
 use Rattle.history.specs.Message.{Message}
 use Rattle.history.specs.Event.{Extent, whole, cut, Event, Sent, sentTo}
 use Rattle.history.specs.Trace.{Seen, stopsBy, handedIn}

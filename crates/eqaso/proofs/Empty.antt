@@ -4,9 +4,9 @@ use native.Mathlib.Omega.{arith}
 use mathlib.Core.Path.{_≡_, ap, sym, subst, _∙_}
 use mathlib.Core.Bool.{Bool, false, not}
 use mathlib.Core.List.{[]}
-use Rattle.theory.specs.Count.{count}
-use Rattle.theory.proofs.Count.{count-not}
-use Rattle.theory.specs.Log.{_∈_}
+use Rattle.logs.specs.Count.{count}
+use Rattle.logs.proofs.Count.{count-not}
+use Rattle.logs.specs.Log.{_∈_}
 use Rattle.history.specs.Message.{Message, good}
 use Rattle.history.specs.Trace.{Trace}
 use Rattle.history.specs.Order.{OneTo}

@@ -4,8 +4,8 @@ use mathlib.Core.Path.{_≡_, refl, sym, _∙_, ap, subst}
 use mathlib.Core.Bool.{Bool, true, not}
 use mathlib.Core.List.{List}
 use lib.ListN.{length}
-use Rattle.theory.specs.Update.{upd}
-use Rattle.theory.specs.Log.{_∈_}
+use Rattle.logs.specs.Update.{upd}
+use Rattle.logs.specs.Log.{_∈_}
 use Rattle.history.specs.Message.{Value, of, View, Message, value}
 use Rattle.history.specs.Event.{Operation, update, scan, Rule, Ending, done, shown, spent, whole}
 use Rattle.history.specs.Trace.{Trace, updating, scanning, ended}

@@ -7,8 +7,8 @@ use mathlib.Core.Path.{_≡_, refl, sym, _∙_, ap, subst}
 use mathlib.Core.Logic.{_≢_, inl, inr}
 use mathlib.Core.List.{[], _∷_, _++_}
 use lib.ListN.{length, take, length-append}
-use Rattle.theory.specs.Log.{_∈_}
-use Rattle.theory.proofs.Update.{upd-all}
+use Rattle.logs.specs.Log.{_∈_}
+use Rattle.logs.proofs.Update.{upd-all}
 use Rattle.history.specs.Event.{Ending, none, done, shown, spent}
 use Rattle.history.specs.Trace.{Seen, Trace, handler, Begun, nothing, updating, scanning, begun, endingAt, unfinished}
 use Rattle.history.specs.Trace.{ended, fateBy, fateAt, fateOf, fate, upToEnd, ownTags, largest, tagAt}

@@ -7,8 +7,8 @@ use native.Mathlib.Decide.{decLe}
 use mathlib.Core.Path.{refl, sym, subst}
 use mathlib.Core.Logic.{ite}
 use mathlib.Core.List.{[], _∷_, List·Memᴰ·tail}
-use Rattle.theory.specs.Count.{count}
-use Rattle.theory.specs.Log.{here, more}
+use Rattle.logs.specs.Count.{count}
+use Rattle.logs.specs.Log.{here, more}
 use Rattle.history.specs.Message.{of, value, good}
 use Rattle.history.specs.Event.{Operation, update, scan, Round, round0, round1, round2, round3, done, shown, Rule}
 use Rattle.history.specs.Event.{direct}

@@ -10,8 +10,8 @@ use mathlib.Core.List.{List, [], _∷_, _++_, append-nil, append-assoc, List·Me
 use mathlib.Core.List.{Memᴰ·append-right}
 use lib.ListN.{length, take, length-append}
 use lib.Seq.{take-nil, take-length}
-use Rattle.theory.specs.Log.{_∈_, _⊑_, here, push}
-use Rattle.theory.proofs.Log.{push-append, push-up}
+use Rattle.logs.specs.Log.{_∈_, _⊑_, here, push}
+use Rattle.logs.proofs.Log.{push-append, push-up}
 use Rattle.history.specs.Message.{Message}
 use Rattle.history.specs.Event.{Extent, whole, cut, sentTo}
 use Rattle.history.specs.Order.{OneTo}

@@ -4,10 +4,10 @@ use Prim.Native.Nat.{ℕ, _+_, _<_}
 use mathlib.Core.Path.{_≡_, sym, _∙_, ap, subst}
 use mathlib.Core.Bool.{Bool, false}
 use mathlib.Core.List.{List, [], _∷_, _++_}
-use Rattle.theory.specs.Update.{upd}
-use Rattle.theory.proofs.Update.{upd-map}
-use Rattle.theory.specs.Log.{push}
-use Rattle.theory.proofs.Log.{⊑-trans}
+use Rattle.logs.specs.Update.{upd}
+use Rattle.logs.proofs.Update.{upd-map}
+use Rattle.logs.specs.Log.{push}
+use Rattle.logs.proofs.Log.{⊑-trans}
 use Rattle.history.specs.Message.{Message}
 use Rattle.history.specs.Event.{Extent}
 use Rattle.history.specs.Trace.{Seen, Trace}

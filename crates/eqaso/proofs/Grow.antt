@@ -3,10 +3,10 @@ use Prim.Native.Nat.{ℕ, _≤_}
 use mathlib.Core.Path.{_≡_}
 use mathlib.Core.Logic.{_⊎_, inl, inr}
 use mathlib.Core.List.{_∷_}
-use Rattle.theory.specs.Update.{upd}
-use Rattle.theory.proofs.Update.{upd-same, upd-other, upd-all}
-use Rattle.theory.specs.Log.{_∈_, _⊑_, here, Each}
-use Rattle.theory.proofs.Log.{⊑-trans, mem-up, each-map}
+use Rattle.logs.specs.Update.{upd}
+use Rattle.logs.proofs.Update.{upd-same, upd-other, upd-all}
+use Rattle.logs.specs.Log.{_∈_, _⊑_, here, Each}
+use Rattle.logs.proofs.Log.{⊑-trans, mem-up, each-map}
 use Rattle.history.specs.Message.{Value, Message, read, readAnswer, write, writeAnswer, echo, value, good}
 use Rattle.history.specs.Event.{Operation, update, scan, Round, round0, round1, round2, round3}
 use Rattle.eqaso.specs.Algorithm.{Wait, idle, reading, writing, comparing, borrowing, Node}

@@ -6,7 +6,7 @@ use mathlib.Core.Path.{_≡_, refl, sym, _∙_, subst}
 use mathlib.Core.Logic.{_≢_, _⊎_, inl, inr}
 use mathlib.Core.Bool.{cond, decide}
 use mathlib.Core.List.{List, [], append-nil, List·Memᴰ·not-nil}
-use Rattle.theory.specs.Log.{_∈_}
+use Rattle.logs.specs.Log.{_∈_}
 use Rattle.history.specs.Event.{Ending, none}
 use Rattle.history.specs.Trace.{Seen, handler, Begun, begunBy, endingOf, endingAt, tagsSent, ownTags}
 use Rattle.eqaso.proofs.Book.{Book}

@@ -4,8 +4,8 @@ use native.Mathlib.Decide.{decLe, decLt}
 use mathlib.Core.Path.{_≡_, refl, sym, subst}
 use mathlib.Core.Bool.{Bool, true, false, decide, not, _&&_, false≢true}
 use mathlib.Core.List.{List, [], _∷_, _++_, append-nil, append-assoc}
-use Rattle.theory.specs.Count.{count}
-use Rattle.theory.specs.Update.{upd2}
+use Rattle.logs.specs.Count.{count}
+use Rattle.logs.specs.Update.{upd2}
 use Rattle.history.specs.Message.{Message}
 use Rattle.history.specs.Event.{Operation, Extent, whole, cut, Event, begin, deliver, stop}
 use Rattle.history.specs.Trace.{Trace}

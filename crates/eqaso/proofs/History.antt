@@ -6,8 +6,8 @@ use mathlib.Core.Path.{_≡_, refl, sym, subst}
 use mathlib.Core.Logic.{_⊎_, inl, inr, _↔_}
 use mathlib.Core.Bool.{Bool, false}
 use mathlib.Core.List.{_∷_}
-use Rattle.theory.specs.Log.{_∈_, _⊑_, here, more}
-use Rattle.theory.proofs.Log.{⊑-trans, mem-up, place, comparable}
+use Rattle.logs.specs.Log.{_∈_, _⊑_, here, more}
+use Rattle.logs.proofs.Log.{⊑-trans, mem-up, place, comparable}
 use Rattle.history.specs.Message.{Value, of, View, value}
 use Rattle.history.specs.Event.{Operation, update, scan, none, done, shown, spent}
 use Rattle.history.specs.Trace.{Begun, nothing, updating, scanning, Fate, unfinished, ended}

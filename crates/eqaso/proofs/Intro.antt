@@ -9,10 +9,10 @@ use mathlib.Core.Logic.{_⊎_, inl, inr}
 use mathlib.Core.Bool.{Bool, true, false, true≢false}
 use mathlib.Core.List.{List, [], _∷_, _++_, append-nil, append-assoc, List·Memᴰ·head, List·Memᴰ·tail}
 use mathlib.Core.List.{List·Memᴰ·append-cases, Memᴰ·append-right}
-use Rattle.theory.specs.Update.{upd}
-use Rattle.theory.proofs.Update.{upd-same, upd-all}
-use Rattle.theory.specs.Log.{_∈_, _⊑_, here, push}
-use Rattle.theory.proofs.Log.{mem-up, push-up, push-or, push-new}
+use Rattle.logs.specs.Update.{upd}
+use Rattle.logs.proofs.Update.{upd-same, upd-all}
+use Rattle.logs.specs.Log.{_∈_, _⊑_, here, push}
+use Rattle.logs.proofs.Log.{mem-up, push-up, push-or, push-new}
 use Rattle.history.specs.Message.{View, Message, write, good}
 use Rattle.history.specs.Event.{Extent, whole, cut}
 use Rattle.history.specs.Order.{OneTo}

@@ -7,7 +7,7 @@ use mathlib.Core.Path.{_≡_, refl, sym, ap, subst}
 use mathlib.Core.Logic.{inl, inr}
 use mathlib.Core.List.{List}
 use lib.ListN.{length}
-use Rattle.theory.specs.Log.{_∈_}
+use Rattle.logs.specs.Log.{_∈_}
 use Rattle.order.specs.Line.{Kind, update, scan, Items, May, Sound}
 use Rattle.order.proofs.Select.{select, select-from, select-to, select-once}
 use Rattle.order.proofs.Total.{total, total-mono, total-tight}

@@ -5,8 +5,8 @@ use native.Mathlib.Decide.{decLt}
 use native.Mathlib.Omega.{arith}
 use mathlib.Core.Path.{_≡_, refl, sym, _∙_, subst, subst₂}
 use mathlib.Core.Logic.{inl, inr}
-use Rattle.theory.specs.Update.{upd}
-use Rattle.theory.proofs.Update.{upd-other, upd-all}
+use Rattle.logs.specs.Update.{upd}
+use Rattle.logs.proofs.Update.{upd-other, upd-all}
 use Rattle.history.specs.Message.{Entry}
 use Rattle.history.specs.Event.{done, shown, spent}
 use Rattle.history.specs.Trace.{Begun, updating, scanning, Fate, unfinished, ended}

@@ -5,8 +5,8 @@ use mathlib.Core.Path.{_≡_, refl, sym, _∙_, ap, subst}
 use mathlib.Core.Logic.{⊎-elim}
 use mathlib.Core.List.{[], _∷_, _++_, List·Memᴰ·append-cases, List·Memᴰ·not-nil}
 use lib.ListN.{length, length-append}
-use Rattle.theory.specs.Log.{_∈_}
-use Rattle.theory.proofs.Update.{upd-same, upd-other}
+use Rattle.logs.specs.Log.{_∈_}
+use Rattle.logs.proofs.Update.{upd-same, upd-other}
 use Rattle.history.specs.Message.{View}
 use Rattle.history.specs.Event.{Ending, none, done, shown, spent, Rule}
 use Rattle.history.specs.Trace.{Seen, Trace, handler, Begun, nothing, updating, scanning, begun, ended, ownTags}

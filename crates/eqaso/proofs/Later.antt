@@ -3,7 +3,7 @@ use Prim.Native.Nat.{ℕ, _≤_, _<_}
 use native.Mathlib.Omega.{arith}
 use mathlib.Core.Path.{_≡_, refl, sym, _∙_, subst}
 use mathlib.Core.Logic.{_≢_}
-use Rattle.theory.proofs.Update.{upd-other, upd-all}
+use Rattle.logs.proofs.Update.{upd-other, upd-all}
 use Rattle.history.specs.Message.{Value, of}
 use Rattle.history.specs.Event.{Operation, Ending}
 use Rattle.history.specs.Trace.{Begun, nothing, updating, scanning, unfinished, ended}

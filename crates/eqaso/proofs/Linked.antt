@@ -7,9 +7,9 @@ use mathlib.Core.Bool.{Bool, false, _||_}
 use mathlib.Core.List.{List, [], _∷_, _++_, append-assoc, List·Memᴰ·append-cases}
 use lib.ListN.{length, length-append}
 use lib.Seq.{drop-at}
-use Rattle.theory.specs.Count.{count}
-use Rattle.theory.proofs.Count.{count-none}
-use Rattle.theory.specs.Log.{_∈_}
+use Rattle.logs.specs.Count.{count}
+use Rattle.logs.proofs.Count.{count-none}
+use Rattle.logs.specs.Log.{_∈_}
 use Rattle.history.specs.Message.{Message}
 use Rattle.history.specs.Event.{Event}
 use Rattle.history.specs.Trace.{Seen, Trace, stopsBy, stopped, letOutTo, handedOver, waits}

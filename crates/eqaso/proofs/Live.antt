@@ -7,10 +7,10 @@ use mathlib.Core.Path.{_≡_, refl, sym, subst}
 use mathlib.Core.Logic.{_⊎_, inl, inr, ite}
 use mathlib.Core.Bool.{Bool, true}
 use mathlib.Core.List.{List, [], _∷_, List·Memᴰ·head, List·Memᴰ·tail}
-use Rattle.theory.specs.Update.{upd}
-use Rattle.theory.proofs.Update.{upd-same, upd-all}
-use Rattle.theory.specs.Log.{_∈_, _⊑_, here, more, push}
-use Rattle.theory.proofs.Log.{mem-up}
+use Rattle.logs.specs.Update.{upd}
+use Rattle.logs.proofs.Update.{upd-same, upd-all}
+use Rattle.logs.specs.Log.{_∈_, _⊑_, here, more, push}
+use Rattle.logs.proofs.Log.{mem-up}
 use Rattle.history.specs.Message.{Value, Message, read, readAnswer, write, writeAnswer, echo, value, good}
 use Rattle.history.specs.Event.{Operation, update, scan, round0, round1}
 use Rattle.eqaso.specs.Algorithm.{nobody, Wait, idle, reading, writing, comparing, borrowing, Good, Node, sending}

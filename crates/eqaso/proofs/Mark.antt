@@ -7,8 +7,8 @@ use mathlib.Core.Path.{_≡_, refl, sym, subst}
 use mathlib.Core.Logic.{_⊎_, inl, inr}
 use mathlib.Core.Bool.{true}
 use mathlib.Core.List.{[], _∷_, List·Memᴰ·head, List·Memᴰ·tail}
-use Rattle.theory.specs.Update.{upd}
-use Rattle.theory.specs.Log.{_∈_, push}
+use Rattle.logs.specs.Update.{upd}
+use Rattle.logs.specs.Log.{_∈_, push}
 use Rattle.history.specs.Message.{of, View, Message, read, readAnswer, write, writeAnswer, echo, value, good}
 use Rattle.history.specs.Event.{Operation, update, scan, round0, round1}
 use Rattle.eqaso.specs.Algorithm.{nobody, Wait, idle, reading, writing, comparing, borrowing, Node, sending}

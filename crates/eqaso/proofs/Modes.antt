@@ -2,7 +2,7 @@
 use Prim.Native.Nat.{ℕ}
 use mathlib.Core.Path.{_≡_, refl, sym, _∙_, subst}
 use mathlib.Core.Logic.{_≢_}
-use Rattle.theory.proofs.Update.{upd-same, upd-other, upd-all}
+use Rattle.logs.proofs.Update.{upd-same, upd-other, upd-all}
 use Rattle.history.specs.Event.{Ending}
 use Rattle.history.specs.Trace.{Begun, nothing, Fate, unfinished, ended}
 use Rattle.eqaso.proofs.Book.{Book, begins, tags, ends, At, IdleAt, OpenAt}

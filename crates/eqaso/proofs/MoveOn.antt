@@ -5,8 +5,8 @@ use native.Mathlib.Decide.{ℕ-discrete, decLe}
 use mathlib.Core.Path.{_≡_, subst}
 use mathlib.Core.Logic.{ite}
 use mathlib.Core.List.{[], _∷_}
-use Rattle.theory.specs.Count.{count}
-use Rattle.theory.specs.Log.{push}
+use Rattle.logs.specs.Count.{count}
+use Rattle.logs.specs.Log.{push}
 use Rattle.history.specs.Message.{of, Message, read, write, value, good}
 use Rattle.history.specs.Event.{Operation, update, scan, direct, borrowed, Round, round0, round1, round2, round3, spent}
 use Rattle.eqaso.specs.Algorithm.{limit, Nodes, nobody, Wait, idle, reading, writing, comparing, borrowing, Node}

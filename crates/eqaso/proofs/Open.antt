@@ -5,7 +5,7 @@ use mathlib.Core.Path.{refl, sym, subst}
 use mathlib.Core.Logic.{inl}
 use mathlib.Core.Bool.{false≢true}
 use mathlib.Core.List.{_∷_, List·Memᴰ·head, List·Memᴰ·tail}
-use Rattle.theory.specs.Log.{_∈_, here, more}
+use Rattle.logs.specs.Log.{_∈_, here, more}
 use Rattle.history.specs.Message.{Value, Message, write, value}
 use Rattle.history.specs.Event.{Operation, update, scan, Round, round0, round1, round2, round3}
 use Rattle.eqaso.specs.Algorithm.{nobody, Wait, writing, comparing, Node, waiting, opening}

@@ -3,8 +3,8 @@ use Prim.Native.Nat.{ℕ, suc, _≤_, max}
 use native.Mathlib.Omega.{arith}
 use mathlib.Core.Path.{sym, subst}
 use mathlib.Core.List.{[], _∷_, List·Memᴰ·head, List·Memᴰ·tail}
-use Rattle.theory.specs.Log.{_∈_, push}
-use Rattle.theory.proofs.Log.{push-new}
+use Rattle.logs.specs.Log.{_∈_, push}
+use Rattle.logs.proofs.Log.{push-new}
 use Rattle.history.specs.Message.{of, Message, read, readAnswer, write, writeAnswer, echo, value, good}
 use Rattle.eqaso.specs.Algorithm.{Node, sending, _then_, react, messageStep}
 use Rattle.eqaso.proofs.Cert.{Log}

@@ -7,9 +7,9 @@ use mathlib.Core.Logic.{_⊎_, inl, inr}
 use mathlib.Core.Bool.{Bool, cond, decide}
 use mathlib.Core.List.{List, [], _∷_, _++_, List·Memᴰ·head, List·Memᴰ·tail, Memᴰ·append-left, Memᴰ·append-right}
 use mathlib.Core.List.{List·Memᴰ·append-cases}
-use Rattle.theory.specs.Update.{upd, upd2}
-use Rattle.theory.proofs.Update.{upd-self, upd-all}
-use Rattle.theory.specs.Log.{_∈_, push}
+use Rattle.logs.specs.Update.{upd, upd2}
+use Rattle.logs.proofs.Update.{upd-self, upd-all}
+use Rattle.logs.specs.Log.{_∈_, push}
 use Rattle.history.specs.Message.{Value, of, Message, read, readAnswer, write, writeAnswer, echo, value, good}
 use Rattle.history.specs.Event.{Operation, Extent, whole, cut, Event, begin, deliver, stop, sentTo}
 use Rattle.history.specs.Trace.{Seen, Trace, handler, letOutTo}

@@ -2,9 +2,9 @@
 use Prim.Native.Nat.{ℕ, suc, _≤_}
 use mathlib.Core.Path.{_≡_}
 use mathlib.Core.List.{List}
-use Rattle.theory.specs.Update.{upd}
-use Rattle.theory.specs.Log.{_∈_, push}
-use Rattle.theory.proofs.Log.{push-append}
+use Rattle.logs.specs.Update.{upd}
+use Rattle.logs.specs.Log.{_∈_, push}
+use Rattle.logs.proofs.Log.{push-append}
 use Rattle.history.specs.Message.{Value, of, View}
 use Rattle.history.specs.Event.{Operation, update, scan, Ending, none, done, shown, spent}
 use Rattle.eqaso.specs.Algorithm.{Node, Step, still, then-by, _then_, viewUpto}

@@ -6,7 +6,7 @@ use mathlib.Core.Logic.{inl, inr}
 use mathlib.Core.Bool.{cond, decide}
 use mathlib.Core.List.{List, [], _∷_, _++_, List·Memᴰ·head, List·Memᴰ·tail, Memᴰ·append-left, Memᴰ·append-right}
 use mathlib.Core.List.{List·Memᴰ·append-cases, List·Memᴰ·eq-of-singleton}
-use Rattle.theory.specs.Log.{_∈_}
+use Rattle.logs.specs.Log.{_∈_}
 use Rattle.history.specs.Message.{Value, Message, read, readAnswer, write, writeAnswer, echo, value, good}
 use Rattle.history.specs.Event.{Sent, sentTo}
 use Rattle.history.specs.Trace.{Trace, handler, letOutTo, tagBy, tagsSent, ownTags}

@@ -2,8 +2,8 @@
 use Prim.Native.Nat.{ℕ}
 use mathlib.Core.Path.{_≡_, refl, sym, subst}
 use mathlib.Core.List.{[], _∷_}
-use Rattle.theory.specs.Log.{push}
-use Rattle.theory.proofs.Log.{push-append}
+use Rattle.logs.specs.Log.{push}
+use Rattle.logs.proofs.Log.{push-append}
 use Rattle.history.specs.Message.{View, Message, read, readAnswer, write, writeAnswer, echo, value, good}
 use Rattle.history.specs.Event.{Operation, update, scan, Rule, Ending, none, done, shown, spent}
 use Rattle.eqaso.specs.Algorithm.{Wait, Node, Step, sending, then-by, _then_, waiting, finish, react, readPass}

@@ -8,7 +8,7 @@ use mathlib.Core.Bool.{cond, decide}
 use mathlib.Core.List.{List, [], _∷_, List·Memᴰ·head, List·Memᴰ·tail, Memᴰ·append-left, List·Memᴰ·append-cases}
 use mathlib.Core.List.{List·Memᴰ·eq-of-singleton}
 use lib.ListN.{drop, take-append-drop}
-use Rattle.theory.specs.Log.{_∈_}
+use Rattle.logs.specs.Log.{_∈_}
 use Rattle.history.specs.Message.{Message}
 use Rattle.history.specs.Event.{Extent, whole, cut, Sent, sentTo}
 use Rattle.history.specs.Order.{OneTo}

@@ -5,10 +5,10 @@ use mathlib.Core.Path.{_≡_, refl, sym, subst}
 use mathlib.Core.Logic.{_⊎_, inl, inr}
 use mathlib.Core.Bool.{true}
 use mathlib.Core.List.{_∷_}
-use Rattle.theory.specs.Update.{upd}
-use Rattle.theory.proofs.Update.{upd-all}
-use Rattle.theory.specs.Log.{_∈_, _⊑_, here, push, Each}
-use Rattle.theory.proofs.Log.{⊑-trans, placed, comparable, cons-or, before-it, each-at}
+use Rattle.logs.specs.Update.{upd}
+use Rattle.logs.proofs.Update.{upd-all}
+use Rattle.logs.specs.Log.{_∈_, _⊑_, here, push, Each}
+use Rattle.logs.proofs.Log.{⊑-trans, placed, comparable, cons-or, before-it, each-at}
 use Rattle.history.specs.Message.{Value, of, read, readAnswer, write, writeAnswer, echo, value}
 use Rattle.history.specs.Event.{Operation, update, scan, Round, round0, round1, round2, round3, none}
 use Rattle.eqaso.specs.Algorithm.{Nodes, Wait, reading, writing, Node, Step, waiting, has, raise, readAnswered}

@@ -7,10 +7,10 @@ use mathlib.Core.Path.{_≡_, refl, sym, subst}
 use mathlib.Core.Logic.{_⊎_, inl, inr, ite}
 use mathlib.Core.Bool.{true, false≢true}
 use mathlib.Core.List.{[], _∷_, List·Memᴰ·head, List·Memᴰ·tail}
-use Rattle.theory.specs.Count.{count}
-use Rattle.theory.proofs.Count.{meet}
-use Rattle.theory.specs.Log.{_∈_, _⊑_, here, more}
-use Rattle.theory.proofs.Log.{⊑-trans, mem-up, placed, cons-or}
+use Rattle.logs.specs.Count.{count}
+use Rattle.logs.proofs.Count.{meet}
+use Rattle.logs.specs.Log.{_∈_, _⊑_, here, more}
+use Rattle.logs.proofs.Log.{⊑-trans, mem-up, placed, cons-or}
 use Rattle.history.specs.Message.{Value, of, Message, write, echo, value}
 use Rattle.history.specs.Event.{Operation, update, scan, round0, round1, spent}
 use Rattle.eqaso.specs.Algorithm.{limit, Nodes, nobody, Wait, idle, reading, writing, comparing, borrowing, Node}

@@ -3,8 +3,8 @@ use native.Mathlib.Decide.{ℕ-discrete, decLe, decLt}
 use mathlib.Core.Path.{_≡_, refl}
 use mathlib.Core.Bool.{decide}
 use mathlib.Core.List.{[], _∷_}
-use Rattle.theory.specs.Count.{count}
-use Rattle.theory.specs.Update.{upd, upd2}
+use Rattle.logs.specs.Count.{count}
+use Rattle.logs.specs.Update.{upd, upd2}
 use Rattle.history.specs.Message.{absent}
 use Rattle.history.specs.Event.{round1, done, shown, direct, sentTo}
 use Rattle.history.specs.Trace.{updating, scanning, begun, unfinished, ended, firstEnding, fate, tagsSent, ownTags}

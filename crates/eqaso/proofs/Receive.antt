@@ -5,9 +5,9 @@ use native.Mathlib.Decide.{ℕ-discrete}
 use mathlib.Core.Path.{_≡_, refl, sym, _∙_, ap, subst}
 use mathlib.Core.Logic.{_⊎_, inl, inr}
 use mathlib.Core.List.{List, [], _∷_, List·Memᴰ·head, List·Memᴰ·tail}
-use Rattle.theory.proofs.Update.{upd-all, upd-same}
-use Rattle.theory.specs.Log.{_∈_, _⊑_, Each}
-use Rattle.theory.proofs.Log.{⊑-cons, mem-up, placed, push-append, each-at}
+use Rattle.logs.proofs.Update.{upd-all, upd-same}
+use Rattle.logs.specs.Log.{_∈_, _⊑_, Each}
+use Rattle.logs.proofs.Log.{⊑-cons, mem-up, placed, push-append, each-at}
 use Rattle.history.specs.Message.{Value, Message, read, readAnswer, write, writeAnswer, echo, value, good}
 use Rattle.history.specs.Event.{Operation, update, scan, round0}
 use Rattle.eqaso.specs.Algorithm.{Wait, writing, Node, Step, sending, then-by, _then_, raise, receive, react}

@@ -6,10 +6,10 @@ use mathlib.Core.Path.{_≡_, sym, _∙_, ap, subst}
 use mathlib.Core.Logic.{inl, inr, _≢_}
 use mathlib.Core.Bool.{Bool, false}
 use mathlib.Core.List.{List}
-use Rattle.theory.specs.Update.{upd}
-use Rattle.theory.proofs.Update.{upd-all}
-use Rattle.theory.specs.Log.{_∈_, _⊑_, here, push}
-use Rattle.theory.proofs.Log.{push-or, push-up}
+use Rattle.logs.specs.Update.{upd}
+use Rattle.logs.proofs.Update.{upd-all}
+use Rattle.logs.specs.Log.{_∈_, _⊑_, here, push}
+use Rattle.logs.proofs.Log.{push-or, push-up}
 use Rattle.history.specs.Message.{Value, of, Message, value}
 use Rattle.history.specs.Event.{Extent}
 use Rattle.history.specs.Trace.{updating, tagsSent}

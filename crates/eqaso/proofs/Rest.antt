@@ -5,8 +5,8 @@ use native.Mathlib.Decide.{ℕ-discrete, decLe}
 use mathlib.Core.Logic.{ite}
 use mathlib.Core.Bool.{Bool, true, false}
 use mathlib.Core.List.{[], _∷_}
-use Rattle.theory.specs.Count.{count}
-use Rattle.theory.proofs.Count.{count-none}
+use Rattle.logs.specs.Count.{count}
+use Rattle.logs.proofs.Count.{count-none}
 use Rattle.history.specs.Message.{of, View, Message, read, value}
 use Rattle.history.specs.Event.{Operation, update, scan, direct, borrowed, Round, round0, round1, round2, round3, spent}
 use Rattle.eqaso.specs.Algorithm.{limit, nobody, Wait, idle, reading, writing, comparing, borrowing, Node, Step}

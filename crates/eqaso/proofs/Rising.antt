@@ -7,8 +7,8 @@ use native.Mathlib.Decide.{ℕ-discrete, decLt}
 use mathlib.Core.Path.{_≡_, refl, sym, _∙_, ap, subst}
 use mathlib.Core.Logic.{_⊎_, inl, inr, _≢_}
 use mathlib.Core.List.{_∷_, List·Memᴰ·head, List·Memᴰ·tail}
-use Rattle.theory.specs.Log.{_∈_, _⊑_, here, more, Each}
-use Rattle.theory.proofs.Log.{mem-up, placed, each-at}
+use Rattle.logs.specs.Log.{_∈_, _⊑_, here, more, Each}
+use Rattle.logs.proofs.Log.{mem-up, placed, each-at}
 use Rattle.history.specs.Message.{Value, Message, read, readAnswer, write, writeAnswer, echo, value, good}
 use Rattle.history.specs.Event.{Operation, round0, round1, round2, round3}
 use Rattle.eqaso.specs.Algorithm.{Wait, idle, reading, writing, comparing, borrowing, Node}

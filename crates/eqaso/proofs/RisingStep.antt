@@ -5,8 +5,8 @@ use mathlib.Core.Path.{_≡_, refl, ap, subst}
 use mathlib.Core.Logic.{_⊎_, inl, inr}
 use mathlib.Core.Bool.{true}
 use mathlib.Core.List.{[], _∷_, List·Memᴰ·head, List·Memᴰ·tail}
-use Rattle.theory.specs.Update.{upd}
-use Rattle.theory.specs.Log.{_∈_, _⊑_, here, more, push}
+use Rattle.logs.specs.Update.{upd}
+use Rattle.logs.specs.Log.{_∈_, _⊑_, here, more, push}
 use Rattle.history.specs.Message.{Value, of, Message, read, readAnswer, write, writeAnswer, echo, value, good}
 use Rattle.history.specs.Event.{Operation, update, scan, Round, round0, round1}
 use Rattle.eqaso.specs.Algorithm.{Nodes, nobody, Wait, idle, reading, writing, comparing, borrowing, Node}

@@ -6,7 +6,7 @@ use mathlib.Core.Path.{_≡_, refl, sym, _∙_, ap, subst}
 use mathlib.Core.Logic.{_⊎_, ⊎-elim}
 use mathlib.Core.List.{[], _∷_, _++_, Memᴰ·append-left, Memᴰ·append-right, List·Memᴰ·append-cases}
 use lib.ListN.{length, take, drop, take-append-drop}
-use Rattle.theory.specs.Log.{_∈_}
+use Rattle.logs.specs.Log.{_∈_}
 use Rattle.history.specs.Event.{none}
 use Rattle.history.specs.Trace.{Seen, Trace, Begun, nothing, updating, scanning, begun, endingAt, Fate, unfinished}
 use Rattle.history.specs.Trace.{ended, fateBy, fateAt, fateOf, fate, upToEnd, ownTags, largest, tagAt}

@@ -4,11 +4,11 @@ use native.Mathlib.Omega.{arith}
 use mathlib.Core.Path.{_≡_, refl, sym, subst}
 use mathlib.Core.Bool.{Bool, true, false}
 use mathlib.Core.List.{List, [], _∷_, _++_}
-use Rattle.theory.proofs.Count.{count-not}
-use Rattle.theory.specs.Update.{upd, upd2}
-use Rattle.theory.proofs.Update.{upd-self}
-use Rattle.theory.specs.Log.{_∈_}
-use Rattle.theory.proofs.Log.{placed}
+use Rattle.logs.proofs.Count.{count-not}
+use Rattle.logs.specs.Update.{upd, upd2}
+use Rattle.logs.proofs.Update.{upd-self}
+use Rattle.logs.specs.Log.{_∈_}
+use Rattle.logs.proofs.Log.{placed}
 use Rattle.history.specs.Message.{Message}
 use Rattle.history.specs.Event.{Operation, Extent, cut, Event, stop}
 use Rattle.history.specs.Trace.{Seen, Trace, handler, tagsSent}

@@ -6,8 +6,8 @@ use mathlib.Core.Path.{_≡_, refl}
 use mathlib.Core.Bool.{decide}
 use mathlib.Core.List.{List, [], _∷_, _++_}
 use lib.ListN.{replicate, length}
-use Rattle.theory.specs.Count.{count}
-use Rattle.theory.specs.Update.{upd, upd2}
+use Rattle.logs.specs.Count.{count}
+use Rattle.logs.specs.Update.{upd, upd2}
 use Rattle.history.specs.Message.{Entry, absent}
 use Rattle.history.specs.Event.{update, scan, round1, none, done, shown, spent, direct, borrowed, Event, begin, deliver}
 use Rattle.history.specs.Event.{whole, cut, Answer, refused, accepted, Sent, sentTo}

@@ -6,7 +6,7 @@ use mathlib.Core.Path.{_≡_, refl, sym, subst}
 use mathlib.Core.Logic.{_⊎_, inl, inr, _≢_, ite}
 use mathlib.Core.Bool.{Bool, true, false, false≢true, not, cond, decide, decide-iff, _&&_, _||_}
 use mathlib.Core.List.{List, [], _∷_, List·Memᴰ·head, List·Memᴰ·tail}
-use Rattle.theory.specs.Log.{_∈_}
+use Rattle.logs.specs.Log.{_∈_}
 use Rattle.history.specs.Message.{Value}
 use Rattle.eqaso.specs.Algorithm.{same, Good, Node, has, within, agrees, kept}
 

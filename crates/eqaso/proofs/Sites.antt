@@ -2,8 +2,8 @@
 use Prim.Native.Nat.{ℕ, suc}
 use mathlib.Core.Logic.{_⊎_}
 use mathlib.Core.List.{[], _∷_}
-use Rattle.theory.specs.Update.{upd}
-use Rattle.theory.specs.Log.{_∈_, _⊑_, push}
+use Rattle.logs.specs.Update.{upd}
+use Rattle.logs.specs.Log.{_∈_, _⊑_, push}
 use Rattle.history.specs.Message.{Message}
 use Rattle.history.specs.Event.{Operation, scan}
 use Rattle.eqaso.specs.Algorithm.{nobody, reading, Node, fresh, asking, react, messageStep, beginStep}

@@ -4,7 +4,7 @@ use native.Mathlib.Decide.{ℕ-discrete}
 use mathlib.Core.Path.{_≡_, refl, sym, _∙_, ap, subst}
 use mathlib.Core.Logic.{_⊎_, inl, inr, if-pos}
 use mathlib.Core.List.{[], append-nil}
-use Rattle.theory.specs.Log.{push}
+use Rattle.logs.specs.Log.{push}
 use Rattle.history.specs.Message.{View, Message}
 use Rattle.history.specs.Event.{Operation, update, scan, Rule, Ending, none, done, shown, spent}
 use Rattle.eqaso.specs.Algorithm.{limit, Wait, idle, reading, Node, Step, sending, ended, then-by, _then_}

@@ -5,9 +5,9 @@ use native.Mathlib.Omega.{arith}
 use native.Mathlib.Decide.{ℕ-discrete}
 use mathlib.Core.Path.{_≡_, refl}
 use mathlib.Core.Bool.{Bool, true, decide}
-use Rattle.theory.specs.Count.{count}
-use Rattle.theory.proofs.Count.{count-mono}
-use Rattle.theory.specs.Log.{_∈_}
+use Rattle.logs.specs.Count.{count}
+use Rattle.logs.proofs.Count.{count-mono}
+use Rattle.logs.specs.Log.{_∈_}
 use Rattle.history.specs.Message.{Value, View, Message, read, readAnswer, write, writeAnswer, value, good}
 use Rattle.history.specs.Order.{OneTo}
 use Rattle.eqaso.specs.Algorithm.{Wait, idle, reading, writing, comparing, borrowing, Node, waiting, agrees}

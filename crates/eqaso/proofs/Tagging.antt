@@ -7,10 +7,10 @@ use mathlib.Core.Logic.{_⊎_, inl, inr}
 use mathlib.Core.Bool.{Bool, true, false, true≢false}
 use mathlib.Core.List.{List, [], _∷_, List·Memᴰ·head, List·Memᴰ·tail}
 use lib.ListN.{length}
-use Rattle.theory.specs.Update.{upd}
-use Rattle.theory.proofs.Update.{upd-same, upd-other}
-use Rattle.theory.specs.Log.{_∈_}
-use Rattle.theory.proofs.Log.{push-new, placed}
+use Rattle.logs.specs.Update.{upd}
+use Rattle.logs.proofs.Update.{upd-same, upd-other}
+use Rattle.logs.specs.Log.{_∈_}
+use Rattle.logs.proofs.Log.{push-new, placed}
 use Rattle.history.specs.Message.{Value, of, Message, value}
 use Rattle.history.specs.Event.{Operation, update, Round, round3, none, Extent, whole, cut}
 use Rattle.history.specs.Trace.{Trace, Begun, nothing, updating, scanning}

@@ -2,9 +2,9 @@
 use Prim.Native.Nat.{ℕ}
 use mathlib.Core.Path.{_≡_}
 use mathlib.Core.List.{List, [], _∷_, _++_, append-nil}
-use Rattle.theory.specs.Update.{upd}
-use Rattle.theory.proofs.Update.{upd-all}
-use Rattle.theory.specs.Log.{_∈_, push}
+use Rattle.logs.specs.Update.{upd}
+use Rattle.logs.proofs.Update.{upd-all}
+use Rattle.logs.specs.Log.{_∈_, push}
 use Rattle.history.specs.Message.{Message}
 use Rattle.history.specs.Event.{Extent}
 use Rattle.history.specs.Trace.{Seen, Trace, handler, letOutTo}

@@ -4,10 +4,10 @@ use native.Mathlib.Omega.{arith}
 use mathlib.Core.Path.{sym, subst}
 use mathlib.Core.Logic.{_⊎_, inl, inr}
 use mathlib.Core.List.{List, _∷_, List·Memᴰ·head, List·Memᴰ·tail}
-use Rattle.theory.specs.Update.{upd}
-use Rattle.theory.proofs.Update.{upd-all}
-use Rattle.theory.specs.Log.{_∈_, _⊑_, here, Each}
-use Rattle.theory.proofs.Log.{⊑-trans, mem-up}
+use Rattle.logs.specs.Update.{upd}
+use Rattle.logs.proofs.Update.{upd-all}
+use Rattle.logs.specs.Log.{_∈_, _⊑_, here, Each}
+use Rattle.logs.proofs.Log.{⊑-trans, mem-up}
 use Rattle.history.specs.Message.{Value, Message, read, readAnswer, write, writeAnswer, echo, value, good}
 use Rattle.history.specs.Event.{Operation, Round}
 use Rattle.eqaso.specs.Algorithm.{Wait, idle, reading, writing, comparing, borrowing, Node}

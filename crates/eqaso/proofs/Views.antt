@@ -7,10 +7,10 @@ use mathlib.Core.Logic.{_⊎_, inl, inr}
 use mathlib.Core.Bool.{Bool, true}
 use mathlib.Core.List.{List, [], _∷_, _++_}
 use lib.ListN.{length, getD, List·getD-append}
-use Rattle.theory.specs.Count.{count}
-use Rattle.theory.proofs.Count.{meet}
-use Rattle.theory.specs.Log.{_∈_, _⊑_, Each}
-use Rattle.theory.proofs.Log.{⊑-trans, ⊑-cons, mem-up, place, each-at}
+use Rattle.logs.specs.Count.{count}
+use Rattle.logs.proofs.Count.{meet}
+use Rattle.logs.specs.Log.{_∈_, _⊑_, Each}
+use Rattle.logs.proofs.Log.{⊑-trans, ⊑-cons, mem-up, place, each-at}
 use Rattle.history.specs.Message.{Value, of, absent, View, value}
 use Rattle.history.specs.Event.{Operation, Round, done, shown, spent}
 use Rattle.history.specs.Trace.{Begun, nothing, updating, scanning, Fate, unfinished, ended, entryAt}

@@ -7,7 +7,7 @@ use native.Mathlib.Omega.{arith}
 use mathlib.Core.Path.{_≡_, refl, sym, _∙_, ap, subst}
 use mathlib.Core.List.{List, [], _∷_, List·Memᴰ·head, List·Memᴰ·tail}
 use lib.ListN.{take}
-use Rattle.theory.specs.Log.{_∈_}
+use Rattle.logs.specs.Log.{_∈_}
 use Rattle.history.specs.Trace.{Trace, updating, begun, Fate, ended, fateAt, fateOf, fate, upToEnd, ownTags, largest}
 use Rattle.history.specs.Trace.{tagAt}
 use Rattle.history.specs.Order.{EndedBefore}

@@ -4,10 +4,10 @@ use native.Mathlib.Omega.{arith}
 use mathlib.Core.Path.{_≡_, refl, sym, subst}
 use mathlib.Core.Bool.{false≢true}
 use mathlib.Core.List.{[], _∷_, List·Memᴰ·head, List·Memᴰ·tail}
-use Rattle.theory.specs.Update.{upd}
-use Rattle.theory.proofs.Update.{upd-same, upd-other, upd-all, upd-twice}
-use Rattle.theory.specs.Log.{_∈_, _⊑_, here, more, push}
-use Rattle.theory.proofs.Log.{⊑-cons, place, placed, push-append, push-up, each-at}
+use Rattle.logs.specs.Update.{upd}
+use Rattle.logs.proofs.Update.{upd-same, upd-other, upd-all, upd-twice}
+use Rattle.logs.specs.Log.{_∈_, _⊑_, here, more, push}
+use Rattle.logs.proofs.Log.{⊑-cons, place, placed, push-append, push-up, each-at}
 use Rattle.history.specs.Message.{Message, read, readAnswer, write, writeAnswer, echo, value, good}
 use Rattle.history.specs.Event.{Operation, update, scan, Ending, none, done, shown, spent}
 use Rattle.eqaso.specs.Algorithm.{nobody, Wait, idle, reading, Node, Step, sending, then-by, _then_, waiting}

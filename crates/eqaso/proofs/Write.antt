@@ -4,10 +4,10 @@ use Prim.Native.Nat.{ℕ, _+_, _-_, _≤_, _<_}
 use native.Mathlib.Omega.{arith}
 use mathlib.Core.Path.{sym, subst}
 use mathlib.Core.Logic.{_⊎_, inl, inr, ite}
-use Rattle.theory.specs.Count.{count}
-use Rattle.theory.proofs.Count.{meet}
-use Rattle.theory.specs.Log.{_∈_, here}
-use Rattle.theory.proofs.Log.{mem-up, ⊑-cons}
+use Rattle.logs.specs.Count.{count}
+use Rattle.logs.proofs.Count.{meet}
+use Rattle.logs.specs.Log.{_∈_, here}
+use Rattle.logs.proofs.Log.{mem-up, ⊑-cons}
 use Rattle.history.specs.Message.{Value, value}
 use Rattle.history.specs.Event.{Operation, update, Round, round0}
 use Rattle.eqaso.specs.Algorithm.{Nodes, Wait, idle, reading, writing, comparing, borrowing, Node, still, waiting}

@@ -6,7 +6,7 @@ use native.Mathlib.Decide.{ℕ-discrete, decLe, decLt}
 use mathlib.Core.Logic.{ite}
 use mathlib.Core.Bool.{true, cond}
 use mathlib.Core.List.{List, [], _∷_, _++_}
-use Rattle.theory.specs.Update.{upd}
+use Rattle.logs.specs.Update.{upd}
 use Rattle.history.specs.Message.{Value, View, Message, read, readAnswer, write, writeAnswer, echo, value, good}
 use Rattle.history.specs.Event.{Operation, update, scan, Round, round0, round1, round2, round3, Rule, direct, borrowed}
 use Rattle.history.specs.Event.{Ending, none, done, shown, spent}

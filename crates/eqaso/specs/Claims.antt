@@ -5,7 +5,7 @@ use mathlib.Core.Path.{_≡_}
 use mathlib.Core.Logic.{_↔_}
 use mathlib.Core.Bool.{Bool}
 use mathlib.Core.List.{List}
-use Rattle.theory.specs.Count.{count}
+use Rattle.logs.specs.Count.{count}
 use Rattle.history.specs.Message.{Message}
 use Rattle.history.specs.Event.{Operation, update, scan, none, spent, Event}
 use Rattle.history.specs.Order.{OneTo, SingleOrder, Quiet}

@@ -8,8 +8,8 @@ use mathlib.Core.Logic.{ite}
 use mathlib.Core.Bool.{Bool, true, false, cond, decide, not, _&&_, Bool-discrete}
 use mathlib.Core.List.{List, [], _∷_, _++_}
 use lib.ListN.{length, take}
-use Rattle.theory.specs.Count.{count}
-use Rattle.theory.specs.Update.{upd, upd2}
+use Rattle.logs.specs.Count.{count}
+use Rattle.logs.specs.Update.{upd, upd2}
 use Rattle.history.specs.Message.{Message, read, readAnswer, write, writeAnswer, echo, value, good}
 use Rattle.history.specs.Event.{Operation, Extent, whole, cut, Event, begin, deliver, stop, Ending, none, Answer}
 use Rattle.history.specs.Event.{refused, accepted, Sent, sentTo}

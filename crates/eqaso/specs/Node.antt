@@ -7,7 +7,7 @@ use mathlib.Core.Logic.{ite}
 use mathlib.Core.Bool.{Bool, true, false, cond, decide, _&&_, _||_}
 use mathlib.Core.List.{List, [], _∷_, _++_}
 use lib.ListN.{replicate}
-use Rattle.theory.specs.Count.{count}
+use Rattle.logs.specs.Count.{count}
 use Rattle.history.specs.Message.{Value, of, Entry, absent, View}
 use Rattle.history.specs.Event.{Operation, Round}
 

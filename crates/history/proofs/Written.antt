@@ -4,7 +4,7 @@ use native.Mathlib.Decide.{ℕ-discrete}
 use mathlib.Core.Path.{_≡_, refl, sym, _∙_, ap, subst}
 use mathlib.Core.Bool.{cond, decide}
 use mathlib.Core.List.{List, [], _∷_, List·Memᴰ·head, List·Memᴰ·tail}
-use Rattle.theory.specs.Log.{_∈_}
+use Rattle.logs.specs.Log.{_∈_}
 use Rattle.order.specs.Sequence.{None, Last, here, later}
 use Rattle.history.specs.Message.{Entry}
 use Rattle.history.specs.Trace.{Trace, Begun, nothing, updating, scanning, begun, tagAt, writesBy}

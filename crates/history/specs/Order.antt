@@ -7,7 +7,7 @@ use mathlib.Core.Logic.{_↔_}
 use mathlib.Core.Bool.{false}
 use mathlib.Core.List.{List, [], _∷_}
 use lib.ListN.{length}
-use Rattle.theory.specs.Log.{_∈_}
+use Rattle.logs.specs.Log.{_∈_}
 use Rattle.order.specs.Sequence.{Once, before}
 use Rattle.history.specs.Message.{Entry, absent}
 use Rattle.history.specs.Event.{none, done, shown, spent}

@@ -2,7 +2,7 @@
 use Prim.Native.Nat.{ℕ, _<_}
 use mathlib.Core.Path.{_≡_}
 use lib.ListN.{take}
-use Rattle.theory.specs.Log.{_∈_}
+use Rattle.logs.specs.Log.{_∈_}
 use Rattle.history.specs.Trace.{Trace, updating, begun, fateAt, upToEnd, ownTags, tagAt}
 
 -- Document 01's words for the tag s of the update of node c that began at index t: it is among its own tags let out

@@ -4,7 +4,7 @@ use native.Mathlib.Decide.{decLt}
 use mathlib.Core.Path.{refl}
 use mathlib.Core.Bool.{decide-iff}
 use mathlib.Core.List.{List}
-use Rattle.theory.specs.Count as C
+use Rattle.logs.specs.Count as C
 use Rattle.table.specs.Quorum.{faults}
 use Rattle.outgoing.specs.declared.Extent.the-variants.{Cut}
 use Rattle.cluster.specs.Stop.{stopIn, stop}

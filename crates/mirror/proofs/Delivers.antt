@@ -9,8 +9,8 @@ use mathlib.Core.List.{List, [], _∷_}
 use lib.Dec.{ltb}
 use lib.ListN.{length}
 use borrow.Author.Tests.{lt-ltb, le-ltb}
-use Rattle.theory.specs.Update.{upd2}
-use Rattle.theory.proofs.Update.{upd2-same, upd2-other}
+use Rattle.logs.specs.Update.{upd2}
+use Rattle.logs.proofs.Update.{upd2-same, upd2-other}
 use Rattle.octets.specs.Answer.{Answer, result, refused}
 use Rattle.octets.specs.Test.{both}
 use Rattle.view.specs.View.{viewOf}

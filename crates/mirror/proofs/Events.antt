@@ -8,8 +8,8 @@ use mathlib.Core.Bool.{Bool, true, false, not, decide, decide-iff}
 use mathlib.Core.List.{List}
 use lib.Dec.{leb, ltb}
 use borrow.Author.Tests.{le-leb, lt-leb}
-use Rattle.theory.specs.Count as C
-use Rattle.theory.proofs.Count.{count-one}
+use Rattle.logs.specs.Count as C
+use Rattle.logs.proofs.Count.{count-one}
 use Rattle.octets.specs.Test.{both}
 use Rattle.table.specs.Loop.{count}
 use Rattle.table.specs.Quorum.{faults}

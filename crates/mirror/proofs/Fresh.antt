@@ -8,7 +8,7 @@ use mathlib.Core.List.{List, []}
 use lib.Dec.{ltb}
 use lib.ListN.{length, getD, set, replicate, length-set, length-replicate}
 use lib.Seq.{getD-set-same, getD-set-other}
-use Rattle.theory.specs.Count as C
+use Rattle.logs.specs.Count as C
 use Rattle.octets.specs.Bytes.{part}
 use Rattle.octets.specs.Loop.{upTo, tab}
 use Rattle.octets.proofs.Put.{getD-part}

@@ -4,7 +4,7 @@ use native.Mathlib.Decide.{decLe}
 use mathlib.Core.Path.{_≡_, refl, sym, subst}
 use mathlib.Core.Bool.{Bool, true, _&&_}
 use mathlib.Core.List.{List, [], _∷_}
-use Rattle.theory.specs.Update.{upd2}
+use Rattle.logs.specs.Update.{upd2}
 use Rattle.octets.specs.Answer.{Answer, result, refused}
 use Rattle.view.specs.declared.View.{View}
 use Rattle.step.specs.declared.Ending.{Ending}

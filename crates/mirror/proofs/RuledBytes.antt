@@ -9,8 +9,8 @@ use mathlib.Core.List.{List, [], _∷_, map}
 use lib.ListN.{length, getD, set, length-set}
 use lib.Seq.{getD-set-same}
 use lib.Dec.{ltb}
-use Rattle.theory.specs.Count.{count}
-use Rattle.theory.specs.Update.{upd, upd2}
+use Rattle.logs.specs.Count.{count}
+use Rattle.logs.specs.Update.{upd, upd2}
 use Rattle.octets.specs.Test.{pick}
 use Rattle.view.specs.Report.{noReport}
 use Rattle.table.specs.Quorum.{faults}

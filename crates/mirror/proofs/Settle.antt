@@ -6,9 +6,9 @@ use mathlib.Core.Path.{_≡_, refl, sym, ap, _∙_, subst}
 use mathlib.Core.Bool.{Bool, true, false, Bool-discrete}
 use mathlib.Core.List.{List, map}
 use lib.ListN.{length, take}
-use Rattle.theory.specs.Count.{count}
-use Rattle.theory.specs.Log.{_∈_}
-use Rattle.theory.specs.Update.{upd}
+use Rattle.logs.specs.Count.{count}
+use Rattle.logs.specs.Log.{_∈_}
+use Rattle.logs.specs.Update.{upd}
 use Rattle.octets.specs.Answer.{result}
 use Rattle.octets.specs.Test.{pick}
 use Rattle.octets.proofs.Test.{not-true-false}

@@ -7,8 +7,8 @@ use mathlib.Core.Logic.{_≢_, inl, inr}
 use mathlib.Core.Bool.{Bool, true, false, cond}
 use mathlib.Core.List.{List, [], _∷_, _++_, append-nil}
 use lib.ListN.{length}
-use Rattle.theory.specs.Update.{upd, upd2}
-use Rattle.theory.proofs.Update.{upd-same, upd-other, upd2-same, upd2-other}
+use Rattle.logs.specs.Update.{upd, upd2}
+use Rattle.logs.proofs.Update.{upd-same, upd-other, upd2-same, upd2-other}
 use Rattle.view.specs.Size.{isSize}
 use Rattle.view.specs.View.{viewBytes}
 use Rattle.wire.specs.Layout.{allowed}

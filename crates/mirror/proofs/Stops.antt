@@ -5,10 +5,10 @@ use mathlib.Core.Path.{_≡_, sym, _∙_, subst, fun-ext}
 use mathlib.Core.Bool.{Bool, true, false, cond}
 use mathlib.Core.List.{List, []}
 use lib.ListN.{length}
-use Rattle.theory.specs.Count as C
-use Rattle.theory.proofs.Count.{count-one}
-use Rattle.theory.specs.Update.{upd}
-use Rattle.theory.proofs.Update.{upd-self}
+use Rattle.logs.specs.Count as C
+use Rattle.logs.proofs.Count.{count-one}
+use Rattle.logs.specs.Update.{upd}
+use Rattle.logs.proofs.Update.{upd-self}
 use Rattle.table.specs.Quorum.{faults}
 use Rattle.region.specs.Channel.{capacity}
 use Rattle.block.specs.Block.{halt}

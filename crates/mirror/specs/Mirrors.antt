@@ -4,7 +4,7 @@ use mathlib.Core.Path.{_≡_}
 use mathlib.Core.Bool.{Bool, true}
 use mathlib.Core.List.{List, [], map}
 use lib.ListN.{length}
-use Rattle.theory.specs.Count as C
+use Rattle.logs.specs.Count as C
 use Rattle.octets.specs.Answer.{Answer, result, refused}
 use Rattle.view.specs.View.{viewOf}
 use Rattle.view.specs.declared.View.{View}

@@ -6,7 +6,7 @@ use native.Mathlib.Omega.{arith}
 use mathlib.Core.List.{List, [], _∷_, List·Memᴰ·head, List·Memᴰ·tail}
 use mathlib.Core.Logic.{_⊎_, inl, inr}
 use mathlib.Core.Path.{_≡_, refl, ap, subst}
-use Rattle.theory.specs.Log.{_∈_}
+use Rattle.logs.specs.Log.{_∈_}
 use Rattle.order.specs.Sequence.{before, None, Last}
 use Rattle.order.specs.Line.{Kind, update, scan, Items, May, Sound, Ahead, Line, Latest}
 use Rattle.order.proofs.Sequence.{before-in, before-once, before-asym, before-within, last-of}

@@ -2,7 +2,7 @@
 use mathlib.Core.List.{List, [], _∷_, List·Memᴰ·head, List·Memᴰ·tail}
 use mathlib.Core.Logic.{ite, _⊎_, inl, inr}
 use mathlib.Core.Path.{_≡_, sym, _∙_, subst}
-use Rattle.theory.specs.Log.{_∈_}
+use Rattle.logs.specs.Log.{_∈_}
 use Rattle.order.specs.Sequence.{Once, before, Last, here, later}
 
 module _ {A : Type 0} (same : Discrete A) where

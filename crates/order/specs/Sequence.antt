@@ -2,7 +2,7 @@
 use mathlib.Core.List.{List, [], _∷_}
 use mathlib.Core.Logic.{ite}
 use mathlib.Core.Path.{_≡_}
-use Rattle.theory.specs.Log.{_∈_}
+use Rattle.logs.specs.Log.{_∈_}
 
 -- Nothing stands in the list twice.
 abbrev pub Once : {A : Type 0} → List A → Type 0

@@ -36,7 +36,7 @@ use Rattle.region.proofs.Back.{Sized}
 use Rattle.block.specs.Block.{recordIn, takeOff}
 use Rattle.outgoing.specs.Entries.{entry, addressed, entriesOf, entries, goTo}
 use Rattle.outgoing.proofs.Laws.{entries-two, goTo-append, goTo-once}
-use Rattle.handlers.proofs.Handling.{reacted}
+use Rattle.react_bytes.proofs.Handling.{reacted}
 use Rattle.layout.specs.Layout.{stated, block, stopped, node, channel, onBlock}
 use Rattle.layout.proofs.Check.{is-size, sound-size, sound-channel}
 use Rattle.cluster.specs.Event.{Result, refuse, begin, deliver, settle}

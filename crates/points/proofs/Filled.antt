@@ -8,8 +8,8 @@ use mathlib.Core.List.{List, [], _∷_, map, List·Memᴰ·head, List·Memᴰ·t
 use lib.Dec.{eqb}
 use lib.ListN.{length, replicate, length-replicate}
 use borrow.Author.Tests.{le-leb}
-use Rattle.theory.specs.Log.{_∈_}
-use Rattle.theory.proofs.Count.{count-none}
+use Rattle.logs.specs.Log.{_∈_}
+use Rattle.logs.proofs.Count.{count-none}
 use Rattle.octets.specs.Answer.{Answer, result, refused}
 use Rattle.octets.specs.Test.{pick}
 use Rattle.octets.proofs.Test.{both-true, true-false}

@@ -7,8 +7,8 @@ use mathlib.Core.Path.{_≡_, refl, sym, ap, ap₂, _∙_, subst}
 use mathlib.Core.Bool.{false, decide}
 use mathlib.Core.List.{List, [], _∷_, map}
 use lib.ListN.{length}
-use Rattle.theory.specs.Count.{count}
-use Rattle.theory.specs.Update.{upd, upd2}
+use Rattle.logs.specs.Count.{count}
+use Rattle.logs.specs.Update.{upd, upd2}
 use Rattle.layout.specs.Layout.{clusterSize}
 use Rattle.cluster.specs.Event.{Result, fresh}
 use Rattle.history.specs.Event.{sentTo}

@@ -8,8 +8,8 @@ use mathlib.Core.Bool.{Bool, true, false, not, decide}
 use mathlib.Core.List.{List, [], _∷_, map}
 use lib.Dec.{eqb}
 use lib.ListN.{getD}
-use Rattle.theory.specs.Count.{count}
-use Rattle.theory.specs.Update.{upd, upd2}
+use Rattle.logs.specs.Count.{count}
+use Rattle.logs.specs.Update.{upd, upd2}
 use Rattle.octets.specs.Answer.{Answer, result}
 use Rattle.octets.specs.Test.{pick, both}
 use Rattle.view.specs.View.{noView}

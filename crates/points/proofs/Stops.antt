@@ -10,8 +10,8 @@ use borrow.Author.Tests.{le-leb, lt-ltb, le-ltb}
 use Rattle.octets.specs.Answer.{result}
 use Rattle.octets.specs.Test.{pick, both}
 use Rattle.octets.proofs.Test.{both-true, not-true-false}
-use Rattle.theory.proofs.Count.{count-none}
-use Rattle.theory.proofs.Update.{upd-same}
+use Rattle.logs.proofs.Count.{count-none}
+use Rattle.logs.proofs.Update.{upd-same}
 use Rattle.view.specs.View.{noView}
 use Rattle.table.specs.Loop.{count}
 use Rattle.table.specs.Quorum.{faults}

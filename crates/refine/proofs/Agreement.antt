@@ -5,7 +5,7 @@ use mathlib.Core.Logic.{_⊎_, inl, inr, _↔_}
 use mathlib.Core.Bool.{Bool, true, false}
 use lib.Dec.{leb, eqb}
 use borrow.Author.Tests.{le-leb, leb-true, eq-eqb, eqb-true}
-use Rattle.theory.specs.Count as C
+use Rattle.logs.specs.Count as C
 use Rattle.table.specs.Loop.{either, all, count}
 use Rattle.table.specs.Table.{at, tagOf, heardOf}
 use Rattle.table.specs.Quorum.{agrees, agreeing, isQuorum}

@@ -4,7 +4,7 @@ use native.Mathlib.Decide.{ℕ-discrete}
 use mathlib.Core.Path.{_≡_, sym, subst}
 use mathlib.Core.Bool.{true}
 use lib.Dec.{eqb}
-use Rattle.theory.specs.Update.{upd}
+use Rattle.logs.specs.Update.{upd}
 use Rattle.octets.specs.Test.{pick}
 use Rattle.table.specs.Quorum.{member, with}
 use Rattle.record.specs.Record.{waiting}

@@ -5,7 +5,7 @@ use native.Mathlib.Decide.{ℕ-discrete}
 use native.Mathlib.Numerals.{add-one}
 use mathlib.Core.Path.{_≡_, refl, sym, _∙_, subst}
 use mathlib.Core.List.{append-nil}
-use Rattle.theory.specs.Count as C
+use Rattle.logs.specs.Count as C
 use Rattle.wire.specs.declared.Message.the-variants.{Value}
 use Rattle.view.specs.Size.{limit}
 use Rattle.table.specs.Quorum.{size, isQuorum}

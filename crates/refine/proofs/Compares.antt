@@ -5,7 +5,7 @@ use native.Mathlib.Decide.{decLe}
 use native.Mathlib.Numerals.{add-one}
 use mathlib.Core.Path.{_≡_, refl, sym, _∙_, ap, ap₂, subst}
 use mathlib.Core.List.{[], _∷_, append-nil}
-use Rattle.theory.specs.Count as C
+use Rattle.logs.specs.Count as C
 use Rattle.view.specs.declared.View.{View}
 use Rattle.wire.specs.declared.Message.the-variants.{Good}
 use Rattle.view.specs.View.{noView, firstOf}

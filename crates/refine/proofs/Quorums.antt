@@ -3,9 +3,9 @@ use Prim.Native.Nat.{ℕ, zero, suc, _+_, _-_, _≤_}
 use native.Mathlib.Omega.{arith}
 use mathlib.Core.Path.{_≡_, refl, sym, _∙_}
 use mathlib.Core.Bool.{Bool, true, false, false≢true}
-use Rattle.theory.specs.Count as C
-use Rattle.theory.specs.Update.{upd}
-use Rattle.theory.proofs.Update.{upd-all}
+use Rattle.logs.specs.Count as C
+use Rattle.logs.specs.Update.{upd}
+use Rattle.logs.proofs.Update.{upd-all}
 use Rattle.octets.specs.Test.{pick}
 use Rattle.table.specs.Loop.{count}
 use Rattle.table.specs.Quorum.{member, with, size, isQuorum}

@@ -10,7 +10,7 @@ use Rattle.record.specs.Usable.{full}
 use Rattle.record.specs.declared.Node.{Node}
 use Rattle.step.specs.Move.{begun}
 use Rattle.region.specs.Record.{recordOf}
-use Rattle.handlers.proofs.Handling.{sized-of}
+use Rattle.react_bytes.proofs.Handling.{sized-of}
 use Rattle.layout.specs.Layout.{node}
 use Rattle.outgoing.proofs.Judged.{cut-judged}
 use Rattle.cluster.proofs.Told.{becomes, refuses}

@@ -8,7 +8,7 @@ use Rattle.octets.specs.Test.{pick}
 use Rattle.view.specs.View.{noView}
 use Rattle.step.specs.declared.Ending.the-variants.{None}
 use Rattle.region.specs.Record.{recordOf}
-use Rattle.moves.specs.Moved.{stepOf}
+use Rattle.step_bytes.specs.Moved.{stepOf}
 use Rattle.outgoing.specs.Outgoing.{isCut, foundIn, released}
 use Rattle.cluster.proofs.Told.{gives, leaves}
 use Rattle.cluster.proofs.Settled.{settle-full, settle-commits}

@@ -12,7 +12,7 @@ use Rattle.step.specs.Step.{started}
 use Rattle.step.proofs.Allowed.{lawful-writer}
 use Rattle.region.specs.Channel.{first}
 use Rattle.region.specs.Record.{recordOf}
-use Rattle.handlers.proofs.Handling.{sized-view, sized-of, reacted, reacted-n, reacted-bytes, reacted-step}
+use Rattle.react_bytes.proofs.Handling.{sized-view, sized-of, reacted, reacted-n, reacted-bytes, reacted-step}
 use Rattle.layout.specs.Layout.{node, channel}
 use Rattle.outgoing.proofs.Judged.{cut-judged}
 use Rattle.cluster.proofs.Told.{refuses, becomes}

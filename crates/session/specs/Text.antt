@@ -1,0 +1,58 @@
+-- A whole session text, as document 01 has it: n on the first line, then one event a line, counted from 1. What it
+-- says, what is printed for it, and what it leaves of the cluster.
+use Prim.Native.Nat.{ℕ}
+use mathlib.Core.List.{List, [], _∷_, _++_, map}
+use lib.Dec.{eqb}
+use Rattle.octets.specs.Test.{pick}
+use Rattle.layout.specs.Layout.{clusterSize}
+use Rattle.cluster.specs.Event.{freshBytes}
+use Rattle.lines.specs.Grammar.{eventOf, nodesOf}
+use Rattle.lines.specs.declared.Line.{Line}
+use Rattle.lines.specs.declared.Line.the-variants.{Bad}
+use Rattle.input.specs.Input.{linesOf, restOf}
+use Rattle.session.specs.Act.{ran, printed}
+use Rattle.session.specs.Progress.{next, badLine}
+
+-- ---- what a text says
+
+-- n, or 0 where the first line is bad or has not ended
+abbrev pub nodesFirst : List (List ℕ) → ℕ
+nodesFirst [] = 0
+nodesFirst (l ∷ ls) = nodesOf l
+
+abbrev pub nodesIn : List ℕ → ℕ
+nodesIn t = nodesFirst (linesOf t)
+
+-- the events: a line each, and one bad line more where the last has no line feed
+abbrev pub eventsAfter : List (List ℕ) → List Line
+eventsAfter [] = []
+eventsAfter (l ∷ ls) = map eventOf ls
+
+abbrev pub unended : List ℕ → List Line
+unended [] = []
+unended (x ∷ l) = Bad ∷ []
+
+abbrev pub eventsIn : List ℕ → List Line
+eventsIn t = eventsAfter (linesOf t) ++ unended (restOf t)
+
+-- ---- what it does
+
+-- the cluster's bytes after some lines, each on the bytes as the one before left them
+unfoldable pub leftBy : List ℕ → List Line → List ℕ
+leftBy b [] = b
+leftBy b (l ∷ ls) = leftBy (ran l b .bytes) ls
+
+-- what they print, the first of them as event e
+unfoldable pub printedBy : (e : ℕ) → List ℕ → List Line → List ℕ
+printedBy e b [] = []
+printedBy e b (l ∷ ls) = printed e l b ++ printedBy (next e) (ran l b .bytes) ls
+
+-- a fresh cluster of n nodes
+abbrev pub freshOf : ℕ → List ℕ
+freshOf n = freshBytes n (clusterSize n)
+
+abbrev pub clusterAfter : List ℕ → List ℕ
+clusterAfter t = leftBy (freshOf (nodesIn t)) (eventsIn t)
+
+unfoldable pub output : List ℕ → List ℕ
+output t = pick (eqb (nodesIn t) 0) (badLine 0) (printedBy 1 (freshOf (nodesIn t)) (eventsIn t))
