@@ -5,7 +5,7 @@ use mathlib.Core.List.{List}
 use lib.Dec.{leb, ltb, eqb}
 use lib.ListN.{length, length-replicate}
 use Rattle.view.specs.Report.{noReport}
-use Rattle.view.specs.Size.{limit}
+use Rattle.view.specs.Size.{limit, nodes}
 use Rattle.view.specs.View.{noView}
 use Rattle.table.specs.Quorum.{size, isQuorum, agreeing}
 use Rattle.record.specs.declared.Node.{Node}
@@ -25,7 +25,7 @@ use Rattle.step_bytes.specs.Moved.{stepOf, isStep}
 use Rattle.step_bytes.specs.declared.Effect.{Effect}
 
 sized-none : Sized noView
-sized-none = record { tags = length-replicate {A = ℕ} 16 0; reports = length-replicate 16 noReport }
+sized-none = record { tags = length-replicate {A = ℕ} nodes 0; reports = length-replicate nodes noReport }
 
 -- Of the tables a pass changes no more than the reports held for the round: it holds the newest, none, or the same.
 abbrev Held : Step → Type 0

@@ -37,10 +37,6 @@ stated b = getD b statedPlace 0
 abbrev pub faultsIn : List ℕ → ℕ
 faultsIn b = faults (stated b)
 
--- f: the most nodes that may stop.
-abbrev pub faultsIn : List ℕ → ℕ
-faultsIn b = faults (stated b)
-
 unfoldable pub block : List ℕ → ℕ → List ℕ
 block b c = part b (blockPlace c) blockSize
 

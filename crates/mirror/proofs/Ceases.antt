@@ -4,6 +4,7 @@ use native.Mathlib.Decide.{decLt}
 use mathlib.Core.Path.{refl}
 use mathlib.Core.Bool.{decide-iff}
 use mathlib.Core.List.{List}
+use Rattle.view.specs.Size.{nodes}
 use Rattle.logs.specs.Count as C
 use Rattle.table.specs.Quorum.{faults}
 use Rattle.outgoing.specs.declared.Extent.the-variants.{Cut}
@@ -15,7 +16,7 @@ use Rattle.mirror.proofs.Settle.{tells-true}
 use Rattle.mirror.proofs.Events.{twice-isNode, one-to, same-demand, same-admitted, cut-tells}
 use Rattle.mirror.proofs.Stops.{stop-mirrors}
 
-module _ {n : ℕ} (low : 1 ≤ n) (small : n ≤ 16) {b : List ℕ} {σ : K.Cluster} (mirror : Mirrors n b σ) where
+module _ {n : ℕ} (low : 1 ≤ n) (small : n ≤ nodes) {b : List ℕ} {σ : K.Cluster} (mirror : Mirrors n b σ) where
   pub ceases : (c : ℕ) → SameResult n (stop c b) (K.stopEvent n (faults n) c σ)
   unfolding stop
   ceases c =

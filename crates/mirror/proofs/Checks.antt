@@ -10,7 +10,7 @@ use borrow.Author.Tests.{le-leb, eq-eqb, ne-eqb}
 use Rattle.logs.specs.Count as C
 use Rattle.octets.specs.Test.{both}
 use Rattle.octets.proofs.Test.{both-left, both-right, both-true}
-use Rattle.view.specs.Size.{isSize}
+use Rattle.view.specs.Size.{isSize, nodes}
 use Rattle.table.specs.Loop.{count}
 use Rattle.table.specs.Quorum.{faults}
 use Rattle.table.proofs.Laws.{all-all}
@@ -27,9 +27,9 @@ use Rattle.refine.proofs.Quorums.{same-count}
 use Rattle.mirror.specs.Mirrors.{Mirrors}
 use Rattle.mirror.proofs.Says.{says-count}
 
-module _ {n : ℕ} (low : 1 ≤ n) (small : n ≤ 16) {b : List ℕ} {σ : K.Cluster} (M : Mirrors n b σ) where
+module _ {n : ℕ} (low : 1 ≤ n) (small : n ≤ nodes) {b : List ℕ} {σ : K.Cluster} (M : Mirrors n b σ) where
   pub sized : isSize n ≡ true
-  sized = both-true (le-leb 1 n low) (le-leb n 16 small)
+  sized = both-true (le-leb 1 n low) (le-leb n nodes small)
 
   pub is-fit : fits b ≡ true
   unfolding fits

@@ -13,6 +13,7 @@ use Rattle.logs.specs.Update.{upd2}
 use Rattle.logs.proofs.Update.{upd2-same, upd2-other}
 use Rattle.octets.specs.Answer.{Answer, result, refused}
 use Rattle.octets.specs.Test.{both}
+use Rattle.view.specs.Size.{nodes}
 use Rattle.view.specs.View.{viewOf}
 use Rattle.view.specs.declared.View.{View}
 use Rattle.view.proofs.ViewBytes.{view-absent}
@@ -54,11 +55,11 @@ IsResult (result x) = Unit {0}
 IsResult (refused k) = ⊥
 
 -- A view that is read has its sizes.
-sized-view : (n : ℕ) (b : List ℕ) → n ≤ 16 → Sized (viewOf n b)
+sized-view : (n : ℕ) (b : List ℕ) → n ≤ nodes → Sized (viewOf n b)
 sized-view n b small = let v = view-absent n b small in record { tags = v .tags-length; reports = v .reports-length }
 
 -- No message that a run hands over is stale.
-not-stale : {n i : ℕ} {ν : A.Node} {c : Node} → n ≤ 16 → Follows n i ν c → (k : ℕ) → OneTo n k
+not-stale : {n i : ℕ} {ν : A.Node} {c : Node} → n ≤ nodes → Follows n i ν c → (k : ℕ) → OneTo n k
     → (m : Message) (v : View)
     → Expected n k ν (messageOf n i v m) → staleMessage c k m ≡ false
 not-stale small F k o (Read q) v a = refl
@@ -69,7 +70,7 @@ not-stale small F k o (Echo t) v a = refl
 not-stale small F k o (Value t w p) v a = never-stale F small k o t w p a
 not-stale small F k o (Good t) v a = refl
 
-module _ {n : ℕ} (low : 1 ≤ n) (small : n ≤ 16) {b : List ℕ} {σ : K.Cluster} (mirror : Mirrors n b σ)
+module _ {n : ℕ} (low : 1 ≤ n) (small : n ≤ nodes) {b : List ℕ} {σ : K.Cluster} (mirror : Mirrors n b σ)
     (bounded : (c : ℕ) → BoundedNode n (σ .nodes c)) (a c : ℕ) (x : Extent) where
   -- The message that has waited longest is handled.
   module _ (from : OneTo n a) (at : OneTo n c) (stands : σ .stopped c ≡ false) (m : M.Message) (rest : List M.Message)

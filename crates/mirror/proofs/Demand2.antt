@@ -5,6 +5,7 @@ use mathlib.Core.Path.{_≡_, sym, ap, _∙_, subst}
 use mathlib.Core.Bool.{true, false}
 use mathlib.Core.List.{List, [], map}
 use lib.ListN.{length}
+use Rattle.view.specs.Size.{nodes}
 use Rattle.view.specs.View.{AbsentPast}
 use Rattle.view.proofs.First.{none-absent}
 use Rattle.table.specs.Quorum.{faults}
@@ -23,14 +24,14 @@ use Rattle.mirror.proofs.Encoded.{none-encoded}
 use Rattle.mirror.proofs.Run.{fresh-taken, run-mirrors, run-trace, run-refusals, run-encoded}
 
 -- An event on bytes that state n shows nothing past n, whatever their records hold there.
-event-absent : (n : ℕ) → n ≤ 16 → (e : Event) (b : List ℕ) → stated b ≡ n → AbsentPast n (event e b .view)
+event-absent : (n : ℕ) → n ≤ nodes → (e : Event) (b : List ℕ) → stated b ≡ n → AbsentPast n (event e b .view)
 event-absent n small (begin c o x) b is = subst (λ m. AbsentPast m (E.begin c o x b .view)) is
     (begin-absent c o x b (omega (arith, is, small)))
 event-absent n small (deliver a c x) b is = subst (λ m. AbsentPast m (E.deliver a c x b .view)) is
     (deliver-absent a c x b (omega (arith, is, small)))
 event-absent n small (stop c) b is = subst (AbsentPast n) (sym (stop-absent c b)) (none-absent n small)
 
-pub demand2 : (n : ℕ) → OneTo 16 n → (b : List ℕ) → length b ≡ clusterSize n → Demand2 n b
+pub demand2 : (n : ℕ) → OneTo nodes n → (b : List ℕ) → length b ≡ clusterSize n → Demand2 n b
 demand2 n (low, small) b long = record {
   taken = ap (λ r. r .answer) (fresh-taken n low small b long);
   same = run-trace n low small b long;

@@ -11,6 +11,7 @@ use borrow.Author.Tests.{le-leb, lt-leb}
 use Rattle.logs.specs.Count as C
 use Rattle.logs.proofs.Count.{count-one}
 use Rattle.octets.specs.Test.{both}
+use Rattle.view.specs.Size.{nodes}
 use Rattle.table.specs.Loop.{count}
 use Rattle.table.specs.Quorum.{faults}
 use Rattle.record.specs.Usable.{isOpen}
@@ -61,7 +62,7 @@ pub one-to : (n c : ℕ) → K.isNode n c ≡ true → OneTo n c
 one-to n c e = let (x, y) = and-both (decide (decLt 0 c)) (decide (decLe c n)) e in
     (decide-iff (decLt 0 c) .0 x, decide-iff (decLe c n) .0 y)
 
-module _ {n : ℕ} (low : 1 ≤ n) (small : n ≤ 16) {b : List ℕ} {σ : K.Cluster} (mirror : Mirrors n b σ) where
+module _ {n : ℕ} (low : 1 ≤ n) (small : n ≤ nodes) {b : List ℕ} {σ : K.Cluster} (mirror : Mirrors n b σ) where
   -- A refusal is given on the same condition.
   pub same-demand : {P : Type 0} {t : Bool} (d : Dec P) → Tells t P → (k : ℕ) {r : E.Result} {r′ : K.Result}
       → (P → SameResult n r r′) → SameResult n (E.demand t k b r) (K.demand d k σ r′)

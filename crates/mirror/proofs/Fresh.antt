@@ -13,6 +13,7 @@ use Rattle.octets.specs.Bytes.{part}
 use Rattle.octets.specs.Loop.{upTo, tab}
 use Rattle.octets.proofs.Put.{getD-part}
 use Rattle.octets.proofs.Table.{tab-none}
+use Rattle.view.specs.Size.{nodes}
 use Rattle.record.specs.Record.{blank}
 use Rattle.record.proofs.Fresh.{fresh-usable}
 use Rattle.region.specs.Channel.{slotSize, channelSize, countOf, oldest, slotAt, waiting}
@@ -37,7 +38,7 @@ waiting-none : {X : Type 0} (g : List ℕ → X) (t : List ℕ) → countOf t �
 unfolding waiting
 waiting-none g t e = ap (λ k. tab k (λ i. g (part t (slotAt (oldest t + i)) slotSize))) e ∙ tab-none _
 
-module _ (n : ℕ) (low : 1 ≤ n) (small : n ≤ 16) where
+module _ (n : ℕ) (low : 1 ≤ n) (small : n ≤ nodes) where
   -- A block of zeros.
   record Zeros (c : ℕ) (k : List ℕ) : Type 0 where
     size : length k ≡ blockSize

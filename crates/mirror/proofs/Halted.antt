@@ -11,13 +11,14 @@ use lib.Seq.{getD-set-same}
 use Rattle.octets.specs.Bytes.{part}
 use Rattle.octets.specs.Loop.{upTo}
 use Rattle.octets.proofs.Put.{length-part, part-other, put-one}
+use Rattle.view.specs.Size.{nodes}
 use Rattle.region.specs.Channel.{channelSize, clear, waiting}
 use Rattle.region.specs.Record.{recordSize}
 use Rattle.region.proofs.Waiting.{length-clear, waiting-clear}
 use Rattle.block.specs.Block.{blockSize, recordPlace, channelPlace, hasStopped, recordIn, channelIn, onChannel, halt}
 use Rattle.block.proofs.Changes.{channel-length, channel-flag, channel-record, channel-same, channel-other}
 
-pub channel-size : (k : List ℕ) → length k ≡ blockSize → (a : ℕ) → 1 ≤ a → a ≤ 16 → length (channelIn k a) ≡ channelSize
+pub channel-size : (k : List ℕ) → length k ≡ blockSize → (a : ℕ) → 1 ≤ a → a ≤ nodes → length (channelIn k a) ≡ channelSize
 unfolding channelIn
 channel-size k z a lo hi = length-part k (channelPlace a) channelSize (omega arith)
 
@@ -32,7 +33,7 @@ module _ {A : Type 0} (g : List ℕ → A) where
   cleared : (t : List ℕ) → length t ≡ channelSize → length (clear t) ≡ channelSize
   cleared t e = length-clear t ∙ e
 
-  pub halted : (k : List ℕ) → length k ≡ blockSize → (m : ℕ) → m ≤ 16 → Halted m k (halt m k)
+  pub halted : (k : List ℕ) → length k ≡ blockSize → (m : ℕ) → m ≤ nodes → Halted m k (halt m k)
   unfolding halt upTo recordIn
   halted k z zero l =
       let byte : 0 < length k = omega arith in
@@ -52,7 +53,7 @@ module _ {A : Type 0} (g : List ℕ → A) where
       step : Halted m k before → Halted (suc m) k (onChannel (m + 1) clear before)
       step H =
           let lo : 1 ≤ m + 1 = omega arith in
-          let hi : m + 1 ≤ 16 = omega arith in
+          let hi : m + 1 ≤ nodes = omega arith in
           let c : length (channelIn before (m + 1)) ≡ channelSize = channel-size before (H .size) (m + 1) lo hi in
           record {
             size = channel-length before (H .size) clear cleared (m + 1) lo hi;

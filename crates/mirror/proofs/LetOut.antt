@@ -11,7 +11,7 @@ use borrow.Author.Tests.{le-leb, lt-leb}
 use Rattle.logs.specs.Log.{_∈_}
 use Rattle.octets.specs.Loop.{each}
 use Rattle.octets.specs.Test.{both}
-use Rattle.view.specs.Size.{isSize}
+use Rattle.view.specs.Size.{isSize, nodes}
 use Rattle.table.specs.Loop.{all}
 use Rattle.region.specs.Channel.{capacity}
 use Rattle.outgoing.specs.Entries.{Entry, goTo}
@@ -29,7 +29,7 @@ use Rattle.mirror.proofs.Channels.{channel-stopped, channel-own, sent-h
 use Rattle.mirror.proofs.Channels.{same-goTo}
 use Rattle.mirror.proofs.Shows.{Gone, Fit, Room, shows-same, shows-send}
 
-module _ {n : ℕ} (small : n ≤ 16) (sized : isSize n ≡ true) (c : ℕ)
+module _ {n : ℕ} (small : n ≤ nodes) (sized : isSize n ≡ true) (c : ℕ)
     (node : OneTo n c) {ν : ℕ → A.Node} {s : ℕ → Bool} where
   pub shows-out : (l : List Entry) {b : List ℕ} {q : ℕ → ℕ → List M.Message} → Shows n b ν s q → Gone s q
       → ((e : Entry) → e ∈ l → Fit n e) → Room n c s q l
@@ -94,7 +94,7 @@ module _ (c : ℕ) (ch : ℕ → ℕ → List M.Message) where
         | no z ↦ roomy-at m y d (lo, omega arith)
       ]
 
-module _ {n : ℕ} (small : n ≤ 16) {b : List ℕ} {ν : ℕ → A.Node} {s : ℕ → Bool} {q : ℕ → ℕ → List M.Message}
+module _ {n : ℕ} (small : n ≤ nodes) {b : List ℕ} {ν : ℕ → A.Node} {s : ℕ → Bool} {q : ℕ → ℕ → List M.Message}
     (S : Shows n b ν s q)
     (c : ℕ) (node : OneTo n c) (l : List Entry) where
   abbrev later : ℕ → ℕ → List M.Message

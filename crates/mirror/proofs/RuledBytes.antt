@@ -12,9 +12,10 @@ use lib.Dec.{ltb}
 use Rattle.logs.specs.Count.{count}
 use Rattle.logs.specs.Update.{upd, upd2}
 use Rattle.octets.specs.Test.{pick}
+use Rattle.view.specs.Size.{nodes}
 use Rattle.view.specs.Report.{noReport}
 use Rattle.table.specs.Quorum.{faults}
-use Rattle.table.specs.Table.{tagOf}
+use Rattle.table.specs.Table.{tagOf, cells}
 use Rattle.record.specs.Record.{blank}
 use Rattle.record.specs.declared.Operation.the-variants.{Update, Scan}
 use Rattle.region.specs.Channel.{channelSize, clear, waiting}
@@ -47,7 +48,7 @@ abbrev showing : (List ℕ → List ℕ) → House → House
 showing f h = record { opened = h .opened; bytes = λ es. f (h .bytes es); next = h .next; seen = h .seen }
 
 -- The block of a node after some events, and the same changed.
-module _ (n : ℕ) (low : 1 ≤ n) (small : n ≤ 16) (b : List ℕ) (long : length b ≡ clusterSize n) (es : List Event) (c : ℕ)
+module _ (n : ℕ) (low : 1 ≤ n) (small : n ≤ nodes) (b : List ℕ) (long : length b ≡ clusterSize n) (es : List Event) (c : ℕ)
     (is-node : OneTo n c) where
   block-size : length (block (bytesAfter n b es) c) ≡ blockSize
   block-size = run-mirrors n low small b long es .shows .says c is-node .size
@@ -136,7 +137,7 @@ module _ (b : List ℕ) (long : length b ≡ clusterSize 1) where
       ∙ ap (λ c. tagOf (c .last) 1) (sym is) ∙ ap (λ e. e .tag) (d .remembers posting 1 one .last 1 one) ∙ last-tag in
       omega (arith, wrong)
     where
-      heard : length (blank 1 1 .heard) ≡ 256
+      heard : length (blank 1 1 .heard) ≡ cells
       heard = follows-fresh 1 1 .heard-size
 
       size-posted : length (block (bytesAfter 1 b posting) 1) ≡ blockSize

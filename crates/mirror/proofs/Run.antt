@@ -7,6 +7,7 @@ use lib.ListN.{length}
 use borrow.Author.Tests.{le-leb, eq-eqb}
 use Rattle.octets.specs.Answer.{result}
 use Rattle.octets.proofs.Test.{both-true}
+use Rattle.view.specs.Size.{nodes}
 use Rattle.view.specs.View.{noView}
 use Rattle.table.specs.Quorum.{faults}
 use Rattle.step.specs.declared.Ending.the-variants.{None}
@@ -29,7 +30,7 @@ use Rattle.mirror.proofs.Fresh.{fresh-mirrors}
 use Rattle.mirror.proofs.Refusals.{comes-up}
 use Rattle.mirror.proofs.Encoded.{encoded}
 
-module _ (n : ℕ) (low : 1 ≤ n) (small : n ≤ 16) where
+module _ (n : ℕ) (low : 1 ≤ n) (small : n ≤ nodes) where
   half : faults n + faults n < n
   half = omega arith
 
@@ -84,7 +85,7 @@ module _ (n : ℕ) (low : 1 ≤ n) (small : n ≤ 16) where
       sent = [];
     }
     unfolding E.fresh
-    fresh-taken = rw (both-true (le-leb 1 n low) (le-leb n 16 small), eq-eqb (length b) (clusterSize n) long) refl
+    fresh-taken = rw (both-true (le-leb 1 n low) (le-leb n nodes small), eq-eqb (length b) (clusterSize n) long) refl
 
     abbrev start : List ℕ
     start = E.fresh n b .bytes

@@ -2,6 +2,7 @@
 use Prim.Native.Nat.{ℕ, _≤_}
 use mathlib.Core.Path.{_≡_, subst}
 use mathlib.Core.Bool.{true, false}
+use Rattle.view.specs.Size.{nodes}
 use Rattle.view.specs.declared.View.{View}
 use Rattle.wire.specs.declared.Message.{Message}
 use Rattle.record.specs.Usable.{isOpen, full, usable}
@@ -25,7 +26,7 @@ long-node F = record {
   atround = (F .atround-size .tags, F .atround-size .reports);
 }
 
-module _ {n i : ℕ} (small : n ≤ 16) {ν : A.Node} {c : Node} (F : Follows n i ν c) (u : usable c ≡ true) (f : ℕ) where
+module _ {n i : ℕ} (small : n ≤ nodes) {ν : A.Node} {c : Node} (F : Follows n i ν c) (u : usable c ≡ true) (f : ℕ) where
   pub message-safe : (k : ℕ) → OneTo n k → (m : Message) (v : View) → lawful n m v ≡ true
       → Safe n (messageStep f c k m v)
   message-safe k (lo, hi) m v h =

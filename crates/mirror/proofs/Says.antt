@@ -12,6 +12,7 @@ use Rattle.logs.proofs.Update.{upd-all}
 use Rattle.octets.specs.Answer.{result}
 use Rattle.octets.specs.Test.{both}
 use Rattle.octets.proofs.Test.{both-true}
+use Rattle.view.specs.Size.{nodes}
 use Rattle.record.specs.Usable.{usable}
 use Rattle.record.specs.declared.Node.{Node}
 use Rattle.region.specs.Channel.{capacity, channelSize, slotSize, countOf, first, push, pop, waiting}
@@ -64,9 +65,9 @@ says-new {n} {c} k size stop waits {ν} {d} F u = let z = sized-node F in record
   waits = λ a o. ap (waiting (meant n c)) (keep-channel k size d (z .heard) a) ∙ waits a o;
 }
 
-module _ {n c : ℕ} (small : n ≤ 16) {k : List ℕ} {ν : A.Node} {s : Bool} {q : ℕ → List M.Message}
+module _ {n c : ℕ} (small : n ≤ nodes) {k : List ℕ} {ν : A.Node} {s : Bool} {q : ℕ → List M.Message}
     (B : Says n c k ν s q) where
-  most : (a : ℕ) → OneTo n a → a ≤ 16
+  most : (a : ℕ) → OneTo n a → a ≤ nodes
   most a o = omega arith
 
   size-of : (a : ℕ) → OneTo n a → length (channelIn k a) ≡ channelSize
@@ -94,7 +95,7 @@ module _ {n c : ℕ} (small : n ≤ 16) {k : List ℕ} {ν : A.Node} {s : Bool} 
   on-channel : (a : ℕ) → OneTo n a → (f : List ℕ → List ℕ)
       → ((t : List ℕ) → length t ≡ channelSize → length (f t) ≡ channelSize) → (l : List M.Message)
       → waiting (meant n c) (f (channelIn k a)) ≡ map result l → Says n c (onChannel a f k) ν s (upd q a l)
-  on-channel a (lo, hi) f same l e = let h : a ≤ 16 = omega arith in record {
+  on-channel a (lo, hi) f same l e = let h : a ≤ nodes = omega arith in record {
     size = channel-length k (B .size) f same a lo h;
     node = subst (λ r. Follows n c ν (recordOf r)) (sym (channel-record k (B .size) f same a lo h)) (B .node);
     sound = ap (recordSound n c) (channel-record k (B .size) f same a lo h) ∙ B .sound;

@@ -12,7 +12,7 @@ use Rattle.logs.specs.Update.{upd}
 use Rattle.octets.specs.Answer.{result}
 use Rattle.octets.specs.Test.{pick}
 use Rattle.octets.proofs.Test.{not-true-false}
-use Rattle.view.specs.Size.{isSize}
+use Rattle.view.specs.Size.{isSize, nodes}
 use Rattle.view.specs.View.{viewBytes, noView}
 use Rattle.wire.specs.Layout.{allowed}
 use Rattle.wire.specs.declared.Message.{Message}
@@ -57,7 +57,7 @@ pub same-refusal : {n : ℕ} {b : List ℕ} {σ : K.Cluster} → Mirrors n b σ 
     → SameResult n (E.refuse k b) (K.refuse k σ)
 same-refusal m k = record { answer = refl; sent = refl; mirrors = m }
 
-module _ {n : ℕ} (small : n ≤ 16) (sized : isSize n ≡ true) (a c : ℕ) (from : OneTo n a) (node : OneTo n c)
+module _ {n : ℕ} (small : n ≤ nodes) (sized : isSize n ≡ true) (a c : ℕ) (from : OneTo n a) (node : OneTo n c)
     {σ : K.Cluster} (x : Extent) (few : count (K.halted (extentOf x) c (σ .stopped)) n ≤ faults n)
     {b found : List ℕ} (mirror : Mirrors n b σ) (q : ℕ → ℕ → List M.Message)
     (S : Shows n found (σ .nodes) (σ .stopped) q)

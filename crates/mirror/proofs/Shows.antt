@@ -9,7 +9,7 @@ use mathlib.Core.List.{List, [], _∷_, _++_, append-nil}
 use lib.ListN.{length}
 use Rattle.logs.specs.Update.{upd, upd2}
 use Rattle.logs.proofs.Update.{upd-same, upd-other, upd2-same, upd2-other}
-use Rattle.view.specs.Size.{isSize}
+use Rattle.view.specs.Size.{isSize, nodes}
 use Rattle.view.specs.View.{viewBytes}
 use Rattle.wire.specs.Layout.{allowed}
 use Rattle.record.specs.Usable.{usable}
@@ -62,7 +62,7 @@ record Untouched (n d : ℕ) (ν ν′ : Nodes) (s s′ : Flags) (q q′ : Chann
   stop : s d ≡ s′ d
   waits : (a : ℕ) → OneTo n a → q a d ≡ q′ a d
 
-module _ {n : ℕ} (small : n ≤ 16) where
+module _ {n : ℕ} (small : n ≤ nodes) where
   untouched : {d : ℕ} {ν ν′ : Nodes} {s s′ : Flags} {q q′ : Channel} {k : List ℕ} → Untouched n d ν ν′ s s′ q q′
       → Says n d k (ν d) (s d) (λ a. q a d) → Says n d k (ν′ d) (s′ d) (λ a. q′ a d)
   untouched {d} {ν} {ν′} {s} {s′} {q} {q′} {k} U B =

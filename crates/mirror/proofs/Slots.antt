@@ -11,7 +11,7 @@ use Rattle.octets.specs.Bytes.{put}
 use Rattle.octets.proofs.Put.{length-put}
 use Rattle.octets.proofs.Table.{getD-padded}
 use Rattle.view.specs.Report.{noReport}
-use Rattle.view.specs.Size.{isSize}
+use Rattle.view.specs.Size.{isSize, nodes}
 use Rattle.view.specs.View.{tagAt, reportAt, viewBytes, viewOf}
 use Rattle.view.specs.declared.View.{View}
 use Rattle.view.proofs.ViewBytes.{tag-written, report-written}
@@ -29,7 +29,7 @@ use Rattle.refine.specs.Meaning as R
 use Rattle.refine.proofs.Tables.{same-table}
 use Rattle.mirror.specs.Mirrors.{meant}
 
-module _ (n : ℕ) (small : n ≤ 16) where
+module _ (n : ℕ) (small : n ≤ nodes) where
   -- No message is longer than a slot.
   size-most : (m : Message) → size n m ≤ slotSize
   unfolding size
@@ -47,8 +47,8 @@ module _ (n : ℕ) (small : n ≤ 16) where
   entry-same v w (lo, hi) =
       let i : w - 1 < n = omega arith in
       ap₂ (λ t p. record { tag = t; report = R.code p })
-      (getD-padded n 16 (tagAt (viewBytes n v ++ [])) (w - 1) 0 i ∙ tag-written n v [] (w - 1) i)
-      (getD-padded n 16 (reportAt (viewBytes n v ++ [])) (w - 1) noReport i ∙ report-written n v [] (w - 1) i)
+      (getD-padded n nodes (tagAt (viewBytes n v ++ [])) (w - 1) 0 i ∙ tag-written n v [] (w - 1) i)
+      (getD-padded n nodes (reportAt (viewBytes n v ++ [])) (w - 1) noReport i ∙ report-written n v [] (w - 1) i)
 
   view-same : (v : View) → R.viewOf n (viewOf n (viewBytes n v)) ≡ R.viewOf n v
   view-same v = ap (λ b. R.viewOf n (viewOf n b)) (sym (append-nil (viewBytes n v)))

@@ -5,6 +5,7 @@ use mathlib.Core.Path.{_≡_, sym, _∙_, subst, fun-ext}
 use mathlib.Core.Bool.{Bool, true, false, cond}
 use mathlib.Core.List.{List, []}
 use lib.ListN.{length}
+use Rattle.view.specs.Size.{nodes}
 use Rattle.logs.specs.Count as C
 use Rattle.logs.proofs.Count.{count-one}
 use Rattle.logs.specs.Update.{upd}
@@ -22,7 +23,7 @@ use Rattle.mirror.specs.Mirrors.{Shows, Mirrors}
 use Rattle.mirror.proofs.Channels.{channel-stopped, channels-none, emptied, emptied-gone, channels-emptied}
 use Rattle.mirror.proofs.Shows.{shows-halt}
 
-pub stop-mirrors : {n : ℕ} → n ≤ 16 → {b : List ℕ} {σ : K.Cluster} → Mirrors n b σ → (c : ℕ) → OneTo n c
+pub stop-mirrors : {n : ℕ} → n ≤ nodes → {b : List ℕ} {σ : K.Cluster} → Mirrors n b σ → (c : ℕ) → OneTo n c
     → C.count (σ .stopped) n < faults n
     → Mirrors n (onBlock c (halt n) b) (K.commit c (H.cut 0) (A.still (σ .nodes c)) [] (σ .channel) σ .cluster)
 stop-mirrors {n} small {b} {σ} mirror c o may = record {

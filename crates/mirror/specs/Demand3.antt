@@ -6,10 +6,11 @@ use Prim.Native.Nat.{ℕ}
 use mathlib.Core.Path.{_≡_}
 use mathlib.Core.List.{List}
 use lib.ListN.{length}
+use Rattle.view.specs.Size.{nodes}
 use Rattle.layout.specs.Layout.{clusterSize}
 use Rattle.history.specs.Order.{OneTo, SingleOrder, Quiet}
 use Rattle.mirror.specs.Run.{Event, traceOf}
 
 abbrev pub Demand3 : Type 0
-Demand3 = (n : ℕ) → OneTo 16 n → (b : List ℕ) → length b ≡ clusterSize n → (es : List Event)
+Demand3 = (n : ℕ) → OneTo nodes n → (b : List ℕ) → length b ≡ clusterSize n → (es : List Event)
     → SingleOrder n (traceOf n b es) × Quiet n (traceOf n b es)

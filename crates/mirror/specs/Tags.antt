@@ -4,11 +4,12 @@ use Prim.Native.Nat.{ℕ}
 use mathlib.Core.Path.{_≡_}
 use mathlib.Core.List.{List}
 use lib.ListN.{length}
+use Rattle.view.specs.Size.{nodes}
 use Rattle.layout.specs.Layout.{clusterSize}
 use Rattle.history.specs.Order.{OneTo}
 use Rattle.history.specs.Tags.{TagsAsWorded}
 use Rattle.mirror.specs.Run.{Event, traceOf}
 
 abbrev pub TagsOfCode : Type 0
-TagsOfCode = (n : ℕ) → OneTo 16 n → (b : List ℕ) → length b ≡ clusterSize n → (es : List Event)
+TagsOfCode = (n : ℕ) → OneTo nodes n → (b : List ℕ) → length b ≡ clusterSize n → (es : List Event)
     → TagsAsWorded (traceOf n b es)

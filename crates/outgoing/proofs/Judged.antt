@@ -7,8 +7,10 @@ use mathlib.Core.List.{List}
 use lib.ListN.{length, take}
 use Rattle.octets.specs.Test.{pick}
 use Rattle.table.specs.Loop.{all}
-use Rattle.octets.specs.Word.{word}
+use Rattle.octets.specs.Word.{word, wordSize}
 use Rattle.octets.proofs.Table.{length-tab}
+use Rattle.table.specs.Table.{cells}
+use Rattle.view.specs.Size.{nodes}
 use Rattle.step.specs.declared.Outbox.{Outbox}
 use Rattle.region.specs.Record.{heardPlace, recordOf}
 use Rattle.layout.specs.Layout.{clusterSize}
@@ -24,11 +26,11 @@ pub cut-judged : (n : ℕ) (x : Extent) (b : List ℕ) {cut r v : Bool} → cut 
 cut-judged n x b e q h = ap (λ (t : Bool). pick t (mayStop n b) true) (sym e) ∙ sym q ∙ h
 
 -- a record read from bytes has its table of heard tags
-pub heard-read : (r : List ℕ) → length (recordOf r .heard) ≡ 256
+pub heard-read : (r : List ℕ) → length (recordOf r .heard) ≡ cells
 unfolding recordOf
-heard-read r = length-tab 256 (λ i. word r (heardPlace + 8 * i))
+heard-read r = length-tab cells (λ i. word r (heardPlace + wordSize * i))
 
-pub judged : (took : Bool) (n a c : ℕ) (x : Extent) (r : List ℕ) (o : Outbox) (b : List ℕ) → n ≤ 16 → 1 ≤ a → a ≤ n
+pub judged : (took : Bool) (n a c : ℕ) (x : Extent) (r : List ℕ) (o : Outbox) (b : List ℕ) → n ≤ nodes → 1 ≤ a → a ≤ n
     → 1 ≤ c → c ≤ n → length b ≡ clusterSize n → {t cut : Bool} {gone left : ℕ} → cut ≡ isCut x → gone ≡ goneIn took a c
     → left ≡ most x → t ≡ all n (roomBefore cut gone c (take left (entries n a o)) b)
     → t ≡ hasRoom n a c x (recordOf r) o (foundIn took a c b)

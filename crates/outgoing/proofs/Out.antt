@@ -10,6 +10,7 @@ use lib.Seq.{take-all}
 use Rattle.octets.specs.Loop.{upTo, each}
 use Rattle.octets.proofs.Loop.{upTo-none, upTo-more, each-none, each-one, each-append}
 use Rattle.octets.proofs.Lent.{take-append}
+use Rattle.view.specs.Size.{nodes}
 use Rattle.table.specs.Loop.{tab}
 use Rattle.table.proofs.Laws.{tab-none, tab-more}
 use Rattle.view.specs.declared.View.{View}
@@ -107,6 +108,6 @@ let-three n a c left o b p d q e r =
     ∙ ap (λ (t : List Entry). letOut n c (take left t) b) (sym (entries-three n a o))
 
 -- what an event lets out is among so many entries
-pub within-most : (n a : ℕ) (x : Extent) (o : Outbox) → 1 ≤ n → n ≤ 16 → take (most x) (entries n a o) ≡ within x (entries n a o)
+pub within-most : (n a : ℕ) (x : Extent) (o : Outbox) → 1 ≤ n → n ≤ nodes → take (most x) (entries n a o) ≡ within x (entries n a o)
 within-most n a Whole o h k = take-all (most Whole) (entries n a o) (omega (arith, entries-most n a o h))
 within-most n a (Cut m) o h k = refl

@@ -10,6 +10,8 @@ use lib.Seq.{getD-set-same, getD-set-other}
 use lib.Dec.{leb, ltb, eqb}
 use borrow.Author.Tests.{eq-eqb, ne-eqb, ltb-false}
 use Rattle.octets.specs.Test.{pick, both}
+use Rattle.table.specs.Table.{cells}
+use Rattle.view.specs.Size.{nodes}
 use Rattle.table.specs.Loop.{either, all}
 use Rattle.record.specs.declared.Node.{Node}
 use Rattle.region.specs.Channel.{channelSize, capacity, countOf, oldest, pop}
@@ -27,9 +29,9 @@ unfolding pop
 count-pop t size = go (ltb 0 (countOf t)) refl
   where
     go : (s : Bool) → ltb 0 (countOf t) ≡ s
-        → countOf (pick s (set (set t 0 (countOf t - 1)) 1 ((oldest t + 1) % 16)) t) ≡ countOf t - 1
+        → countOf (pick s (set (set t 0 (countOf t - 1)) 1 ((oldest t + 1) % capacity)) t) ≡ countOf t - 1
     go true e =
-        getD-set-other (set t 0 (countOf t - 1)) 1 0 ((oldest t + 1) % 16) 0 (λ q. omega arith)
+        getD-set-other (set t 0 (countOf t - 1)) 1 0 ((oldest t + 1) % capacity) 0 (λ q. omega arith)
         ∙ getD-set-same t 0 (countOf t - 1) 0 (omega arith)
     go false e = omega (arith, ltb-false 0 (countOf t) e)
 
@@ -39,8 +41,8 @@ all-same zero p q h = refl
 all-same (suc n) p q h =
     ap₂ both (h (suc n) (omega arith) (omega arith)) (all-same n p q (λ k i j. h k i (omega arith)))
 
-module _ (n a c : ℕ) (b : List ℕ) (most : n ≤ 16) (a-lo : 1 ≤ a) (a-hi : a ≤ n) (lo : 1 ≤ c) (hi : c ≤ n)
-    (size : length b ≡ clusterSize n) (d : Node) (heard : length (d .heard) ≡ 256) where
+module _ (n a c : ℕ) (b : List ℕ) (most : n ≤ nodes) (a-lo : 1 ≤ a) (a-hi : a ≤ n) (lo : 1 ≤ c) (hi : c ≤ n)
+    (size : length b ≡ clusterSize n) (d : Node) (heard : length (d .heard) ≡ cells) where
   own : length (block b c) ≡ blockSize
   own = length-block b c lo (omega arith)
 

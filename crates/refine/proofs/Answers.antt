@@ -7,7 +7,7 @@ use mathlib.Core.Path.{_≡_, refl, sym, _∙_, subst}
 use mathlib.Core.List.{append-nil}
 use Rattle.logs.specs.Count as C
 use Rattle.wire.specs.declared.Message.the-variants.{Value}
-use Rattle.view.specs.Size.{limit}
+use Rattle.view.specs.Size.{limit, nodes}
 use Rattle.table.specs.Quorum.{size, isQuorum}
 use Rattle.record.specs.declared.Node.{Node}
 use Rattle.record.specs.declared.Operation.{Operation}
@@ -33,7 +33,7 @@ answers-tell : {n i : ℕ} {ν : A.Node} {c : Node} → Follows n i ν c → (f 
     → Tells (isQuorum (c .n) f (size (c .n) a)) (n - f ≤ C.count s n)
 answers-tell {n} F f a s same = rw (F .size) (size-tells n f a s same)
 
-module _ {n i k : ℕ} (small : n ≤ 16) (f : ℕ) (s : Step) (t : A.Step) where
+module _ {n i k : ℕ} (small : n ≤ nodes) (f : ℕ) (s : Step) (t : A.Step) where
   module _ (T : Together n i k (Handled n) s t) (going : t .ending ≡ H.none) where
     R : Step → A.Step → Type 0
     R x y = Together n i k (Asked n) x (A.then-by t y H.none)

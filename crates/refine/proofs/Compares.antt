@@ -5,6 +5,7 @@ use native.Mathlib.Decide.{decLe}
 use native.Mathlib.Numerals.{add-one}
 use mathlib.Core.Path.{_≡_, refl, sym, _∙_, ap, ap₂, subst}
 use mathlib.Core.List.{[], _∷_, append-nil}
+use Rattle.view.specs.Size.{nodes}
 use Rattle.logs.specs.Count as C
 use Rattle.view.specs.declared.View.{View}
 use Rattle.wire.specs.declared.Message.the-variants.{Good}
@@ -56,7 +57,7 @@ agreement-tells : {n i : ℕ} {ν : A.Node} {c : Node} (F : Follows n i ν c) �
     (n - f ≤ C.count (A.agrees i ν u) n)
 agreement-tells F b f u held = rw (F .size, F .own) (agreeing-tells F b u held f)
 
-module _ {n i k : ℕ} (small : n ≤ 16) (f : ℕ) (s : Step) (t : A.Step) where
+module _ {n i k : ℕ} (small : n ≤ nodes) (f : ℕ) (s : Step) (t : A.Step) where
   module _ (T : Together n i k (Asked n) s t) (going : t .ending ≡ H.none) (op : H.Operation) (u : ℕ) where
     R : Step → A.Step → Type 0
     R x y = Together n i k (Whole n) x (A.then-by t y H.none)

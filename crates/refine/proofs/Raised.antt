@@ -9,6 +9,7 @@ use lib.Dec.{ltb}
 use borrow.Author.Tests.{lt-ltb, le-ltb}
 use Rattle.view.specs.declared.View.{View}
 use Rattle.octets.specs.Test.{pick}
+use Rattle.view.specs.Size.{nodes}
 use Rattle.record.specs.declared.Node.{Node}
 use Rattle.step.specs.React.{raised, keep}
 use Rattle.eqaso.specs.Algorithm as A
@@ -20,7 +21,7 @@ use Rattle.refine.proofs.Tables.{sized-newest}
 use Rattle.refine.proofs.Turned.{newest-held}
 
 module _ {n i : ℕ} {ν : A.Node} {c : Node} (F : Follows n i ν c) (t : ℕ) where
-  pub raised-higher : n ≤ 16 → BoundedNode n ν → ν .maxtag < t → Follows n i (topping t ν) (raised c t)
+  pub raised-higher : n ≤ nodes → BoundedNode n ν → ν .maxtag < t → Follows n i (topping t ν) (raised c t)
   unfolding raised
   raised-higher small b h = rw (lt-ltb (c .maxtag) t (omega (arith, F .maxtag))) (record {
     size = F .size;

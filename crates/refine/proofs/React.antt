@@ -15,6 +15,7 @@ use Rattle.view.specs.declared.View.{View}
 use Rattle.wire.specs.declared.Message.{Message}
 use Rattle.wire.specs.declared.Message.the-variants.{Read, ReadAnswer, Write, WriteAnswer, Echo, Value, Good}
 use Rattle.octets.specs.Test.{pick}
+use Rattle.view.specs.Size.{nodes}
 use Rattle.record.specs.declared.Node.{Node}
 use Rattle.step.specs.declared.Sent.{Sent}
 use Rattle.step.specs.declared.Sent.the-variants.{Nothing, One, Two}
@@ -36,7 +37,7 @@ use Rattle.refine.proofs.Raised.{raised-higher, raised-not, kept-follow
 use Rattle.refine.proofs.Received.{valueOf, not-new, is-new, received-again, received-new}
 use Rattle.refine.proofs.Lockstep.{Means, Handled, Together}
 
-module _ {n i : ℕ} (small : n ≤ 16) {ν : A.Node} {c : Node} (F : Follows n i ν c) (b : BoundedNode n ν) (k : ℕ)
+module _ {n i : ℕ} (small : n ≤ nodes) {ν : A.Node} {c : Node} (F : Follows n i ν c) (b : BoundedNode n ν) (k : ℕ)
     (sender : OneTo n k) where
   -- What a handler does and sends, the sets staying bounded.
   abbrev Same : Node → Sent → A.Step → Type 0

@@ -15,7 +15,8 @@ use Rattle.logs.specs.Log.{_∈_}
 use Rattle.view.specs.declared.Report.{Report}
 use Rattle.view.specs.declared.View.{View}
 use Rattle.octets.specs.Test.{pick}
-use Rattle.table.specs.Table.{put, tagOf, heardOf, cell}
+use Rattle.view.specs.Size.{nodes}
+use Rattle.table.specs.Table.{put, tagOf, heardOf, cell, cells}
 use Rattle.record.specs.declared.Node.{Node}
 use Rattle.record.specs.declared.Wait.{Wait}
 use Rattle.record.specs.Usable.{stale}
@@ -36,7 +37,7 @@ use Rattle.refine.proofs.Tables.{sized-put, entry-put, entry-put-other,
 abbrev pub valueOf : ℕ → ℕ → Report → M.Value
 valueOf t w p = record { tag = t; writer = w; report = code p }
 
-module _ {n i : ℕ} (small : n ≤ 16) {ν : A.Node} {c : Node} (F : Follows n i ν c) (k w t : ℕ) (p : Report)
+module _ {n i : ℕ} (small : n ≤ nodes) {ν : A.Node} {c : Node} (F : Follows n i ν c) (k w t : ℕ) (p : Report)
     (sender : OneTo n k) (a : Arrives n (ν .all) (ν .from) (ν .maxtag) k (valueOf t w p)) where
   abbrev v : M.Value
   v = valueOf t w p
@@ -68,7 +69,7 @@ module _ {n i : ℕ} (small : n ≤ 16) {ν : A.Node} {c : Node} (F : Follows n 
             ∙ ap (λ e. e .tag) (sym (latest-other x (ν .from k) v (λ d. e (sym d))))
       ])
 
-  heard-size : length (set (c .heard) (cell k w) t) ≡ 256
+  heard-size : length (set (c .heard) (cell k w) t) ≡ cells
   heard-size = length-set (c .heard) (cell k w) t ∙ F .heard-size
 
   -- A value that the node has.

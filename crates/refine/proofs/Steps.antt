@@ -7,7 +7,7 @@ use borrow.Author.Tests.{lt-ltb, le-ltb}
 use Rattle.view.specs.declared.Report.{Report}
 use Rattle.view.specs.declared.View.{View}
 use Rattle.wire.specs.declared.Message.{Message}
-use Rattle.view.specs.Size.{limit}
+use Rattle.view.specs.Size.{limit, nodes}
 use Rattle.record.specs.declared.Node.{Node}
 use Rattle.record.specs.declared.Operation.{Operation}
 use Rattle.record.specs.declared.Wait.{Wait}
@@ -31,13 +31,13 @@ use Rattle.refine.proofs.Answers.{reads-follow, writes-follow}
 use Rattle.refine.proofs.Compares.{compares-follow, borrows-follow}
 use Rattle.refine.proofs.Received.{valueOf, not-stale}
 
-moves-follow : {n i k : ℕ} → n ≤ 16 → (f : ℕ) (s : Step) (t : A.Step) → Together n i k (Handled n) s t
+moves-follow : {n i k : ℕ} → n ≤ nodes → (f : ℕ) (s : Step) (t : A.Step) → Together n i k (Handled n) s t
     → Together n i k (Whole n) (moveOn f s) (A.moveOn n f i t)
 unfolding moveOn A.moveOn
 moves-follow small f s t T = borrows-follow _ _
     (compares-follow small f _ _ (writes-follow small f _ _ (reads-follow small f s t T)))
 
-module _ {n i : ℕ} (small : n ≤ 16) {ν : A.Node} {c : Node} (F : Follows n i ν c) (b : BoundedNode n ν) (f : ℕ) where
+module _ {n i : ℕ} (small : n ≤ nodes) {ν : A.Node} {c : Node} (F : Follows n i ν c) (b : BoundedNode n ν) (f : ℕ) where
   -- A message m from node k, with the view that a good message carries.
   pub message-follows : (k : ℕ) → OneTo n k → (m : Message) (v : View) → Sized v → Expected n k ν (messageOf n i v m)
       → SameStep n i k (messageStep f c k m v) (A.messageStep n f i k (messageOf n i v m) ν)
@@ -73,6 +73,6 @@ module _ {n i : ℕ} {ν : A.Node} {c : Node} (F : Follows n i ν c) where
   is-full h = lt-ltb (limit - c .request) 5 (rw (F .request) (omega arith))
 
   -- Refusal 9 is not given to a value that a run may hand over.
-  pub never-stale : n ≤ 16 → (k : ℕ) → OneTo n k → (t w : ℕ) (p : Report) → Expected n k ν (M.value (valueOf t w p))
+  pub never-stale : n ≤ nodes → (k : ℕ) → OneTo n k → (t w : ℕ) (p : Report) → Expected n k ν (M.value (valueOf t w p))
       → stale c k w t ≡ false
   never-stale small k o t w p a = not-stale small F k w t p o a

@@ -8,12 +8,13 @@ use mathlib.Core.List.{List, [], _∷_, _++_}
 use borrow.Author.Tests.{le-leb, lt-leb}
 use lib.ListN.{length, getD, set, replicate, length-set, length-replicate}
 use lib.Seq.{getD-set-same, getD-set-other}
+use Rattle.view.specs.Size.{nodes}
 use Rattle.view.specs.declared.Report.{Report}
 use Rattle.view.specs.declared.View.{View}
 use Rattle.view.specs.Report.{noReport}
 use Rattle.view.specs.View.{noView, firstOf}
 use Rattle.view.proofs.First.{first-tag, first-report}
-use Rattle.table.specs.Table.{tagOf, put, newest, newestTag, newestReport, cell, heardOf}
+use Rattle.table.specs.Table.{tagOf, put, newest, newestTag, newestReport, cell, heardOf, cells}
 use Rattle.table.proofs.Laws.{length-tab}
 use Rattle.table.proofs.Entries.{newest-tag, newest-report, put-tag, put-report, put-tag-other, put-report-other}
 use Rattle.history.specs.Message as M
@@ -24,7 +25,7 @@ use Rattle.refine.specs.Follows.{Sized, Holds}
 
 -- The view with no report, of any writer and in every place.
 pub sized-absent : Sized noView
-sized-absent = record { tags = length-replicate {A = ℕ} 16 0; reports = length-replicate 16 noReport }
+sized-absent = record { tags = length-replicate {A = ℕ} nodes 0; reports = length-replicate nodes noReport }
 
 getD-all : {X : Type 0} (n i : ℕ) (x : X) → getD (replicate n x) i x ≡ x
 getD-all zero i x = refl
@@ -32,7 +33,7 @@ getD-all (suc n) zero x = refl
 getD-all (suc n) (suc i) x = getD-all n i x
 
 pub entry-absent : (w : ℕ) → entryOf noView w ≡ M.absent
-entry-absent w = rw (getD-all {X = ℕ} 16 (w - 1) 0, getD-all 16 (w - 1) noReport) refl
+entry-absent w = rw (getD-all {X = ℕ} nodes (w - 1) 0, getD-all nodes (w - 1) noReport) refl
 
 -- One entry more.
 pub sized-put : (v : View) (w t : ℕ) (p : Report) → Sized v → Sized (put v w t p)
@@ -41,30 +42,30 @@ sized-put v w t p z = record {
   reports = length-set (v .reports) (w - 1) p ∙ z .reports;
 }
 
-module _ {n : ℕ} (small : n ≤ 16) (v : View) (w t : ℕ) (p : Report) (at : OneTo n w) where
+module _ {n : ℕ} (small : n ≤ nodes) (v : View) (w t : ℕ) (p : Report) (at : OneTo n w) where
   pub entry-put : Sized v → entryOf (put v w t p) w ≡ record { tag = t; report = code p }
   entry-put z =
-      let k : w ≤ 16 = omega arith in
-      let pair : (length (v .tags) ≡ 16) × (length (v .reports) ≡ 16) = (z .tags, z .reports) in
+      let k : w ≤ nodes = omega arith in
+      let pair : (length (v .tags) ≡ nodes) × (length (v .reports) ≡ nodes) = (z .tags, z .reports) in
       rw (put-tag v w t p (at .0) k pair, put-report v w t p (at .0) k pair) refl
 
   pub entry-put-other : (x : ℕ) → OneTo n x → x ≢ w → entryOf (put v w t p) x ≡ entryOf v x
   entry-put-other x to ne =
-      let k : w ≤ 16 = omega arith in
+      let k : w ≤ nodes = omega arith in
       rw (put-tag-other v w t p (at .0) k x (to .0) ne, put-report-other v w t p (at .0) k x (to .0) ne) refl
 
 -- The newest up to t, by the last of each writer and one held for a lower tag.
 pub sized-newest : (t : ℕ) (last held : View) → Sized (newest t last held)
 unfolding newest
 sized-newest t last held = record {
-  tags = length-tab 16 (newestTag t last held);
-  reports = length-tab 16 (newestReport t last held);
+  tags = length-tab nodes (newestTag t last held);
+  reports = length-tab nodes (newestReport t last held);
 }
 
-pub entry-newest : {n : ℕ} → n ≤ 16 → (t : ℕ) (last held : View) (w : ℕ) → OneTo n w
+pub entry-newest : {n : ℕ} → n ≤ nodes → (t : ℕ) (last held : View) (w : ℕ) → OneTo n w
     → entryOf (newest t last held) w ≡ ite (decLe (tagOf last w) t) (entryOf last w) (entryOf held w)
 entry-newest small t last held w at =
-    let k : w ≤ 16 = omega arith in
+    let k : w ≤ nodes = omega arith in
     rw (newest-tag t last held w (at .0) k, newest-report t last held w (at .0) k)
     (elim (decLe (tagOf last w) t)
     as (λ d. _≡_ {A = M.Entry} (record { tag = newestTag t last held w; report = code (newestReport t last held w) })
@@ -103,16 +104,16 @@ view-absent n = same-table n (entryOf noView) (λ w. M.absent) (λ w h. entry-ab
     constant (suc n) = rw (constant n) (shift n M.absent)
 
 -- The tags heard.
-pub heard-set : {n : ℕ} → n ≤ 16 → (h : List ℕ) (k w t : ℕ) → OneTo n k → OneTo n w → length h ≡ 256
+pub heard-set : {n : ℕ} → n ≤ nodes → (h : List ℕ) (k w t : ℕ) → OneTo n k → OneTo n w → length h ≡ cells
     → heardOf (set h (cell k w) t) k w ≡ t
 heard-set small h k w t at to z =
     let i : cell k w < length h = rw z (omega arith) in getD-set-same h (cell k w) t 0 i
 
-pub heard-set-other : {n : ℕ} → n ≤ 16 → (h : List ℕ) (k w t : ℕ) → OneTo n k → OneTo n w → (j x : ℕ) → OneTo n j
+pub heard-set-other : {n : ℕ} → n ≤ nodes → (h : List ℕ) (k w t : ℕ) → OneTo n k → OneTo n w → (j x : ℕ) → OneTo n j
     → OneTo n x
     → ((j ≡ k) × (x ≡ w) → ⊥) → heardOf (set h (cell k w) t) j x ≡ heardOf h j x
 heard-set-other small h k w t at to j x at′ to′ ne =
     getD-set-other h (cell k w) (cell j x) t 0 (λ e. ne (omega arith, omega arith))
 
-pub heard-none : (k w : ℕ) → heardOf (replicate 256 0) k w ≡ 0
-heard-none k w = getD-all {X = ℕ} 256 (cell k w) 0
+pub heard-none : (k w : ℕ) → heardOf (replicate cells 0) k w ≡ 0
+heard-none k w = getD-all {X = ℕ} cells (cell k w) 0

@@ -5,8 +5,9 @@ use native.Mathlib.Numerals.{add-one}
 use mathlib.Core.Path.{_≡_, refl, sym, _∙_, ap, subst}
 use mathlib.Core.Logic.{ite}
 use lib.ListN.{length-replicate}
+use Rattle.view.specs.Size.{nodes}
 use Rattle.view.specs.declared.View.{View}
-use Rattle.table.specs.Table.{newest, tagOf}
+use Rattle.table.specs.Table.{newest, tagOf, cells}
 use Rattle.record.specs.Record.{blank, setWait, waiting, closed}
 use Rattle.record.specs.declared.Node.{Node}
 use Rattle.record.specs.declared.Wait.{Wait}
@@ -36,7 +37,7 @@ follows-fresh n i = record {
   atround = tt;
   kept = refl;
   keptview = view-absent n;
-  heard-size = length-replicate {A = ℕ} 256 0;
+  heard-size = length-replicate {A = ℕ} cells 0;
   last-size = sized-absent;
   atmax-size = sized-absent;
   atround-size = sized-absent;
@@ -70,7 +71,7 @@ module _ {n i : ℕ} {ν : A.Node} {c : Node} (F : Follows n i ν c) where
   }
 
   -- For each tag that is not below maxtag the two tables tell the newest value up to it.
-  pub newest-held : n ≤ 16 → BoundedNode n ν → (t : ℕ) → ν .maxtag ≤ t
+  pub newest-held : n ≤ nodes → BoundedNode n ν → (t : ℕ) → ν .maxtag ≤ t
       → Holds n (newest t (c .last) (c .atmax)) t (ν .all)
   newest-held small b t high w o =
       entry-newest small t (c .last) (c .atmax) w o ∙ same (F .last w o) (F .atmax w o) ∙ sym (newest-by-two b w t high)
@@ -87,7 +88,7 @@ module _ {n i : ℕ} {ν : A.Node} {c : Node} (F : Follows n i ν c) where
   request-next = rw (add-one (c .request)) (ap suc (F .request))
 
   -- A round opens.
-  pub follows-opened : n ≤ 16 → BoundedNode n ν → (op : H.Operation) (r : H.Round) (t : ℕ) → ν .maxtag ≤ t
+  pub follows-opened : n ≤ nodes → BoundedNode n ν → (op : H.Operation) (r : H.Round) (t : ℕ) → ν .maxtag ≤ t
       → Follows n i (A.asking (A.writing op r t A.nobody) ν) (opened c (kindOf op) (number r) t)
   unfolding opened
   follows-opened small b op r t high = follows-turned request-next (SameWait.writing (same-nobody n))

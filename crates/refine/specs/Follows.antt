@@ -5,8 +5,9 @@ use Prim.Native.Nat.{ℕ}
 use mathlib.Core.Path.{_≡_}
 use mathlib.Core.List.{List}
 use lib.ListN.{length}
+use Rattle.view.specs.Size.{nodes}
 use Rattle.view.specs.declared.View.{View}
-use Rattle.table.specs.Table.{heardOf}
+use Rattle.table.specs.Table.{heardOf, cells}
 use Rattle.table.specs.Quorum.{member}
 use Rattle.record.specs.declared.Node.{Node}
 use Rattle.record.specs.declared.Operation.{Operation}
@@ -36,8 +37,8 @@ pub data SameWait (n : ℕ) : A.Wait → Wait → Type 0 where
 
 -- The tables have their sizes.
 pub record Sized (v : View) : Type 0 where
-  pub tags : length (v .tags) ≡ 16
-  pub reports : length (v .reports) ≡ 16
+  pub tags : length (v .tags) ≡ nodes
+  pub reports : length (v .reports) ≡ nodes
 
 -- A view that holds of each writer the newest value up to tag t.
 abbrev pub Holds : ℕ → View → ℕ → List M.Value → Type 0
@@ -70,7 +71,7 @@ pub record Follows (n i : ℕ) (ν : A.Node) (c : Node) : Type 0 where
   pub kept : c .kept ≡ A.kept n (ν .goods) .tag
   pub keptview : viewOf n (c .keptview) ≡ A.kept n (ν .goods) .view
   -- The tables have their sizes, whatever n is.
-  pub heard-size : length (c .heard) ≡ 256
+  pub heard-size : length (c .heard) ≡ cells
   pub last-size : Sized (c .last)
   pub atmax-size : Sized (c .atmax)
   pub atround-size : Sized (c .atround)

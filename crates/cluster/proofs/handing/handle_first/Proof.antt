@@ -6,6 +6,9 @@ use native.Mathlib.Omega.{arith}
 use mathlib.Core.List.{List}
 use lib.ListN.{length}
 use Rattle.octets.proofs.Lent.{lent}
+use Rattle.wire.specs.Layout.{goodHead}
+use Rattle.view.specs.Size.{viewSize}
+use Rattle.region.specs.Channel.{slotSize}
 use Rattle.view.specs.View.{viewOf}
 use Rattle.view.specs.declared.View.{View}
 use Rattle.wire.specs.Codec.{viewAt}
@@ -19,7 +22,7 @@ use Rattle.cluster.proofs.handing.handle_first.Tie as tie
 part-react-in-end : tie.Need-part-react-in-end
 part-react-in-end c =
     let a = c .before .before .before .before .args in
-    let long : length (c .before .first-at .result .now) ≡ 274 =
+    let long : length (c .before .first-at .result .now) ≡ slotSize =
     ap (λ (t : List ℕ). length t) (c .before .first-at .ensures)
     ∙ length-first (channel (a .b .now) (a .a) (a .c))
     (length-channel (a .b .now) (a .a) (a .c) (omega arith) (omega arith) (omega arith) (omega arith)) in
@@ -29,7 +32,7 @@ returns : tie.Need-returns
 returns c =
     let a = c .before .before .before .before .before .before .before .before .args in
     let n = a .n in
-    let e = ap (λ (t : List ℕ). viewOf n t) (lent (c .before .before .before .before .before .first-at .result .now) 18 (16 * n) refl)
+    let e = ap (λ (t : List ℕ). viewOf n t) (lent (c .before .before .before .before .before .first-at .result .now) goodHead (viewSize n) refl)
     ∙ ap (λ (t : List ℕ). viewOf n (viewAt n t)) (c .before .before .before .before .before .first-at .ensures) in (
       c .before .before .react-in .ensures .0 ∙ ap (λ (v : View). react (recordOf (a .r .now)) (a .a) (a .m) v .outbox .handler) e,
       c .before .before .react-in .ensures .1 ∙ ap (λ (v : View). recordBytes (react (recordOf (a .r .now)) (a .a) (a .m) v .node)) e,

@@ -4,6 +4,7 @@ use native.Mathlib.Omega.{arith}
 use mathlib.Core.Path.{sym}
 use lib.ListN.{length}
 use lib.Seq.{length-take-le}
+use Rattle.view.specs.Size.{viewSize}
 use Rattle.view.specs.View.{viewBytes}
 use Rattle.view.proofs.ViewBytes.{length-viewBytes}
 use Rattle.outgoing.proofs.Slot.{front-put, written-is}
@@ -23,8 +24,8 @@ slice-aggregate-write : tie.Need-slice-aggregate-write
 slice-aggregate-write c =
     let n = c .before .before .before .before .before .before .before .args .n in
     let w = c .before .before .before .write-view in
-    let l : 16 * n ≤ length (w .last .1 .1 .0) = omega (arith, w .kept .1 .1 .0) in
-    sym (length-take-le (16 * n) (w .last .1 .1 .0) l)
+    let l : viewSize n ≤ length (w .last .1 .1 .0) = omega (arith, w .kept .1 .1 .0) in
+    sym (length-take-le (viewSize n) (w .last .1 .1 .0) l)
 
 write-requires : tie.Need-write-requires
 write-requires c κs = search needs
@@ -40,7 +41,7 @@ returns c =
     let x = c .before .before .before .before .before .before .before .before .before .before .before .args in
     let v = viewBytes (x .n) (x .v) in
     written-is (x .n) (x .m) v _ (x .s .now)
-    (front-put (x .w .now) v (16 * x .n) (length-viewBytes (x .n) (x .v)) (c .before .before .before .before .before .before .before .write-view .ensures))
+    (front-put (x .w .now) v (viewSize (x .n)) (length-viewBytes (x .n) (x .v)) (c .before .before .before .before .before .before .before .write-view .ensures))
     (omega arith) (c .before .before .write .ensures .0) (c .before .before .write .ensures .1)
 
 pub write-slot-spec : {M : Type 1} → statement M

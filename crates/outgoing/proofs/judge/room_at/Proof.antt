@@ -3,6 +3,7 @@ use Prim.Native.Nat.{ℕ, _+_, _-_}
 use mathlib.Core.Path.{refl, sym, ap, ap₂, _∙_}
 use lib.Dec.{leb}
 use borrow.Author.Tests.{eq-eqb, ne-eqb}
+use Rattle.region.specs.Channel.{capacity}
 use Rattle.outgoing.specs.Room.{roomBefore}
 use Rattle.outgoing.proofs.judge.room_at.Statement.{statement}
 use Rattle.outgoing.proofs.judge.room_at.Tie as tie
@@ -49,7 +50,7 @@ returns-3 c =
           (c6 .before .before .args .c) (c .before .before .if2 .taken),
       c .before .if3 .left,
     )
-    (ap (λ (t : ℕ). leb t 16) (ap₂ (λ (x y : ℕ). x + y)
+    (ap (λ (t : ℕ). leb t capacity) (ap₂ (λ (x y : ℕ). x + y)
     (c .less .ensures ∙ ap (λ (t : ℕ). t - c6 .before .before .args .gone) (c3 .before .waiting-at .ensures .0))
     (c3 .entries-to .ensures .1)))
 
@@ -62,7 +63,7 @@ returns-4 c =
     let c3 = c .before .before .before in
     let c6 = c3 .before .before .before in
     rw (sym (c3 .before .stopped-at .ensures) ∙ c3 .if1 .left, ne-eqb (c6 .args .k) (c6 .args .c) (c .if2 .left))
-    (ap (λ (t : ℕ). leb t 16) (ap₂ (λ (x y : ℕ). x + y) (c .before .before .waiting-at .ensures .0)
+    (ap (λ (t : ℕ). leb t capacity) (ap₂ (λ (x y : ℕ). x + y) (c .before .before .waiting-at .ensures .0)
     (c .before .entries-to .ensures .1)))
 
 pub room-at-spec : {M : Type 1} → statement M
