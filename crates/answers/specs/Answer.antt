@@ -1,5 +1,5 @@
--- The lines that a session prints, with their line feed. An ending prints the event's number, `done`, `scan` or `spent`,
--- the node and, for a scan, each report or `-`; a refusal prints the event's number, `no` and its own.
+-- The lines that a session prints, with their line feed. An ending prints the event's number, `done`, `scan` or
+-- `spent`, the node and, for a scan, each report or `-`; a refusal prints the event's number, `no` and its own.
 use Prim.Native.Nat.{ℕ, _+_, _*_, min}
 use mathlib.Core.List.{List, [], _∷_, _++_}
 use lib.ListN.{getD}

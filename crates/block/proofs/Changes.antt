@@ -21,7 +21,8 @@ use Rattle.region.specs.Channel.{channelSize, slotSize, push, pop, clear}
 use Rattle.region.specs.Record.{recordSize, recordBytes}
 use Rattle.region.proofs.Waiting.{length-push, length-pop, length-clear}
 use Rattle.region.proofs.Saved.{length-recordBytes}
-use Rattle.block.specs.Block.{blockSize, channelPlace, hasStopped, recordIn, channelIn, onChannel, keep, takeOff, receive, halt}
+use Rattle.block.specs.Block.{blockSize, channelPlace, hasStopped, recordIn, channelIn, onChannel, keep, takeOff}
+use Rattle.block.specs.Block.{receive, halt}
 use Rattle.block.specs.Block.{recordPlace}
 
 -- A block of the right length, and a change of a channel that keeps its length.

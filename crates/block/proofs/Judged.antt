@@ -108,7 +108,8 @@ module _ (n c : ℕ) (r : List ℕ) where
   -- where the record states another n or number
   pub judged-other : stated ≡ false → false ≡ recordSound n c r
   unfolding recordOf
-  judged-other h = sym (ap (both (both (codesKnown r) (usable (recordOf r)))) h ∙ never (both (codesKnown r) (usable (recordOf r))))
+  judged-other h = sym (ap (both (both (codesKnown r) (usable (recordOf r)))) h
+      ∙ never (both (codesKnown r) (usable (recordOf r))))
     where
       never : (t : Bool) → both t false ≡ false
       never true = refl

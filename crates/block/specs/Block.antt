@@ -1,5 +1,5 @@
--- One node's block in a cluster's bytes: a byte that says whether it has stopped, its record, and its incoming channels,
--- the one from node a at index a - 1.
+-- One node's block in a cluster's bytes: a byte that says whether it has stopped, its record, and its incoming
+-- channels, the one from node a at index a - 1.
 use Prim.Native.Nat.{ℕ, _+_, _-_, _*_}
 use mathlib.Core.Bool.{Bool}
 use mathlib.Core.List.{List}
@@ -72,7 +72,8 @@ halt n k = upTo n (λ i. onChannel (i + 1) clear) (set k stopPlace 1)
 -- What refusal 2 asks of the block of node c of n: a usable record of that n and number, and no channel with more
 -- messages than it can hold.
 abbrev pub recordSound : ℕ → ℕ → List ℕ → Bool
-recordSound n c r = both (both (codesKnown r) (usable (recordOf r))) (both (eqb (recordOf r .n) n) (eqb (recordOf r .own) c))
+recordSound n c r = both (both (codesKnown r) (usable (recordOf r)))
+    (both (eqb (recordOf r .n) n) (eqb (recordOf r .own) c))
 
 abbrev pub channelsSound : ℕ → List ℕ → Bool
 channelsSound n k = all n (λ a. leb (waitingIn k a) capacity)

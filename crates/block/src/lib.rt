@@ -14,7 +14,8 @@ ghost use lib.ListN.{length};
 ghost use Rattle.view.specs.Size.{nodes};
 ghost use Rattle.region.specs.Channel.{slotSize, first};
 ghost use Rattle.region.specs.Record.{recordSize, recordOf, recordBytes};
-ghost use Rattle.block.specs.Block.{blockSize, hasStopped, recordIn, channelIn, waitingIn, keep, takeOff, receive, halt, channelsSound, blockSound};
+ghost use Rattle.block.specs.Block.{blockSize, hasStopped, recordIn, channelIn, waitingIn, keep, takeOff};
+ghost use Rattle.block.specs.Block.{receive, halt, channelsSound, blockSound};
 
 // Where the parts of a block stand, and its bytes.
 const STOP_PLACE: usize = 0;
@@ -70,7 +71,8 @@ pub fn copy_record(k: &[u8], r: &mut [u8])
 
 // Writes another record, given in bytes.
 pub fn keep_record(k: &mut [u8], r: &[u8])
-    requires { ⌜ (length (now k) ≡ blockSize) × (length (now r) ≡ recordSize) × (now r ≡ recordBytes (recordOf (now r))) ⌝ }
+    requires { ⌜ (length (now k) ≡ blockSize) × (length (now r) ≡ recordSize)
+        × (now r ≡ recordBytes (recordOf (now r))) ⌝ }
     ensures { λ _. ⌜ now (k .exit) ≡ keep (recordOf (now (r .entry))) (now (k .entry)) ⌝ }
 {
     octets::put_bytes(k, RECORD_PLACE, r);

@@ -55,7 +55,8 @@ module _ (f : ℕ) (s : Step) (z : Held s) where
   compare-holds : (w : Wait) → Held (comparePass f s (s .node) w)
   unfolding comparePass afterGood afterFailed opened
   compare-holds (Comparing k i r) =
-      on-pick Held (isQuorum (s .node .n) f (agreeing (s .node .n) (s .node .own) (s .node .heard) (s .node .atround .tags))) _ _
+      on-pick Held (isQuorum (s .node .n) f (agreeing (s .node .n) (s .node .own) (s .node .heard)
+      (s .node .atround .tags))) _ _
       (λ e. on-pick Held (leb (s .node .maxtag) r) _ _
       (λ e. on-pick Held (eqb i 0) _ _ (λ e. sized-newest _ _ _) (λ e. sized-none))
       (λ e. on-pick Held (ltb i 3) _ _ (λ e. sized-newest _ _ _) (λ e. sized-none)))

@@ -13,7 +13,8 @@ use Rattle.step.proofs.Handled.{react-parts}
 use Rattle.region.specs.Record.{recordOf}
 use Rattle.react_bytes.proofs.Handling.{sized-of}
 
-pub react-usable : (r : List ℕ) (s : ℕ) (m : Message) (v : View) → usable (recordOf r) ≡ true → 1 ≤ s → s ≤ recordOf r .n
+pub react-usable : (r : List ℕ) (s : ℕ) (m : Message) (v : View) → usable (recordOf r) ≡ true → 1 ≤ s
+    → s ≤ recordOf r .n
     → lawful (recordOf r .n) m v ≡ true → usable (react (recordOf r) s m v .node) ≡ true
 react-usable r s m v u lo hi h =
     let z = sized-of r in

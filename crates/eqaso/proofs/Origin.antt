@@ -1,5 +1,5 @@
--- Where values come from: each value that a node holds, or has let out, was let out by its writer. The log of a node may
--- hold more, for a cut lets out only a part of what the node has then sent.
+-- Where values come from: each value that a node holds, or has let out, was let out by its writer. The log of a node
+-- may hold more, for a cut lets out only a part of what the node has then sent.
 use Prim.Native.Nat.{ℕ, suc, max}
 use native.Mathlib.Decide.{ℕ-discrete}
 use mathlib.Core.Path.{_≡_, refl, sym, _∙_, ap, subst}

@@ -1,5 +1,6 @@
--- Runs of the model, computed: document 01's session, a scan that borrows its view, an update that stops in the middle of
--- sending its value to five, and one whose value a scan shows although it never finished. The answers of another program.
+-- Runs of the model, computed: document 01's session, a scan that borrows its view, an update that stops in the middle
+-- of sending its value to five, and one whose value a scan shows although it never finished. The answers of another
+-- program.
 use Prim.Native.Nat.{ℕ, suc}
 use native.Mathlib.Decide.{ℕ-discrete, decLe, decLt}
 use mathlib.Core.Path.{_≡_, refl}

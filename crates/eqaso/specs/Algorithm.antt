@@ -76,8 +76,8 @@ writeAnswered k q t ν (reading op s u) = ν
 writeAnswered k q t ν (comparing op r u) = ν
 writeAnswered k q t ν (borrowing op u) = ν
 
--- The seven kinds: line 48 for a read, 43 to 46 for a write, 47 for an echo, 40 to 42 for a value, 49 for a good message.
--- Amendment 4: that one is kept with its view, whatever the node waits for.
+-- The seven kinds: line 48 for a read, 43 to 46 for a write, 47 for an echo, 40 to 42 for a value, 49 for a good
+-- message. Amendment 4: that one is kept with its view, whatever the node waits for.
 abbrev pub react : ℕ → Message → Node → Step
 react k (read q) ν = sending (readAnswer k q (ν .maxtag) ∷ []) ν
 react k (readAnswer to q t) ν = still (readAnswered k q t ν (ν .wait))

@@ -78,8 +78,8 @@ OpensHigh n f = (i k : ℕ) (m : Message) (ν : Node) (q t : ℕ) → write q t 
 abbrev pub LetOut : Trace → Value → Type 0
 LetOut tr v = (b : ℕ) × (value v ∈ letOutTo tr (v .writer) b)
 
--- The values are an initial segment, writer by writer, of what the writers have let out: each was let out by its writer,
--- and with it stand all earlier ones that this writer has let out.
+-- The values are an initial segment, writer by writer, of what the writers have let out: each was let out by its
+-- writer, and with it stand all earlier ones that this writer has let out.
 pub record InitialSegment (tr : Trace) (l : List Value) : Type 0 where
   pub sent : (v : Value) → v ∈ l → LetOut tr v
   pub earlier : (u v : Value) → v ∈ l → LetOut tr u → UpTo u v → u ∈ l

@@ -1,6 +1,6 @@
 -- A cluster: n nodes and a first-in first-out channel from each to each, itself included. Document 01 calls it a house,
--- with cabinets and trunks. An event is accepted or refused, and a refused one leaves all as it was. Refusals 2, 7, 9 and 12
--- are of bytes and records: a cluster of sets does not know them.
+-- with cabinets and trunks. An event is accepted or refused, and a refused one leaves all as it was. Refusals 2, 7, 9
+-- and 12 are of bytes and records: a cluster of sets does not know them.
 use Prim.Native.Nat.{ℕ, zero, suc, _-_}
 use native.Mathlib.Decide.{ℕ-discrete, decLe, decLt}
 use mathlib.Core.Path.{_≡_}
@@ -85,7 +85,8 @@ abbrev pub channels : (ℕ → Bool) → ℕ → List Sent → (ℕ → ℕ → 
 channels stopped c l channel a b =
     cond (stopped b) [] (cond (decide (ℕ-discrete a c)) (channel a b ++ sentTo b l) (channel a b))
 
--- Node c takes step s and lets l out. The channels are given as the event found them, for a delivery without the message.
+-- Node c takes step s and lets l out. The channels are given as the event found them, for a delivery without the
+-- message.
 abbrev pub commit : ℕ → Extent → Step → List Sent → (ℕ → ℕ → List Message) → Cluster → Result
 commit c x s l channel σ = record {
   cluster = record {

@@ -127,8 +127,8 @@ table g (suc n) = table g n ++ (g (suc n) ∷ [])
 abbrev pub viewUpto : ℕ → ℕ → List Value → View
 viewUpto n t l = table (λ w. newest w t l) n
 
--- EQ of line 15 (definition 6): node k has sent this node the very values up to tag t that it has itself. It agrees with
--- itself.
+-- EQ of line 15 (definition 6): node k has sent this node the very values up to tag t that it has itself. It agrees
+-- with itself.
 abbrev pub agrees : ℕ → Node → ℕ → Nodes
 agrees i ν t k = decide (ℕ-discrete k i) || (within t (ν .from k) (ν .all) && within t (ν .all) (ν .from k))
 
@@ -136,8 +136,8 @@ agrees i ν t k = decide (ℕ-discrete k i) || (within t (ν .from k) (ν .all) 
 abbrev pub quorum? : (n f : ℕ) (s : Nodes) → Dec (n - f ≤ count s n)
 quorum? n f s = decLe (n - f) (count s n)
 
--- Amendment 4: of the good messages received the one with the greatest tag, the earliest of these; before any, tag 0 and
--- no report of any node.
+-- Amendment 4: of the good messages received the one with the greatest tag, the earliest of these; before any, tag 0
+-- and no report of any node.
 unfoldable pub kept : ℕ → List Good → Good
 kept n [] = record { tag = 0; view = replicate n absent }
 kept n (g ∷ older) = ite (decLt (kept n older .tag) (g .tag)) g (kept n older)

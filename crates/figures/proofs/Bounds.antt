@@ -108,7 +108,8 @@ module _ (v : List ℕ) (i : ℕ) (h : Bytes v) (l : 16 * i + 8 ≤ length v) wh
   plain-entry e = elim (ℕ-discrete x 0) [ yes z ↦ none e z | no z ↦ some e z ]
 
 -- plain entries are a view
-pub plain-view : (n : ℕ) (v : List ℕ) → Bytes v → 16 * n ≤ length v → allTo n (plainAt v) ≡ true → viewOk n limit v ≡ true
+pub plain-view : (n : ℕ) (v : List ℕ) → Bytes v → 16 * n ≤ length v → allTo n (plainAt v) ≡ true → viewOk n limit v
+    ≡ true
 unfolding viewOk
 plain-view n v h l e =
     allTo-all n (entryOkAt limit v) (λ i m. plain-entry v i h (omega arith) (allTo-at n (plainAt v) i e m))
@@ -117,7 +118,8 @@ plain-view n v h l e =
 pub shown-is : (n : ℕ) (v : List ℕ) → viewOk n limit v ≡ true → Bytes v → 16 * n ≤ length v → (i : ℕ) → i < n
     → reportAt v i ≡ shown v i
 shown-is n v ok h l i m = elim (ℕ-discrete (tagAt v i) 0) [
-  | yes e ↦ ok-report n limit v ok i m h l e ∙ sym (ap (λ (t : Bool). pick t noReport (reportAt v i)) (eq-eqb (tagAt v i) 0 e))
+  | yes e ↦ ok-report n limit v ok i m h l e ∙ sym (ap (λ (t : Bool). pick t noReport (reportAt v i))
+      (eq-eqb (tagAt v i) 0 e))
   | no e ↦ sym (ap (λ (t : Bool). pick t noReport (reportAt v i)) (ne-eqb (tagAt v i) 0 e))
 ]
 

@@ -33,8 +33,9 @@ fn is_long(n: usize, len: usize) -> bool
     octets::and(len % ENTRY == 0, len / ENTRY == n)
 }
 
-// Whether the first and last byte of a tag and the number of the report beside it show that they may stand in a view. A tag
-// is within its limit where its first byte is below 128; beside it there may be no report, and any where its last byte is not 0.
+// Whether the first and last byte of a tag and the number of the report beside it show that they may stand in a view. A
+// tag is within its limit where its first byte is below 128; beside it there may be no report, and any where its last
+// byte is not 0.
 fn is_plain(first: u8, last: u8, report: u64) -> bool
     ensures { λ r. ⌜ r ≡ plain first last report ⌝ }
 {

@@ -1,6 +1,6 @@
 -- What can be seen of a cluster from outside: for each event of a list its answer and the messages let out. All of
--- document 01's terms for demand 3 are read off this, with no look into a node. An operation is named by the index of its
--- accepted begin. Past its end a trace goes on with refused events, so that every number is an index.
+-- document 01's terms for demand 3 are read off this, with no look into a node. An operation is named by the index of
+-- its accepted begin. Past its end a trace goes on with refused events, so that every number is an index.
 use Prim.Native.Nat.{ℕ, suc, _+_, _-_, max}
 use native.Mathlib.Decide.{ℕ-discrete, decLt}
 use mathlib.Core.Logic.{ite}

@@ -76,7 +76,8 @@ module _ (t : List ℕ) (x : ℕ) (other : eqb x feed ≡ false) where
   pub lines-byte : linesOf (t ++ (x ∷ [])) ≡ linesOf t
   unfolding linesFrom
   lines-byte =
-      lines-append [] t (x ∷ []) ∙ ap (λ (b : Bool). linesOf t ++ pick b (restOf t ∷ []) []) other ∙ append-nil (linesOf t)
+      lines-append [] t (x ∷ []) ∙ ap (λ (b : Bool). linesOf t ++ pick b (restOf t ∷ []) []) other
+      ∙ append-nil (linesOf t)
 
   pub rest-byte : restOf (t ++ (x ∷ [])) ≡ restOf t ++ (x ∷ [])
   unfolding restFrom

@@ -1,5 +1,5 @@
--- What is kept of a line while it is read: its first forty bytes, and its length, where 41 stands for every greater one.
--- No legal line is longer, so that no more is needed to read it.
+-- What is kept of a line while it is read: its first forty bytes, and its length, where 41 stands for every greater
+-- one. No legal line is longer, so that no more is needed to read it.
 use Prim.Native.Nat.{ℕ, suc, _+_, _-_}
 use mathlib.Core.List.{List, _++_}
 use lib.ListN.{length, take, set, replicate}

@@ -18,7 +18,8 @@ length-block b c l h = length-part b (blockPlace c) blockSize (omega arith)
 pub length-channel : (b : List ℕ) (a c : ℕ) → 1 ≤ a → a ≤ nodes → 1 ≤ c → clusterSize c ≤ length b
     → length (channel b a c) ≡ channelSize
 unfolding channelIn
-length-channel b a c i j l h = length-part (block b c) (channelPlace a) channelSize (omega (arith, length-block b c l h))
+length-channel b a c i j l h = length-part (block b c) (channelPlace a) channelSize
+    (omega (arith, length-block b c l h))
 
 pub length-first : (t : List ℕ) → length t ≡ channelSize → length (first t) ≡ slotSize
 length-first t h = length-part t (slotAt (oldest t)) slotSize (omega arith)

@@ -36,7 +36,8 @@ fits-some b h = elim (ℕ-discrete (length b) 0) [ yes e ↦ absurd (empty e) | 
   where
     empty : length b ≡ 0 → ⊥
     empty e =
-        subst T (sym h ∙ ap (λ (t : Bool). pick t false (pick (isSize (stated b)) (eqb (length b) (clusterSize (stated b))) true))
+        subst T (sym h ∙ ap (λ (t : Bool). pick t false (pick (isSize (stated b))
+        (eqb (length b) (clusterSize (stated b))) true))
         (eq-eqb (length b) 0 e)) tt
 
 pub fits-size : (b : List ℕ) → fits b ≡ true → isSize (stated b) ≡ true → length b ≡ clusterSize (stated b)
@@ -103,7 +104,8 @@ module _ (b : List ℕ) (h : sound b ≡ true) where
   record-sound : (c : ℕ) → isNode (stated b) c ≡ true → recordSound (stated b) c (recordIn (block b c)) ≡ true
   unfolding blockSound
   record-sound c k =
-      both-left (recordSound (stated b) c (recordIn (block b c))) (channelsSound (stated b) (block b c)) (sound-block c k)
+      both-left (recordSound (stated b) c (recordIn (block b c))) (channelsSound (stated b) (block b c))
+      (sound-block c k)
 
   pub sound-usable : (c : ℕ) → isNode (stated b) c ≡ true → usable (node b c) ≡ true
   sound-usable c k =
@@ -112,10 +114,12 @@ module _ (b : List ℕ) (h : sound b ≡ true) where
       (both-left (both (codesKnown r) (usable (recordOf r)))
       (both (eqb (recordOf r .n) (stated b)) (eqb (recordOf r .own) c)) (record-sound c k))
 
-  pub sound-channel : (a c : ℕ) → isNode (stated b) a ≡ true → isNode (stated b) c ≡ true → countOf (channel b a c) ≤ capacity
+  pub sound-channel : (a c : ℕ) → isNode (stated b) a ≡ true → isNode (stated b) c ≡ true
+      → countOf (channel b a c) ≤ capacity
   unfolding blockSound
   sound-channel a c i k =
       leb-true (countOf (channel b a c)) capacity
       (all-at (stated b) (λ d. leb (countOf (channel b d c)) capacity) a
-      (both-right (recordSound (stated b) c (recordIn (block b c))) (channelsSound (stated b) (block b c)) (sound-block c k))
+      (both-right (recordSound (stated b) c (recordIn (block b c))) (channelsSound (stated b) (block b c))
+      (sound-block c k))
       (is-node (stated b) a i .0) (is-node (stated b) a i .1))

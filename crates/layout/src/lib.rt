@@ -14,7 +14,8 @@ ghost use Rattle.table.specs.Loop.{all, count};
 ghost use Rattle.region.specs.Channel.{slotSize, countOf, first};
 ghost use Rattle.region.specs.Record.{recordSize, recordOf, recordBytes};
 ghost use Rattle.block.specs.Block.{recordIn, keep, takeOff, receive, halt, blockSound};
-ghost use Rattle.layout.specs.Layout.{clusterSize, size as sizeOf, stated, faultsIn, block, stopped, channel, onBlock, fits, sound, isNode};
+ghost use Rattle.layout.specs.Layout.{clusterSize, size as sizeOf, stated, faultsIn, block, stopped, channel};
+ghost use Rattle.layout.specs.Layout.{onBlock, fits, sound, isNode};
 
 // Where n is stated, and where the blocks stand.
 pub const STATED_PLACE: usize = 0;

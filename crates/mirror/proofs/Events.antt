@@ -78,7 +78,8 @@ module _ {n : ℕ} (low : 1 ≤ n) (small : n ≤ nodes) {b : List ℕ} {σ : K.
 
   -- An event is admitted on the same conditions.
   pub same-admitted : (a c : ℕ) (next : ℕ → E.Result) {P : Type 0} (d : Dec P)
-      → Tells (both (isNode n a) (isNode n c)) P → (P → OneTo n c) → {r′ : K.Result} → (P → K.stands σ c ≡ true → SameResult n (next n) r′)
+      → Tells (both (isNode n a) (isNode n c)) P → (P → OneTo n c) → {r′ : K.Result}
+      → (P → K.stands σ c ≡ true → SameResult n (next n) r′)
       → SameResult n (E.admitted a c b (next (stated b))) (K.demand d 3 σ (K.demand (K.holds (K.stands σ c)) 4 σ r′))
   same-admitted a c next d t at {r′} k = subst
       (λ r. SameResult n r (K.demand d 3 σ (K.demand (K.holds (K.stands σ c)) 4 σ r′)))

@@ -18,7 +18,8 @@ use Rattle.region.proofs.Waiting.{length-clear, waiting-clear}
 use Rattle.block.specs.Block.{blockSize, recordPlace, channelPlace, hasStopped, recordIn, channelIn, onChannel, halt}
 use Rattle.block.proofs.Changes.{channel-length, channel-flag, channel-record, channel-same, channel-other}
 
-pub channel-size : (k : List ℕ) → length k ≡ blockSize → (a : ℕ) → 1 ≤ a → a ≤ nodes → length (channelIn k a) ≡ channelSize
+pub channel-size : (k : List ℕ) → length k ≡ blockSize → (a : ℕ) → 1 ≤ a → a ≤ nodes → length (channelIn k a)
+    ≡ channelSize
 unfolding channelIn
 channel-size k z a lo hi = length-part k (channelPlace a) channelSize (omega arith)
 

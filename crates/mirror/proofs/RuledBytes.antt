@@ -1,5 +1,5 @@
--- For each clause of demand 2 on the bytes, a house that it rules out. It is the house of the code but for the bytes that
--- it shows, which differ in one thing.
+-- For each clause of demand 2 on the bytes, a house that it rules out. It is the house of the code but for the bytes
+-- that it shows, which differ in one thing.
 use Prim.Native.Nat.{ℕ, _≤_}
 use native.Mathlib.Decide.{ℕ-discrete, decLe, decLt}
 use native.Mathlib.Omega.{arith}
@@ -48,7 +48,8 @@ abbrev showing : (List ℕ → List ℕ) → House → House
 showing f h = record { opened = h .opened; bytes = λ es. f (h .bytes es); next = h .next; seen = h .seen }
 
 -- The block of a node after some events, and the same changed.
-module _ (n : ℕ) (low : 1 ≤ n) (small : n ≤ nodes) (b : List ℕ) (long : length b ≡ clusterSize n) (es : List Event) (c : ℕ)
+module _ (n : ℕ) (low : 1 ≤ n) (small : n ≤ nodes) (b : List ℕ) (long : length b ≡ clusterSize n) (es : List Event)
+    (c : ℕ)
     (is-node : OneTo n c) where
   block-size : length (block (bytesAfter n b es) c) ≡ blockSize
   block-size = run-mirrors n low small b long es .shows .says c is-node .size
@@ -67,11 +68,13 @@ abbrev scanning : List Event
 scanning = begin 1 Scan Whole ∷ []
 
 read-waits : waits (trace 1 0 channelRoom (map meaning scanning)) 1 1 ≡ M.read 1 ∷ []
-unfolding traceFrom K.event K.roomy H.sentTo K.entries moveOn table limit upd upd2 count ℕ-discrete decLe decLt decide letOutTo handedOver
+unfolding traceFrom K.event K.roomy H.sentTo K.entries moveOn table limit upd upd2 count ℕ-discrete decLe decLt decide
+    letOutTo handedOver
 read-waits = refl
 
 none-stops : stopped (trace 1 0 channelRoom (map meaning scanning)) 1 ≡ false
-unfolding traceFrom stopped K.event K.roomy H.sentTo K.entries moveOn table limit upd upd2 count ℕ-discrete decLe decLt decide
+unfolding traceFrom stopped K.event K.roomy H.sentTo K.entries moveOn table limit upd upd2 count ℕ-discrete decLe decLt
+    decide
 none-stops = refl
 
 -- One node updates and gets its own value: that is its last report then, with tag 1, and there was none before.
@@ -79,7 +82,8 @@ abbrev posting : List Event
 posting = begin 1 (Update noReport) Whole ∷ deliver 1 1 Whole ∷ deliver 1 1 Whole ∷ deliver 1 1 Whole ∷ []
 
 last-tag : latest 1 (K.after 1 0 channelRoom K.start (map meaning posting) .nodes 1 .all) .tag ≡ 1
-unfolding K.after K.event K.roomy H.sentTo K.entries moveOn table limit newest highest has same upd upd2 count ℕ-discrete decLe decLt decide
+unfolding K.after K.event K.roomy H.sentTo K.entries moveOn table limit newest highest has same upd upd2 count
+    ℕ-discrete decLe decLt decide
 last-tag = refl
 
 no-last : latest 1 (fresh .all) .tag ≡ 0
@@ -107,7 +111,8 @@ module _ (b : List ℕ) (long : length b ≡ clusterSize 1) where
   flagged t = set t 0 1
 
   pub stops-out : ¬ Demand2Of 1 (showing (onBlock 1 flagged) (houseOf 1 b))
-  stops-out d = false≢true (sym (d .stops scanning 1 one ∙ stands) ∙ ap hasStopped (there flagged (length-set k 0 1 ∙ size))
+  stops-out d = false≢true (sym (d .stops scanning 1 one ∙ stands)
+      ∙ ap hasStopped (there flagged (length-set k 0 1 ∙ size))
       ∙ ap (ltb 0) (getD-set-same k 0 1 0 (omega (arith, size))))
 
   -- What waits for the node is lost. Its record and its stop byte are as they were.
@@ -144,8 +149,8 @@ module _ (b : List ℕ) (long : length b ≡ clusterSize 1) where
       size-posted = block-size 1 (omega arith) (omega arith) b long posting 1 one
 
       is : node (onBlock 1 (keep (blank 1 1)) (bytesAfter 1 b posting)) 1 ≡ blank 1 1
-      is = ap (λ t. recordOf (recordIn t)) (changed 1 (omega arith) (omega arith) b long posting 1 one (keep (blank 1 1))
-          (keep-length (block (bytesAfter 1 b posting) 1) size-posted (blank 1 1) heard))
+      is = ap (λ t. recordOf (recordIn t)) (changed 1 (omega arith) (omega arith) b long posting 1 one
+          (keep (blank 1 1)) (keep-length (block (bytesAfter 1 b posting) 1) size-posted (blank 1 1) heard))
           ∙ ap recordOf (keep-record (block (bytesAfter 1 b posting) 1) size-posted (blank 1 1) heard)
           ∙ record-back (blank 1 1) (sized-node (follows-fresh 1 1))
 

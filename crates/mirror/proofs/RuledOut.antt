@@ -1,5 +1,5 @@
--- For each clause of demand 2 on what is answered and told, a house that it rules out. It is the house of the code but for
--- one thing that is seen of it, so that the clauses about other things allow it.
+-- For each clause of demand 2 on what is answered and told, a house that it rules out. It is the house of the code but
+-- for one thing that is seen of it, so that the clauses about other things allow it.
 use Prim.Native.Nat.{ℕ}
 use native.Mathlib.Decide.{ℕ-discrete, decLe, decLt}
 use native.Mathlib.Omega.{arith}

@@ -106,7 +106,8 @@ module _ {n : ℕ} (small : n ≤ nodes) (sized : isSize n ≡ true) (a c : ℕ)
     answer = answers x;
     sent = same-out x;
     mirrors = record {
-      shows = subst (Shows n (O.letOut n c out (O.stepped n c x (s .node) found)) (upd (σ .nodes) c (t .node)) stopped) mid-end
+      shows = subst (Shows n (O.letOut n c out (O.stepped n c x (s .node) found)) (upd (σ .nodes) c (t .node)) stopped)
+          mid-end
           (shows-out small sized c node out after-step (emptied-gone stopped q) (fits-out x)
           (room-of small after-step c node out (ap (K.roomy channelRoom c n) mid-end ∙ e)));
       room = λ a d p o. fits a d p o (stopped d) refl (ℕ-discrete a c);

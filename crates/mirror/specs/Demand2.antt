@@ -30,8 +30,8 @@ bytesAfter n b es = after (fresh n b .bytes) es
 abbrev pub slots : List ℕ → ℕ → ℕ → List (List ℕ)
 slots b a c = waiting (λ s. s) (channel b a c)
 
--- What is seen of a house, a cluster in bytes: what fresh answers and, after any list of events, the bytes, what one event
--- more does, and the trace of the list.
+-- What is seen of a house, a cluster in bytes: what fresh answers and, after any list of events, the bytes, what one
+-- event more does, and the trace of the list.
 pub record House : Type 0 where
   pub opened : Answer Ending
   pub bytes : List Event → List ℕ

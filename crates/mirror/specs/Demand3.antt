@@ -1,7 +1,7 @@
--- Demand 3 of the code. A run starts from what fresh makes of lent bytes b of the length for n, and every event of a list gets
--- the bytes as the one before left them, refused or not. The trace is made of what the definitions answer and let out that
--- the contracts of fresh, begin, deliver and stop are equated with. Of every list, with any numbers in it: there is one
--- single order of its operations, and where no message waits for a standing node, no operation is open.
+-- Demand 3 of the code. A run starts from what fresh makes of lent bytes b of the length for n, and every event of a
+-- list gets the bytes as the one before left them, refused or not. The trace is made of what the definitions answer and
+-- let out that the contracts of fresh, begin, deliver and stop are equated with. Of every list, with any numbers in it:
+-- there is one single order of its operations, and where no message waits for a standing node, no operation is open.
 use Prim.Native.Nat.{ℕ}
 use mathlib.Core.Path.{_≡_}
 use mathlib.Core.List.{List}

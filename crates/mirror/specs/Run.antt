@@ -50,8 +50,8 @@ traceFrom n b (e ∷ es) = seen n e (event e b) ∷ traceFrom n (event e b .byte
 abbrev pub traceOf : ℕ → List ℕ → List Event → Trace
 traceOf n b es = traceFrom n (E.fresh n b .bytes) es
 
--- The refusals that come up in a run. The others do not: 1 is for fresh, 2, 7 and 9 are for bytes that no run makes, and
--- 12 is for a lent length.
+-- The refusals that come up in a run. The others do not: 1 is for fresh, 2, 7 and 9 are for bytes that no run makes,
+-- and 12 is for a lent length.
 abbrev pub inRun : ℕ → Bool
 inRun k =
     either (eqb k 3) (either (eqb k 4) (either (eqb k 5)

@@ -1,5 +1,5 @@
--- Which answer a call gives, case by case: each refusal on its condition where no earlier one applies, and the step where
--- none does. The cases are all there are. Assumes nothing.
+-- Which answer a call gives, case by case: each refusal on its condition where no earlier one applies, and the step
+-- where none does. The cases are all there are. Assumes nothing.
 use mathlib.Core.Path.{_≡_}
 use mathlib.Core.Bool.{true, false}
 use mathlib.Core.List.{List}
@@ -37,7 +37,8 @@ module _ (c : Node) (o : Operation) (out : List ℕ) where
       unfolding begin
       begin-6 i j = rw (h, u, i, j)
 
-      pub begin-goes : isOpen (c .wait) ≡ false → full c ≡ false → begin c o out ≡ letOut (beginStep (faultsOf c) c o) out
+      pub begin-goes : isOpen (c .wait) ≡ false → full c ≡ false → begin c o out
+          ≡ letOut (beginStep (faultsOf c) c o) out
       unfolding begin
       begin-goes i j = rw (h, u, i, j)
 

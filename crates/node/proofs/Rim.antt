@@ -16,7 +16,8 @@ use Rattle.node.specs.Entry.{beside}
 use Rattle.node.specs.Room.{AllAllowed}
 use Rattle.view.specs.Size.{nodes}
 
-pub all-allowed : (n : ℕ) (v : View) (ms : List Message) → n ≤ nodes → AllLawful n v ms → AllAllowed n (viewBytes n v) ms
+pub all-allowed : (n : ℕ) (v : View) (ms : List Message) → n ≤ nodes → AllLawful n v ms
+    → AllAllowed n (viewBytes n v) ms
 all-allowed n v [] l h = tt
 all-allowed n v (m ∷ ms) l h = (lawful-allowed n m v l (h .0), all-allowed n v ms l (h .1))
 

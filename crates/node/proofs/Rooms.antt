@@ -30,7 +30,8 @@ Fit s room =
     (1 ≤ s .node .n) × (s .node .n ≤ nodes) × AllLawful (s .node .n) (s .outbox .view) (messages (s .outbox))
     × (sizes (s .node .n) (messages (s .outbox)) ≤ room)
 
-fit-of : (n : ℕ) (s : Step) (room : ℕ) → s .node .n ≡ n → 1 ≤ n → n ≤ nodes → AllLawful n (s .outbox .view) (messages (s .outbox))
+fit-of : (n : ℕ) (s : Step) (room : ℕ) → s .node .n ≡ n → 1 ≤ n → n ≤ nodes
+    → AllLawful n (s .outbox .view) (messages (s .outbox))
     → sizes n (messages (s .outbox)) ≤ room → Fit s room
 fit-of n s room e a b l k =
     subst (λ (x : ℕ). (1 ≤ x) × (x ≤ nodes) × AllLawful x (s .outbox .view) (messages (s .outbox))
@@ -46,11 +47,13 @@ begin-fit f c o s room e g u i j h =
     (let q : sizes (c .n) (messages (beginStep f c o .outbox)) ≤ stepMost = begin-fits f c o u i j l in omega arith))
 
 pub message-fit : (f : ℕ) (c : Node) (k : ℕ) (m : Message) (v : View) (s : Step) (room : ℕ) → s ≡ messageStep f c k m v
-    → f ≡ faultsOf c → usable c ≡ true → lawful (c .n) m v ≡ true → Long c → 1 ≤ k → k ≤ c .n → leastOutput ≤ room → Fit s room
+    → f ≡ faultsOf c → usable c ≡ true → lawful (c .n) m v ≡ true → Long c → 1 ≤ k → k ≤ c .n → leastOutput ≤ room
+    → Fit s room
 message-fit f c k m v s room e g u w z a b h =
     let p = parts c u in
     let l : f < c .n = subst (λ (x : ℕ). x < c .n) (sym g) (faults-below (c .n) (p .n-low)) in
     subst (λ (x : Step). Fit x room) (sym e)
-    (fit-of (c .n) (messageStep f c k m v) room (message-n f c k m v) (p .n-low) (p .n-high) (message-lawful f c k m v u w z a b)
+    (fit-of (c .n) (messageStep f c k m v) room (message-n f c k m v) (p .n-low) (p .n-high)
+    (message-lawful f c k m v u w z a b)
     (let q : sizes (c .n) (messages (messageStep f c k m v .outbox)) ≤ stepMost =
     message-fits f c k m v u w z a b l .1 in omega arith))

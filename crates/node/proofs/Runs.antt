@@ -54,7 +54,8 @@ pub run-length : (n : ℕ) (v : List ℕ) (ms : List Message) → AllAllowed n v
 unfolding run
 run-length n v [] h = refl
 run-length n v (m ∷ ms) h =
-    length-append (encode m v) (run v ms) ∙ ap₂ (λ (a b : ℕ). a + b) (length-encode n m v (h .0)) (run-length n v ms (h .1))
+    length-append (encode m v) (run v ms) ∙ ap₂ (λ (a b : ℕ). a + b) (length-encode n m v (h .0))
+    (run-length n v ms (h .1))
 
 -- the parts of a list that is allowed
 pub allowed-left : (n : ℕ) (v : List ℕ) (a b : List Message) → AllAllowed n v (a ++ b) → AllAllowed n v a
@@ -80,7 +81,8 @@ module _ (n : ℕ) (m : Message) (v o : List ℕ) (at : ℕ) (s : isSize n ≡ t
   unfolding answer
   written-is = rw (s, h, rest-length, le-leb (length (encode m v)) (length o - at) (omega arith))
 
-  pub emitted : (r : Written) (t : List ℕ) → written r ≡ answer n m v (length rest) → t ≡ after (written r) (encode m v) rest
+  pub emitted : (r : Written) (t : List ℕ) → written r ≡ answer n m v (length rest) → t
+      ≡ after (written r) (encode m v) rest
       → (written r ≡ result (length (encode m v)))
       × (take at o ++ (t ++ drop (length o - at) (drop at o)) ≡ put o at (encode m v))
   emitted r t e q =
@@ -181,7 +183,11 @@ module _ (n : ℕ) (v : List ℕ) (a b d : List Message) (room : ℕ) (h : Room 
 
     module _ (j : ℕ) (q : j ≡ i + length (run v b)) where
       pub room-third : Room n v d j room
-      room-third = record { sized = h .sized; fit = allowed-right n v (a ++ b) d (h .fit); enough = omega (arith, all-long) }
+      room-third = record {
+        sized = h .sized;
+        fit = allowed-right n v (a ++ b) d (h .fit);
+        enough = omega (arith, all-long);
+      }
 
       pub three-long : (k : ℕ) → k ≡ j + length (run v d) → k ≡ length (run v (a ++ b ++ d))
       three-long k e =
@@ -209,7 +215,8 @@ module _ (n : ℕ) (z : List ℕ) (l : length z ≡ 256) (h : n ≤ nodes) where
     pub again-length : 16 * n ≡ length (take (16 * n) (t ++ drop (16 * n) z))
     again-length = sym (length-take-le (16 * n) (t ++ drop (16 * n) z) front-most)
 
-    pub front-is : (v : View) → t ≡ put (take (16 * n) z) 0 (viewBytes n v) → take (16 * n) (t ++ drop (16 * n) z) ≡ viewBytes n v
+    pub front-is : (v : View) → t ≡ put (take (16 * n) z) 0 (viewBytes n v) → take (16 * n) (t ++ drop (16 * n) z)
+        ≡ viewBytes n v
     front-is v e =
         take-at t (drop (16 * n) z) (16 * n) (m ∙ sym front-length)
         ∙ e ∙ put-over (take (16 * n) z) (viewBytes n v) (length-viewBytes n v ∙ front-length)

@@ -1,7 +1,6 @@
 -- The three calls at one node (document 01: cabinet), each for every input: what is told, the record, the length of the
--- messages and every byte of the output buffer. The first refusal that applies is given, on its condition only; it hands
--- the record back and leaves the buffer.
--- Assumes nothing.
+-- messages and every byte of the output buffer. The first refusal that applies is given, on its condition only; it
+-- hands the record back and leaves the buffer. Assumes nothing.
 use mathlib.Core.List.{List, []}
 use Prim.Native.Nat.{ℕ}
 use lib.Dec.{leb, ltb}

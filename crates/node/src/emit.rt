@@ -21,7 +21,8 @@ ghost use Rattle.node.specs.Room.{Room};
 
 // Writes one message at a place, and answers the place after it.
 fn emit_one(n: usize, m: Message, v: &[u8], out: &mut [u8], at: usize) -> usize
-    requires { ⌜ (isSize n ≡ true) × (allowed n m (now v) ≡ true) × (at + length (encode m (now v)) ≤ length (now out)) ⌝ }
+    requires { ⌜ (isSize n ≡ true) × (allowed n m (now v) ≡ true)
+        × (at + length (encode m (now v)) ≤ length (now out)) ⌝ }
     ensures { λ r. ⌜ (r ≡ at + length (encode m (now (v .entry))))
         × (now (out .exit) ≡ put (now (out .entry)) at (encode m (now (v .entry)))) ⌝ }
 {
@@ -64,7 +65,8 @@ fn emit_parts(n: usize, o: Outbox, v: &[u8], out: &mut [u8]) -> usize
 
 // Writes what a whole step sends, and answers how many bytes it has.
 pub fn emit_all(n: usize, o: Outbox, out: &mut [u8]) -> usize
-    requires { ⌜ (1 ≤ n) × (n ≤ nodes) × AllLawful n (o .view) (messages o) × (sizes n (messages o) ≤ length (now out)) ⌝ }
+    requires { ⌜ (1 ≤ n) × (n ≤ nodes) × AllLawful n (o .view) (messages o)
+        × (sizes n (messages o) ≤ length (now out)) ⌝ }
     ensures { λ r. ⌜ (r ≡ length (outBytes n o)) × (now (out .exit) ≡ put (now (out .entry)) 0 (outBytes n o)) ⌝ }
 {
     let mut view = [0u8; VIEW];

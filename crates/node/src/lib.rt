@@ -51,8 +51,8 @@ pub enum Said {
     Exhausted,
 }
 
-// What is said, the record after the call, the view of a scan that has ended, and how many bytes of messages stand at the
-// start of the output buffer.
+// What is said, the record after the call, the view of a scan that has ended, and how many bytes of messages stand at
+// the start of the output buffer.
 pub struct Reply {
     pub said: Said,
     pub node: Node,

@@ -30,16 +30,19 @@ pub entries-one : (n a : ℕ) (v : View) (m : Message) → entriesOf n a v (m �
 unfolding entriesOf
 entries-one n a v m = append-nil (addressed n a v m)
 
-pub entries-append : (n a : ℕ) (v : View) (k l : List Message) → entriesOf n a v (k ++ l) ≡ entriesOf n a v k ++ entriesOf n a v l
+pub entries-append : (n a : ℕ) (v : View) (k l : List Message) → entriesOf n a v (k ++ l)
+    ≡ entriesOf n a v k ++ entriesOf n a v l
 unfolding entriesOf
 entries-append n a v [] l = refl
 entries-append n a v (m ∷ k) l =
     ap (λ (t : List Entry). addressed n a v m ++ t) (entries-append n a v k l)
     ∙ sym (append-assoc (addressed n a v m) (entriesOf n a v k) (entriesOf n a v l))
 
-pub entries-two : (n a : ℕ) (v : View) (m k : Message) → entriesOf n a v (m ∷ k ∷ []) ≡ addressed n a v m ++ addressed n a v k
+pub entries-two : (n a : ℕ) (v : View) (m k : Message) → entriesOf n a v (m ∷ k ∷ [])
+    ≡ addressed n a v m ++ addressed n a v k
 entries-two n a v m k =
-    entries-append n a v (m ∷ []) (k ∷ []) ∙ ap₂ (λ (s t : List Entry). s ++ t) (entries-one n a v m) (entries-one n a v k)
+    entries-append n a v (m ∷ []) (k ∷ []) ∙ ap₂ (λ (s t : List Entry). s ++ t) (entries-one n a v m)
+    (entries-one n a v k)
 
 pub entries-three : (n a : ℕ) (o : Outbox) → entries n a o
     ≡ entriesOf n a (o .view) (listed (o .handler)) ++ entriesOf n a (o .view) (listed (o .reading))
@@ -97,14 +100,16 @@ goTo-append b [] l = omega arith
 goTo-append b (e ∷ k) l =
     ap (λ (x : ℕ). pick (eqb (e .to) b) (x + 1) x) (goTo-append b k l) ∙ go (eqb (e .to) b)
   where
-    go : (t : Bool) → pick t (goTo b k + goTo b l + 1) (goTo b k + goTo b l) ≡ pick t (goTo b k + 1) (goTo b k) + goTo b l
+    go : (t : Bool) → pick t (goTo b k + goTo b l + 1) (goTo b k + goTo b l)
+        ≡ pick t (goTo b k + 1) (goTo b k) + goTo b l
     go true = omega arith
     go false = refl
 
 -- the first entries of two lists
 pub goTo-take : (b left : ℕ) (k l : List Entry)
     → goTo b (take left (k ++ l)) ≡ goTo b (take left k) + goTo b (take (left - length k) l)
-goTo-take b left k l = ap (λ (t : List Entry). goTo b t) (take-append left k l) ∙ goTo-append b (take left k) (take (left - length k) l)
+goTo-take b left k l = ap (λ (t : List Entry). goTo b t) (take-append left k l)
+    ∙ goTo-append b (take left k) (take (left - length k) l)
 
 -- entries to 1 to k
 pub goTo-past : (v : View) (m : Message) (b k : ℕ) → k < b → goTo b (tab k (entry v m)) ≡ 0
@@ -121,7 +126,8 @@ goTo-once v m b (suc k) l h =
     goTo-append b (tab k (entry v m)) (entry v m (suc k) ∷ [])
     ∙ ⊎-elim
     (λ e. ap₂ (λ (x : ℕ) (t : Bool). x + pick t 1 0) (goTo-past v m b k (omega arith)) (eq-eqb (suc k) b (sym e)))
-    (λ q. ap₂ (λ (x : ℕ) (t : Bool). x + pick t 1 0) (goTo-once v m b k l (le-of-suc-le-suc q)) (ne-eqb (suc k) b (λ e. omega arith)))
+    (λ q. ap₂ (λ (x : ℕ) (t : Bool). x + pick t 1 0) (goTo-once v m b k l (le-of-suc-le-suc q))
+    (ne-eqb (suc k) b (λ e. omega arith)))
     (eq-or-lt-of-le h)
 
 -- the first entries of a message to all
@@ -214,9 +220,11 @@ two-to b left n a v m k p e q =
 
 pub three-to : (b left n a : ℕ) (o : Outbox) → goTo b (take left (entries n a o))
     ≡ goTo b (take left (entriesOf n a (o .view) (listed (o .handler))))
-    + goTo b (take (left - length (entriesOf n a (o .view) (listed (o .handler)))) (entriesOf n a (o .view) (listed (o .reading))))
+    + goTo b (take (left - length (entriesOf n a (o .view) (listed (o .handler))))
+    (entriesOf n a (o .view) (listed (o .reading))))
     + goTo b (take
-    (left - length (entriesOf n a (o .view) (listed (o .handler))) - length (entriesOf n a (o .view) (listed (o .reading))))
+    (left - length (entriesOf n a (o .view) (listed (o .handler))) - length
+    (entriesOf n a (o .view) (listed (o .reading))))
     (entriesOf n a (o .view) (listed (o .comparing))))
 three-to b left n a o =
     let x = entriesOf n a (o .view) (listed (o .handler)) in

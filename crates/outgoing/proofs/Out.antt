@@ -67,7 +67,8 @@ module _ (n a c : ℕ) (v : View) (m : Message) (left : ℕ) (b : List ℕ) wher
       rw e (ap (λ (l : List Entry). letOut n c l b) (take-all left (entry v m a ∷ []) h) ∙ let-one n c (entry v m a) b)
 
   pub let-others : isAnswer m ≡ false
-      → letOut n c (take left (addressed n a v m)) b ≡ upTo (min left n) (λ i. onBlock (i + 1) (receive c (slot n m v))) b
+      → letOut n c (take left (addressed n a v m)) b ≡ upTo (min left n) (λ i. onBlock (i + 1) (receive c (slot n m v)))
+      b
   unfolding addressed
   let-others e =
       rw e (ap (λ (l : List Entry). letOut n c l b) (cut-tab n left (entry v m)) ∙ let-all n c (min left n) v m b)
@@ -108,6 +109,7 @@ let-three n a c left o b p d q e r =
     ∙ ap (λ (t : List Entry). letOut n c (take left t) b) (sym (entries-three n a o))
 
 -- what an event lets out is among so many entries
-pub within-most : (n a : ℕ) (x : Extent) (o : Outbox) → 1 ≤ n → n ≤ nodes → take (most x) (entries n a o) ≡ within x (entries n a o)
+pub within-most : (n a : ℕ) (x : Extent) (o : Outbox) → 1 ≤ n → n ≤ nodes → take (most x) (entries n a o)
+    ≡ within x (entries n a o)
 within-most n a Whole o h k = take-all (most Whole) (entries n a o) (omega (arith, entries-most n a o h))
 within-most n a (Cut m) o h k = refl

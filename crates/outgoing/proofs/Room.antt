@@ -16,7 +16,8 @@ use Rattle.table.specs.Loop.{either, all}
 use Rattle.record.specs.declared.Node.{Node}
 use Rattle.region.specs.Channel.{channelSize, capacity, countOf, oldest, pop}
 use Rattle.block.specs.Block.{blockSize, hasStopped, channelIn, keep, takeOff, halt}
-use Rattle.block.proofs.Changes.{keep-length, keep-flag, keep-channel, takeOff-length, takeOff-flag, takeOff-same, takeOff-other, halt-length, halt-stops}
+use Rattle.block.proofs.Changes.{keep-length, keep-flag, keep-channel, takeOff-length, takeOff-flag, takeOff-same}
+use Rattle.block.proofs.Changes.{takeOff-other, halt-length, halt-stops}
 use Rattle.outgoing.specs.Entries.{Entry, goTo}
 use Rattle.layout.specs.Layout.{clusterSize, block, stopped, channel, onBlock}
 use Rattle.layout.proofs.Blocks.{length-block, length-channel, length-onBlock, block-same, block-other}
@@ -48,7 +49,8 @@ module _ (n a c : ℕ) (b : List ℕ) (most : n ≤ nodes) (a-lo : 1 ≤ a) (a-h
 
   -- the block of c, and the others, as the step finds them
   found-size : (took : Bool) → length (foundIn took a c b) ≡ clusterSize n
-  found-size true = length-onBlock b c lo (omega arith) (takeOff a) (takeOff-length (block b c) own a a-lo (omega arith)) ∙ size
+  found-size true = length-onBlock b c lo (omega arith) (takeOff a)
+      (takeOff-length (block b c) own a a-lo (omega arith)) ∙ size
   found-size false = size
 
   found-other : (took : Bool) (k : ℕ) → 1 ≤ k → (k ≡ c → ⊥) → block (foundIn took a c b) k ≡ block b k
@@ -65,9 +67,11 @@ module _ (n a c : ℕ) (b : List ℕ) (most : n ≤ nodes) (a-lo : 1 ≤ a) (a-h
       ap (λ (t : List ℕ). getD t 0 0) (found-own true) ∙ takeOff-flag (block b c) own a a-lo (omega arith)
   found-flag false = refl
 
-  found-count : (took : Bool) → countOf (channelIn (block (foundIn took a c b) c) c) ≡ countOf (channel b c c) - goneIn took a c
+  found-count : (took : Bool) → countOf (channelIn (block (foundIn took a c b) c) c)
+      ≡ countOf (channel b c c) - goneIn took a c
   found-count false = omega arith
-  found-count true = ap (λ (t : List ℕ). countOf (channelIn t c)) (found-own true) ∙ elim (ℕ-discrete a c) [ yes e ↦ here e | no e ↦ away e ]
+  found-count true = ap (λ (t : List ℕ). countOf (channelIn t c)) (found-own true)
+      ∙ elim (ℕ-discrete a c) [ yes e ↦ here e | no e ↦ away e ]
     where
       here : a ≡ c → countOf (channelIn (takeOff a (block b c)) c) ≡ countOf (channel b c c) - pick (eqb a c) 1 0
       here e =
@@ -79,7 +83,8 @@ module _ (n a c : ℕ) (b : List ℕ) (most : n ≤ nodes) (a-lo : 1 ≤ a) (a-h
       away : (a ≡ c → ⊥) → countOf (channelIn (takeOff a (block b c)) c) ≡ countOf (channel b c c) - pick (eqb a c) 1 0
       away e =
           ap (λ (t : List ℕ). countOf t) (takeOff-other (block b c) own a a-lo (omega arith) c lo (λ q. e (sym q)))
-          ∙ sym (ap (λ (t : Bool). countOf (channel b c c) - pick t 1 0) (ne-eqb a c e) ∙ zero-less (countOf (channel b c c)))
+          ∙ sym (ap (λ (t : Bool). countOf (channel b c c) - pick t 1 0) (ne-eqb a c e)
+          ∙ zero-less (countOf (channel b c c)))
         where
           zero-less : (k : ℕ) → k - 0 ≡ k
           zero-less k = omega arith
@@ -128,7 +133,8 @@ module _ (n a c : ℕ) (b : List ℕ) (most : n ≤ nodes) (a-lo : 1 ≤ a) (a-h
     halted-length = halt-length (block wrote c) (length-block wrote c lo (omega (arith, wrote-size))) n most
 
     -- at c itself
-    own-room : (cut : Bool) (l : List Entry) → roomBefore cut (goneIn took a c) c l b c ≡ roomAt c l (haltIf cut n c wrote) c
+    own-room : (cut : Bool) (l : List Entry) → roomBefore cut (goneIn took a c) c l b c
+        ≡ roomAt c l (haltIf cut n c wrote) c
     unfolding roomBefore
     own-room true l =
         rw (eq-eqb c c refl) (always (stopped b c))

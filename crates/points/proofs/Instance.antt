@@ -38,7 +38,8 @@ same-trace n b (e ∷ es) = ap (λ (r : Result). R.seen n e r ∷ C.traceFrom C.
 
 -- Computed of the algorithm over sets.
 all-handed : T.waits (K.trace 1 0 channelRoom (map R.meaning (scanThen 1 five))) 1 1 ≡ []
-unfolding K.traceFrom event roomy sentTo entries moveOn kept table newest within has limit same upd upd2 count ℕ-discrete decLe decLt decide T.letOutTo T.handedOver
+unfolding K.traceFrom event roomy sentTo entries moveOn kept table newest within has limit same upd upd2 count
+    ℕ-discrete decLe decLt decide T.letOutTo T.handedOver
 all-handed = refl
 
 nothing-waits : (b : List ℕ) → length b ≡ clusterSize 1 → NothingWaits 1 (R.traceOf 1 b (scanThen 1 five))

@@ -123,7 +123,8 @@ scanned = record {
 }
 
 first-seen : T.at (K.trace 1 0 channelRoom (map R.meaning (scanThen 1 []))) 0 ≡ scanned
-unfolding K.traceFrom K.event K.roomy H.sentTo K.entries A.moveOn A.kept A.table A.newest A.within A.has A.limit same upd upd2 count ℕ-discrete decLe decLt decide
+unfolding K.traceFrom K.event K.roomy H.sentTo K.entries A.moveOn A.kept A.table A.newest A.within A.has A.limit same
+    upd upd2 count ℕ-discrete decLe decLt decide
 first-seen = refl
 
 scan-seen : R.seen 1 (R.begin 1 Scan Whole) (E.begin 1 Scan Whole start) ≡ scanned

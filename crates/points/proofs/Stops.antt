@@ -85,7 +85,8 @@ module _ {n : ℕ} {b : List ℕ} (I : IsCluster n b) (c : ℕ) (o : OneTo n c) 
   here = both-true (node-is n c o) (node-is n c o)
 
   stopped-before : stopped b c ≡ true → stop c b ≡ refuse 4 b
-  stopped-before e = stop-refused c b (is-stopped c c b n (sym (I .states)) (I .fit) (I .usable) here e) (λ q. omega arith)
+  stopped-before e = stop-refused c b (is-stopped c c b n (sym (I .states)) (I .fit) (I .usable) here e)
+      (λ q. omega arith)
 
   stops-in : stopped b c ≡ false → stop c b ≡ stopIn n c b
   stops-in e = stop-is c b n (sym (I .states)) (sym (is-admitted c c b n (sym (I .states)) (I .fit) (I .usable) here e))

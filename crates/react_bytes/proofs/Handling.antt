@@ -32,7 +32,8 @@ use Rattle.region.specs.Record.{ownPlace, maxtagPlace, requestPlace, keptPlace,
 use Rattle.region.specs.Record.{headOf, headBytes, withMaxtag, withKept, withWait}
 use Rattle.region.proofs.Back.{Sized, SizedNode, record-back}
 use Rattle.react_bytes.specs.Handled.{entered}
-use Rattle.react_bytes.proofs.Sections.{Tables, tables-of, heard-put, atmax-put, kept-put, last-entry, atmax-entry, atround-entry, assembled}
+use Rattle.react_bytes.proofs.Sections.{Tables, tables-of, heard-put, atmax-put, kept-put, last-entry}
+use Rattle.react_bytes.proofs.Sections.{atmax-entry, atround-entry, assembled}
 
 pub sized-view : (n : ℕ) (b : List ℕ) → n ≤ nodes → Sized (viewOf n b)
 sized-view n b h = record { tags = view-absent n b h .tags-length; reports = view-absent n b h .reports-length }
@@ -184,7 +185,8 @@ react-n c s (Value t w p) v = refl
 react-n c s (Good t) v = refl
 
 -- The bytes that a handler leaves are the record that it leaves, and with what it sends they are its step.
-module _ (r r′ : List ℕ) (s : ℕ) (m : Message) (v : View) (h : Sized v) (e : r′ ≡ recordBytes (react (recordOf r) s m v .node)) where
+module _ (r r′ : List ℕ) (s : ℕ) (m : Message) (v : View) (h : Sized v)
+    (e : r′ ≡ recordBytes (react (recordOf r) s m v .node)) where
   pub reacted : recordOf r′ ≡ react (recordOf r) s m v .node
   reacted = ap recordOf e ∙ record-back (react (recordOf r) s m v .node) (sized-react (recordOf r) (sized-of r) s m v h)
 
@@ -194,5 +196,6 @@ module _ (r r′ : List ℕ) (s : ℕ) (m : Message) (v : View) (h : Sized v) (e
   pub reacted-bytes : r′ ≡ recordBytes (recordOf r′)
   reacted-bytes = e ∙ ap recordBytes (sym reacted)
 
-  pub reacted-step : {x : Sent} → x ≡ react (recordOf r) s m v .outbox .handler → started (recordOf r′) s x ≡ react (recordOf r) s m v
+  pub reacted-step : {x : Sent} → x ≡ react (recordOf r) s m v .outbox .handler → started (recordOf r′) s x
+      ≡ react (recordOf r) s m v
   reacted-step q = ap₂ (λ (d : Node) (y : Sent). started d s y) reacted q ∙ sym (react-started (recordOf r) s m v)

@@ -15,7 +15,8 @@ use Rattle.octets.specs.Test.{pick}
 use Rattle.octets.specs.Bytes.{Bytes, be, part, put}
 use Rattle.octets.specs.Loop.{join}
 use Rattle.octets.specs.Word.{word, words, wordBytes, wordSize}
-use Rattle.octets.proofs.Put.{part-other, part-same, part-add, part-part, part-bytes, length-part, length-put, put-inside}
+use Rattle.octets.proofs.Put.{part-other, part-same, part-add, part-part, part-bytes, length-part, length-put}
+use Rattle.octets.proofs.Put.{put-inside}
 use Rattle.octets.proofs.Table.{length-tab, getD-tab, getD-padded, length-join, part-join, join-ext, join-parts}
 use Rattle.octets.proofs.Word.{word-of}
 use Rattle.view.specs.Size.{nodes, entrySize, viewSize}
@@ -67,9 +68,11 @@ module _ (n s k : ℕ) (f g : ℕ → List ℕ) (v : List ℕ) (size : (i : ℕ)
 
   put-join : put (join n f) (s * k) v ≡ join n g
   put-join =
-      let e : length (put (join n f) (s * k) v) ≡ s * n = length-put (join n f) (s * k) v inside ∙ length-join n s f size in
+      let e : length (put (join n f) (s * k) v) ≡ s * n = length-put (join n f) (s * k) v inside
+      ∙ length-join n s f size in
       let h : length (put (join n f) (s * k) v) ≤ s * n = omega arith in
-      sym (take-all (s * n) (put (join n f) (s * k) v) h) ∙ sym (join-parts n s (put (join n f) (s * k) v)) ∙ join-ext n _ g run
+      sym (take-all (s * n) (put (join n f) (s * k) v) h) ∙ sym (join-parts n s (put (join n f) (s * k) v))
+      ∙ join-ext n _ g run
 
 -- a table of words and a view, one entry replaced
 put-word : (t : List ℕ) (k x : ℕ) → k < length t → put (wordBytes t) (wordSize * k) (be wordSize x)
@@ -89,7 +92,8 @@ put-entry v w t p z lo hi =
     (entryBytes t p) (λ i. refl) (omega arith) refl
     (ap₂ entryBytes (getD-set-same (v .tags) (w - 1) t 0 (omega (arith, z .tags)))
     (getD-set-same (v .reports) (w - 1) p noReport (omega (arith, z .reports))))
-    (λ i e. ap₂ entryBytes (getD-set-other (v .tags) (w - 1) i t 0 e) (getD-set-other (v .reports) (w - 1) i p noReport e))
+    (λ i e. ap₂ entryBytes (getD-set-other (v .tags) (w - 1) i t 0 e)
+    (getD-set-other (v .reports) (w - 1) i p noReport e))
 
 -- ---- the tables in a record's bytes
 
@@ -290,7 +294,8 @@ assembled c {r} T =
     let l : length r ≡ recordSize = T .size in
     ap (λ (k : ℕ). h ++ drop k r) (head-end (headIn c))
     ∙ ap (λ (t : List ℕ). h ++ t) (rest l ∙ ap₂ (λ (x y : List ℕ). x ++ y) (T .ofHeard)
-    (ap₂ (λ (x y : List ℕ). x ++ y) (ap₂ (λ (x y : List ℕ). x ++ y) (ap₂ (λ (x y : List ℕ). x ++ y) (T .ofLast) (T .ofAtmax))
+    (ap₂ (λ (x y : List ℕ). x ++ y) (ap₂ (λ (x y : List ℕ). x ++ y)
+    (ap₂ (λ (x y : List ℕ). x ++ y) (T .ofLast) (T .ofAtmax))
     (T .ofAtround)) (T .ofKept)))
     ∙ sym (append-assoc h (wordBytes (c .heard)) _)
   where

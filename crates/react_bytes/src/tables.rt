@@ -61,7 +61,8 @@ pub fn put_where(flag: bool, r: &mut [u8], i: usize, w: usize, t: u64, p: Report
     }
 }
 
-// Where the newest entry of writer w with a tag at most t stands: its last one if that is not above t, else the one held.
+// Where the newest entry of writer w with a tag at most t stands: its last one if that is not above t, else the one
+// held.
 fn newest_at(r: &[u8], t: u64, w: usize) -> usize
     requires { ⌜ (length (now r) ≡ recordSize) × (1 ≤ w) × (w ≤ nodes) ⌝ }
     ensures { λ x. ⌜ (x + entrySize ≤ recordSize)

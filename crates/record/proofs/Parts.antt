@@ -131,7 +131,11 @@ round-parts i r h = halves (leb i 3) (either (both (leb r limit) (leb 1 i)) (ltb
     either-cases (both (leb r limit) (leb 1 i)) (ltb r limit) q
     (λ a. halves (leb r limit) (leb 1 i) a (λ x y. let l : 1 ≤ i = leb-true 1 i y in
     record { round = leb-true i 3 p; tag = leb-true r limit x; first = λ e. absurd (omega arith) }))
-    (λ b. let l : r < limit = ltb-true r limit b in record { round = leb-true i 3 p; tag = le-of-lt l; first = λ e. l }))
+    (λ b. let l : r < limit = ltb-true r limit b in record {
+      round = leb-true i 3 p;
+      tag = le-of-lt l;
+      first = λ e. l;
+    }))
   where
     either-cases : {X : Type 0} (a b : Bool) → either a b ≡ true → (a ≡ true → X) → (b ≡ true → X) → X
     either-cases true b h f g = f h

@@ -60,7 +60,8 @@ numbersOk c = numbersWithin (c .n) (c .maxtag) (c .request) (c .kept) (c .wait)
 unfoldable pub tablesOk : Node → Bool
 tablesOk c =
     both (both (heardWithin (c .heard)) (within limit (c .last)))
-    (both (both (within (c .maxtag) (c .atmax)) (within (roundTag (c .wait)) (c .atround))) (within (c .kept) (c .keptview)))
+    (both (both (within (c .maxtag) (c .atmax)) (within (roundTag (c .wait)) (c .atround)))
+    (within (c .kept) (c .keptview)))
 
 unfoldable pub usable : Node → Bool
 usable c = both (sizesOk c) (both (numbersOk c) (tablesOk c))

@@ -14,7 +14,8 @@ use view::NODES;
 ghost use mathlib.Core.Path.{_≡_};
 ghost use Prim.Native.Nat.{_≤_};
 ghost use Rattle.view.specs.Size.{nodes};
-ghost use Rattle.record.specs.Usable.{stillUses, roundTag, roundOk, waitOk, sizesOk, numbersWithin, numbersOk, tablesOk, usable, isOpen, full, staleTag, stale};
+ghost use Rattle.record.specs.Usable.{stillUses, roundTag, roundOk, waitOk, sizesOk, numbersWithin, numbersOk};
+ghost use Rattle.record.specs.Usable.{tablesOk, usable, isOpen, full, staleTag, stale};
 
 // The request numbers that the open operation may still use.
 fn still_uses(wait: Wait) -> u64

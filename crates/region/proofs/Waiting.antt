@@ -14,7 +14,8 @@ use Rattle.octets.specs.Bytes.{part, put}
 use Rattle.octets.specs.Loop.{tab}
 use Rattle.octets.proofs.Put.{part-other, part-front, getD-other, put-one, length-put}
 use Rattle.octets.proofs.Table.{tab-more, tab-cons, tab-ext, tab-none, length-tab}
-use Rattle.region.specs.Channel.{capacity, slotSize, channelSize, countOf, oldest, slotAt, first, push, pop, clear, waiting}
+use Rattle.region.specs.Channel.{capacity, slotSize, channelSize, countOf, oldest, slotAt, first, push, pop}
+use Rattle.region.specs.Channel.{clear, waiting}
 
 -- a byte changed in front of a part leaves the part as it is
 part-set : (b : List ℕ) (i x at len : ℕ) → i < at → at ≤ length b → part (set b i x) at len ≡ part b at len
@@ -70,7 +71,8 @@ waiting-pop {A} g t size some =
     → g (part t (slotAt (h + suc i)) slotSize) ≡ g (part t′ (slotAt ((h + 1) % capacity + i)) slotSize) =
     λ i l. let e : slotAt (h + suc i) ≡ slotAt ((h + 1) % capacity + i) = omega arith in
     ap (λ (j : ℕ). g (part t j slotSize)) e
-    ∙ sym (ap g (part-set b 1 ((h + 1) % capacity) (slotAt ((h + 1) % capacity + i)) slotSize (omega arith) (omega arith)
+    ∙ sym (ap g (part-set b 1 ((h + 1) % capacity) (slotAt ((h + 1) % capacity + i)) slotSize (omega arith)
+    (omega arith)
     ∙ part-set t 0 (k - 1) (slotAt ((h + 1) % capacity + i)) slotSize (omega arith) (omega arith))) in
     rw (lt-ltb 0 k some)
     (ap (λ (j : ℕ). tab j (λ i. g (part t (slotAt (h + i)) slotSize))) one-more

@@ -7,7 +7,8 @@ use crate::places::SLOTS_PLACE;
 ghost use mathlib.Core.Path.{_≡_};
 ghost use Prim.Native.Nat.{_≤_};
 ghost use lib.ListN.{length};
-ghost use Rattle.region.specs.Channel.{channelSize, slotSize, first as firstIn, push as pushed, pop as popped, clear as cleared};
+ghost use Rattle.region.specs.Channel.{channelSize, slotSize, first as firstIn, push as pushed, pop as popped};
+ghost use Rattle.region.specs.Channel.{clear as cleared};
 
 // The capacity as a count.
 const FULL: u8 = CAPACITY as u8;

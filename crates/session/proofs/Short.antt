@@ -18,7 +18,8 @@ use Rattle.input.specs.Input.{feed}
 use Rattle.input.specs.Carry.{eventIn, nodesIn}
 use Rattle.input.specs.declared.Carry.{Carry}
 use Rattle.session.specs.Act.{ran, handler, replyOf, printed}
-use Rattle.session.specs.Progress.{Told, cluster, onCluster, badLine, opened, told, ended, kept, stepped, endedAt, finished}
+use Rattle.session.specs.Progress.{Told, cluster, onCluster, badLine, opened, told, ended, kept, stepped, endedAt}
+use Rattle.session.specs.Progress.{finished}
 use Rattle.session.specs.declared.Stage.{Stage}
 use Rattle.session.specs.declared.Stage.the-variants.{First, Events, Over}
 use Rattle.session.specs.declared.Progress.{Progress}

@@ -1,6 +1,6 @@
 -- What a program that reads a session in pieces may have done: it starts, and takes a piece again and again, of any
--- size. The contracts of start, read and finish are these steps, so that `shown`, what it has printed, and its memory are
--- those of the program.
+-- size. The contracts of start, read and finish are these steps, so that `shown`, what it has printed, and its memory
+-- are those of the program.
 use Prim.Native.Nat.{ℕ}
 use mathlib.Core.Path.{_≡_}
 use mathlib.Core.List.{List, [], _++_}

@@ -312,7 +312,8 @@ fn read_bytes(
     requires { ⌜ length (now piece) ≤ pieceSize ⌝ }
     ensures { λ r. ⌜ (r .progress ≡ turned p (take count (now (piece .entry))) (now (m .entry)) .progress)
         × (now (m .exit) ≡ turned p (take count (now (piece .entry))) (now (m .entry)) .memory)
-        × (now (out .exit) ≡ put (now (out .entry)) 0 (turned p (take count (now (piece .entry))) (now (m .entry)) .text))
+        × (now (out .exit)
+        ≡ put (now (out .entry)) 0 (turned p (take count (now (piece .entry))) (now (m .entry)) .text))
         × (r .end ≡ length (turned p (take count (now (piece .entry))) (now (m .entry)) .text))
         × (r .end ≤ textSize) ⌝ }
 {
@@ -344,7 +345,8 @@ pub fn read(
 ) -> Turn
     ensures { λ r. ⌜ (r .progress ≡ turned p (take count (now (piece .entry))) (now (m .entry)) .progress)
         × (now (m .exit) ≡ turned p (take count (now (piece .entry))) (now (m .entry)) .memory)
-        × (now (out .exit) ≡ put (now (out .entry)) 0 (turned p (take count (now (piece .entry))) (now (m .entry)) .text))
+        × (now (out .exit)
+        ≡ put (now (out .entry)) 0 (turned p (take count (now (piece .entry))) (now (m .entry)) .text))
         × (r .end ≡ length (turned p (take count (now (piece .entry))) (now (m .entry)) .text))
         × (r .end ≤ textSize) ⌝ }
 {

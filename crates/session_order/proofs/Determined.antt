@@ -9,7 +9,8 @@ use Rattle.history.specs.Event as H
 use Rattle.history.specs.Trace.{Trace}
 use Rattle.mirror.specs.Run.{Event}
 use Rattle.session.specs.Progress.{badLine}
-use Rattle.session_order.specs.Lines.{Shows, silence, done, scan, spent, refusal, Lines, none, bad, event, Determined}
+use Rattle.session_order.specs.Lines.{Shows, silence, done, scan, spent, refusal, Lines, none, bad, event}
+use Rattle.session_order.specs.Lines.{Determined}
 
 shown-one : {e c : ℕ} {a : H.Answer} {u v : List ℕ} → Shows e c a u → Shows e c a v → u ≡ v
 shown-one silence silence = refl

@@ -1,5 +1,5 @@
--- However a session is read: what is kept of the line that is being read, and where the session stands, are those of the
--- text so far.
+-- However a session is read: what is kept of the line that is being read, and where the session stands, are those of
+-- the text so far.
 use Prim.Native.Nat.{ℕ}
 use mathlib.Core.Path.{_≡_, refl, sym, ap, ap₂, subst, _∙_}
 use mathlib.Core.Bool.{Bool, true, false}

@@ -1,5 +1,5 @@
--- For each clause of specs/Session a program that it rules out; those for order and quiet are in RuledOutRuns. It is the
--- code's but for what the clause is on, so that the other clauses allow it.
+-- For each clause of specs/Session a program that it rules out; those for order and quiet are in RuledOutRuns. It is
+-- the code's but for what the clause is on, so that the other clauses allow it.
 use Prim.Native.Nat.{ℕ, _≤_}
 use native.Mathlib.Decide.{ℕ-discrete, decLe, decLt}
 use native.Mathlib.Omega.{arith}

@@ -51,12 +51,14 @@ abbrev updating : List R.Event
 updating = R.begin 1 (Update noReport) Whole ∷ replicate 10 (R.deliver 1 1 Whole)
 
 read : (nodesIn updates ≡ 1) × (eventsFrom updates ≡ updating)
-unfolding linesFrom restFrom nodesOf numberOf allDigits value allTo upTo eventOf word fieldLength placeOf after tailOf reportIn allHex hexBytes hexValue tab reportOf part
+unfolding linesFrom restFrom nodesOf numberOf allDigits value allTo upTo eventOf word fieldLength placeOf after tailOf
+    reportIn allHex hexBytes hexValue tab reportOf part
 read = (refl, refl)
 
 -- computed of the algorithm over sets
 unviewed : SingleOrder 1 (map blurred (trace 1 0 channelRoom (map R.meaning updating))) → ⊥
-unfolding traceFrom K.event K.roomy H.sentTo K.entries moveOn kept table newest within has limit same upd upd2 count ℕ-discrete decLe decLt decide firstEnding
+unfolding traceFrom K.event K.roomy H.sentTo K.entries moveOn kept table newest within has limit same upd upd2 count
+    ℕ-discrete decLe decLt decide firstEnding
 unviewed o = let wrong : _≡_ {A = ℕ} 0 1 = o .kinds 0 in omega (arith, wrong)
 
 pub order-out : ¬ SessionsOf (seeing (λ t. map blurred (traceIn t)))

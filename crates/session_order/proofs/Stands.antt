@@ -120,7 +120,8 @@ module _ (m o : List ℕ) (long : length m ≡ memorySize) where
   stands-more (among {l} {ls} {n} {e} z a) w {c} q =
       let r = acts (map eventOf ls) a (eventOf w) in
       let says : eventIn c ≡ eventOf w = ap eventIn q ∙ event-carry w in
-      let all : map eventOf ls ++ (eventOf w ∷ []) ≡ map eventOf (ls ++ (w ∷ [])) = sym (map-append eventOf ls (w ∷ [])) in
+      let all : map eventOf ls ++ (eventOf w ∷ []) ≡ map eventOf (ls ++ (w ∷ [])) = sym
+      (map-append eventOf ls (w ∷ [])) in
       subst (λ (v : Line). Next o (l ∷ (ls ++ (w ∷ []))) (acted n e v m)) (sym says) (
         r .0,
         among z (subst (λ (v : List Line). Among n (next e) v (acted n e (eventOf w) m .memory)

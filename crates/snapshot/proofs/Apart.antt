@@ -144,7 +144,8 @@ handed n a c x b s (refused k) = record { numbered = in-range 7 refl }
 handed n a c x b s (result p) =
     demanded b (not (staleMessage (node b c) a (p .0))) 9 refl
     (demanded b (mayCut n x b) 10 refl
-    (settled n a c x (messageStep (faultsIn b) (node b c) a (p .0) (viewOf n (viewAt n s))) (onBlock c (takeOff a) b) b))
+    (settled n a c x (messageStep (faultsIn b) (node b c) a (p .0) (viewOf n (viewAt n s))) (onBlock c (takeOff a) b)
+    b))
 
 of-deliver : (a c : ℕ) (x : Extent) (b : List ℕ) → Proper (deliver a c x b)
 unfolding deliver
@@ -181,7 +182,8 @@ unfolding front
 of-front n b =
     let m = said b in
     let v = viewAt n b in
-    picked (isSize n) (picked (both (begins b (encode m v)) (allowed n m v)) accepted (in-range 7 refl)) (in-range 1 refl)
+    picked (isSize n) (picked (both (begins b (encode m v)) (allowed n m v)) accepted (in-range 7 refl))
+    (in-range 1 refl)
 
 of-whole : (k : ℕ) (a : Answer (Message × ℕ)) → Numbered a → Numbered (whole k a)
 of-whole k (result p) h = picked (eqb (p .1) k) accepted (in-range 7 refl)

@@ -19,7 +19,8 @@ use Rattle.cluster.specs.Outcome.{toldOf}
 use Rattle.cluster.specs.Stop.{stop}
 use Rattle.snapshot.specs.Code.{lastRefusal, doneFrom, scanFrom, eventCode, ruleIn, codeOf}
 
--- What a code means, v the view beside it, and the rule in it. It names no refusal, so that it stands where others come.
+-- What a code means, v the view beside it, and the rule in it. It names no refusal, so that it stands where others
+-- come.
 abbrev pub meant : ℕ → View → Told
 meant k v =
     pick (eqb k 0) nothing

@@ -1,5 +1,5 @@
--- Every message that a step of a usable record sends is of the layout, and a step sends at most four of them, of at most
--- `stepMost` bytes. Assumes nothing.
+-- Every message that a step of a usable record sends is of the layout, and a step sends at most four of them, of at
+-- most `stepMost` bytes. Assumes nothing.
 use mathlib.Core.Path.{_≡_, refl, sym, ap, _∙_, subst}
 use mathlib.Core.Bool.{true}
 use mathlib.Core.Logic.{_⊎_, ⊎-elim}

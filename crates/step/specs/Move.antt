@@ -72,7 +72,8 @@ heldView c = firstOf (c .n) (c .atround)
 abbrev pub lentView : Node → View
 lentView c = firstOf (c .n) (c .keptview)
 
--- Lines 18 and 19: a good round. After round 0 the renewal begins (lines 7 to 9), any other ends the operation (line 25).
+-- Lines 18 and 19: a good round. After round 0 the renewal begins (lines 7 to 9), any other ends the operation (line
+-- 25).
 unfoldable pub afterGood : Step → Node → Kind → ℕ → ℕ → Step
 afterGood s c k i r =
     pick (eqb i 0)

@@ -134,7 +134,8 @@ pub fn sent_where(flag: bool, m: Message) -> Sent
 
 // What the write of tag t is answered with: first its echo, where it raised `maxtag`.
 pub fn write_sent(grown: bool, q: u64, t: u64) -> Sent
-    ensures { λ r. ⌜ r ≡ pick grown (Sent.Two (Message.Echo t) (Message.WriteAnswer q t)) (Sent.One (Message.WriteAnswer q t)) ⌝ }
+    ensures { λ r. ⌜ r ≡ pick grown (Sent.Two (Message.Echo t) (Message.WriteAnswer q t))
+        (Sent.One (Message.WriteAnswer q t)) ⌝ }
 {
     if grown {
         Sent::Two(

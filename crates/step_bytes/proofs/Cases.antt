@@ -53,7 +53,8 @@ module _ (f : ℕ) (s : Step) where
       → MustWait f (afterRead s (s .node) o t .node) (afterRead s (s .node) o t .node .wait)
   unfolding afterRead opened
   read-waits h (Update p) t =
-      on-pick (λ (u : Step). MustWait f (u .node) (u .node .wait)) (eqb t limit) _ _ (λ e. tt) (λ e. no-quorum (s .node .n) f h)
+      on-pick (λ (u : Step). MustWait f (u .node) (u .node .wait)) (eqb t limit) _ _ (λ e. tt)
+      (λ e. no-quorum (s .node .n) f h)
   read-waits h Scan t = no-quorum (s .node .n) f h
 
   pub read-on : f < s .node .n → {o : Operation} {a m t : ℕ} → s .node .wait ≡ Reading o a m
@@ -94,7 +95,8 @@ module _ (f : ℕ) (s : Step) where
   -- the comparison: a good round, a failed one, and none yet
   module _ (k : Kind) (i r : ℕ) where
     abbrev Agreed : Bool → Type 0
-    Agreed b = isQuorum (s .node .n) f (agreeing (s .node .n) (s .node .own) (s .node .heard) (s .node .atround .tags)) ≡ b
+    Agreed b = isQuorum (s .node .n) f (agreeing (s .node .n) (s .node .own) (s .node .heard) (s .node .atround .tags))
+        ≡ b
 
     still : borrows (afterGood s (s .node) k i r) ≡ afterGood s (s .node) k i r
     unfolding afterGood opened borrowPass
@@ -170,7 +172,8 @@ pub as-step : {s t : Step} {e : Effect} {b : List ℕ} → s ≡ t → isStep e 
 as-step {s} {t} {e} {b} q h = subst (isStep e b) (sym q) h
 
 -- the bytes are left where it must wait
-pub rests : (r : List ℕ) (f to : ℕ) (sent : Sent) {w : Wait} {e : Effect} → recordOf r .wait ≡ w → MustWait f (recordOf r) w
+pub rests : (r : List ℕ) (f to : ℕ) (sent : Sent) {w : Wait} {e : Effect} → recordOf r .wait ≡ w
+    → MustWait f (recordOf r) w
     → r ≡ recordBytes (recordOf r) → e ≡ effectOf to sent Nothing Nothing noView None noView
     → isStep e r (moveOn f (started (recordOf r) to sent))
 rests r f to sent {w} q m b x = as-step (stays f (started (recordOf r) to sent) w q m) (x, b)

@@ -56,7 +56,8 @@ unfolding viewBytes join
 zeros r e = ap (λ (n : ℕ). replicate n 0) e
 
 -- an effect and the bytes of a record, where the step is theirs
-pub is-step : {e x : Effect} {r : List ℕ} {d : Node} {s : Step} → s ≡ stepOf d x → e ≡ x → r ≡ recordBytes d → isStep e r s
+pub is-step : {e x : Effect} {r : List ℕ} {d : Node} {s : Step} → s ≡ stepOf d x → e ≡ x → r ≡ recordBytes d
+    → isStep e r s
 is-step q a b = (a ∙ ap (λ (t : Step). effect t) (sym q), b ∙ ap (λ (t : Step). recordBytes (t .node)) (sym q))
 
 -- ---- the steps after `sent` went to node `to`
@@ -80,7 +81,8 @@ module _ (c : Node) (to : ℕ) (sent : Sent) where
   read-scan t = refl
 
   module _ (k : Kind) (i t : ℕ) where
-    pub good-open : eqb i 0 ≡ true → afterGood (started c to sent) c k i t ≡ stepOf (opened c k 1 (nextTag (c .maxtag) 0 t))
+    pub good-open : eqb i 0 ≡ true → afterGood (started c to sent) c k i t
+        ≡ stepOf (opened c k 1 (nextTag (c .maxtag) 0 t))
         (effectOf to sent Nothing (Two (Good t) (writing c (nextTag (c .maxtag) 0 t))) (heldView c) None noView)
     unfolding afterGood
     good-open e = rw e refl

@@ -67,8 +67,10 @@ first-read n b h =
     let o = view-absent n b h in
     ap₂ (λ (t : List ℕ) (p : List Report). with t p)
     (padded n nodes (λ i. getD (viewOf nodes b .tags) i 0) 0 (viewOf n b .tags) h (o .tags-length)
-    (λ i l. getD-padded nodes nodes (tagAt b) i 0 (omega arith) ∙ sym (getD-padded n nodes (tagAt b) i 0 l)) (o .no-tag))
-    (padded n nodes (λ i. getD (viewOf nodes b .reports) i noReport) noReport (viewOf n b .reports) h (o .reports-length)
+    (λ i l. getD-padded nodes nodes (tagAt b) i 0 (omega arith) ∙ sym (getD-padded n nodes (tagAt b) i 0 l))
+    (o .no-tag))
+    (padded n nodes (λ i. getD (viewOf nodes b .reports) i noReport) noReport (viewOf n b .reports) h
+    (o .reports-length)
     (λ i l. getD-padded nodes nodes (reportAt b) i noReport (omega arith)
     ∙ sym (getD-padded n nodes (reportAt b) i noReport l)) (o .no-report))
   where

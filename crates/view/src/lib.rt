@@ -22,8 +22,8 @@ pub const ENTRY: usize = TAG + REPORT;
 
 pub const VIEW: usize = ENTRY * NODES;
 
-// What one node reports: document 01's report, four counts. The last is the first in memory, so that there a report lies
-// as its number does.
+// What one node reports: document 01's report, four counts. The last is the first in memory, so that there a report
+// lies as its number does.
 pub struct Report {
     pub wakeups: u16,
     pub waiting: u16,

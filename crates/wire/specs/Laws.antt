@@ -16,7 +16,8 @@ use Rattle.wire.specs.declared.Message.the-variants.{Good}
 
 -- What was written is read back, with its view; at the front of bytes whatever stands after it.
 abbrev pub ReadBack : Type 0
-ReadBack = (n : ℕ) (m : Message) (v : List ℕ) → isSize n ≡ true → allowed n m v ≡ true → decode n (encode m v) ≡ result m
+ReadBack = (n : ℕ) (m : Message) (v : List ℕ) → isSize n ≡ true → allowed n m v ≡ true → decode n (encode m v)
+    ≡ result m
 
 abbrev pub ViewBack : Type 0
 ViewBack = (n : ℕ) (m : Message) (v : List ℕ) → isSize n ≡ true → allowed n m v ≡ true

@@ -74,7 +74,8 @@ pub(crate) fn two(out: &mut [u8], k: u8, r: u64, t: u64) -> Written
 }
 
 pub(crate) fn value(out: &mut [u8], t: u64, w: u8, p: Report) -> Written
-    ensures { λ r. ⌜ (written r ≡ pick (leb (length (kind 6 ++ tag t ++ writer w ++ report p)) (length (now (out .entry))))
+    ensures { λ r. ⌜ (written r
+        ≡ pick (leb (length (kind 6 ++ tag t ++ writer w ++ report p)) (length (now (out .entry))))
         (result (length (kind 6 ++ tag t ++ writer w ++ report p))) (refused 12))
         × (now (out .exit) ≡ after (written r) (kind 6 ++ tag t ++ writer w ++ report p) (now (out .entry))) ⌝ }
 {
@@ -91,7 +92,8 @@ pub(crate) fn value(out: &mut [u8], t: u64, w: u8, p: Report) -> Written
 
 pub(crate) fn good(out: &mut [u8], t: u64, v: &[u8]) -> Written
     requires { ⌜ length (now v) ≤ viewSize nodes ⌝ }
-    ensures { λ r. ⌜ (written r ≡ pick (leb (length (kind 7 ++ tag t ++ view (now (v .entry)))) (length (now (out .entry))))
+    ensures { λ r. ⌜ (written r
+        ≡ pick (leb (length (kind 7 ++ tag t ++ view (now (v .entry)))) (length (now (out .entry))))
         (result (length (kind 7 ++ tag t ++ view (now (v .entry))))) (refused 12))
         × (now (out .exit) ≡ after (written r) (kind 7 ++ tag t ++ view (now (v .entry))) (now (out .entry))) ⌝ }
 {

@@ -22,7 +22,8 @@ returns c =
     let p = c .before .before .before .before .before .before .before .before .before .before .put-number .ensures in
     let q = c .before .before .put-number2 .ensures in
     let l : a .at + length (d ++ w) ≡ k + length w = simp length-append (omega (arith, p .1)) in
-    let n : a .at + length (d ++ w ++ decimal (a .x)) ≡ k + length w + length (decimal (a .x)) = simp length-append (omega
+    let n : a .at + length (d ++ w ++ decimal (a .x)) ≡ k + length w + length (decimal (a .x)) = simp length-append
+    (omega
     (arith, p .1)) in (
       put-then o (a .at) (d ++ w) (decimal (a .x)) (k + length w) (omega arith) l
           (put-then o (a .at) d w k (omega arith) (sym (p .1)) (p .0)

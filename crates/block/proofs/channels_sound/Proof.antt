@@ -32,10 +32,19 @@ loop-less : tie.Need-loop-less Inv-loop μ-loop
 loop-less c = search needs
 
 loop-again : tie.Need-loop-again Inv-loop μ-loop
-loop-again c = (search needs, simp (all-more, c .and .ensures, c .before .waiting-in .ensures .0, c .before .before .before .loop .inv .1))
+loop-again c = (
+  search needs,
+  simp (
+    all-more,
+    c .and .ensures,
+    c .before .waiting-in .ensures .0,
+    c .before .before .before .loop .inv .1,
+  ),
+)
 
 returns : tie.Need-returns Inv-loop μ-loop
-returns c = let e : c .before .loop .a ≡ c .before .before .before .args .n = omega arith in rw e at (c .before .loop .inv .1)
+returns c = let e : c .before .loop .a ≡ c .before .before .before .args .n = omega arith in rw e
+    at (c .before .loop .inv .1)
 
 pub channels-sound-spec : {M : Type 1} → statement M
 channels-sound-spec =

@@ -69,7 +69,8 @@ same-length c = search needs
 
 returns : tie.Need-returns Inv-loop μ-loop
 unfolding halt
-returns c = let e : c .before .loop .i ≡ c .before .before .before .args .n = omega arith in rw e at (c .before .loop .inv .2)
+returns c = let e : c .before .loop .i ≡ c .before .before .before .args .n = omega arith in rw e
+    at (c .before .loop .inv .2)
 
 pub halt-node-spec : {M : Type 1} → statement M
 halt-node-spec =

@@ -14,7 +14,8 @@ use Rattle.layout.specs.Layout.{clusterSize, onBlock}
 use Rattle.cluster.proofs.blank_blocks.Tie as tie
 
 abbrev Inv-loop : tie.InvT-loop
-Inv-loop b₀ n i₀ b i = (i ≤ n) × (length b ≡ clusterSize n) × (b ≡ upTo i (λ j. onBlock (j + 1) (keep (blank n (j + 1)))) b₀)
+Inv-loop b₀ n i₀ b i = (i ≤ n) × (length b ≡ clusterSize n) × (b
+    ≡ upTo i (λ j. onBlock (j + 1) (keep (blank n (j + 1)))) b₀)
 
 abbrev μ-loop : tie.MeasureT-loop
 μ-loop b₀ n i₀ b i = n - i

@@ -72,7 +72,8 @@ begin-in-requires c κs =
 step-at-requires : tie.Need-step-at-requires
 step-at-requires c κs =
     let c4 = c .before .before .before .before in
-    let c18 = c4 .before .before .before .before .before .before .before .before .before .before .before .before .before .before in
+    let c14 = c4 .before .before .before .before .before .before .before .before .before .before in
+    let c18 = c14 .before .before .before .before in
     let c23 = c18 .before .before .before .before .before in
     let a = c23 .args in
     let h = c23 .pre .0 in
@@ -90,7 +91,8 @@ step-at-requires c κs =
 same-length-8 : tie.Need-same-length-8
 same-length-8 c =
     let c7 = c .before .before .before .before .before .before .before in
-    let c21 = c7 .before .before .before .before .before .before .before .before .before .before .before .before .before .before in
+    let c17 = c7 .before .before .before .before .before .before .before .before .before .before in
+    let c21 = c17 .before .before .before .before in
     c7 .begin-in .kept .0 ∙ c21 .copy-record-at .kept .1 .1 .0
 
 returns-4 : tie.Need-returns-4

@@ -34,7 +34,8 @@ loop-again c =
     let v = c6 .before .before .args .v .now in
     let i = c6 .loop .i in
     let p : c .before .is-plain .result ≡ plainAt v i =
-    c .before .is-plain .ensures ∙ ap (plain (getD v (16 * i) 0) (getD v (16 * i + 7) 0)) (c .before .before .get-word .ensures) in (
+    c .before .is-plain .ensures ∙ ap (plain (getD v (16 * i) 0) (getD v (16 * i + 7) 0))
+    (c .before .before .get-word .ensures) in (
       search needs,
       c .and .ensures ∙ ap₂ both p (c6 .loop .inv .1) ∙ judged i v,
     )

@@ -53,7 +53,8 @@ loop-again c =
       search needs,
       ap₂ (λ (x y : ℕ). x + y) (c7 .loop .inv .1) (ap (λ (q : Report). q .extensions) p) ∙ sym (sumTo-more i
           (λ j. shown v j .extensions)),
-      ap₂ (λ (x y : ℕ). x + y) (c7 .loop .inv .2) (ap (λ (q : Report). q .lines) p) ∙ sym (sumTo-more i (λ j. shown v j .lines)),
+      ap₂ (λ (x y : ℕ). x + y) (c7 .loop .inv .2) (ap (λ (q : Report). q .lines) p)
+          ∙ sym (sumTo-more i (λ j. shown v j .lines)),
       ap₂ (λ (x y : ℕ). x + y) (c7 .loop .inv .3) (ap (λ (q : Report). q .waiting) p) ∙ sym (sumTo-more i
           (λ j. shown v j .waiting)),
       ap₂ (λ (x y : ℕ). x + y) (c7 .loop .inv .4) (ap (λ (q : Report). q .wakeups) p) ∙ sym (sumTo-more i

@@ -67,7 +67,8 @@ loop-again c = let b = c .before .before .before .before .before .before .args .
     )
 
 returns : tie.Need-returns Inv-loop μ-loop
-returns c = let e : c .before .loop .c ≡ c .before .before .before .args .n = omega arith in rw e at (c .before .loop .inv .1)
+returns c = let e : c .before .loop .c ≡ c .before .before .before .args .n = omega arith in rw e
+    at (c .before .loop .inv .1)
 
 pub blocks-sound-spec : {M : Type 1} → statement M
 blocks-sound-spec =

@@ -22,7 +22,8 @@ blocks-sound-requires : tie.Need-blocks-sound-requires
 blocks-sound-requires c κs =
     let c5 = c .before .before .before .before .before in (
       is-size (c .before .before .index .result) (sym (c .before .and .ensures) ∙ c .if1 .taken) .1,
-      fits-length (c5 .args .b .now) (c .before .before .index .result) (c5 .pre) (c .before .before .index .ensures .0) (sym
+      fits-length (c5 .args .b .now) (c .before .before .index .result) (c5 .pre) (c .before .before .index .ensures .0)
+          (sym
           (c .before .and .ensures) ∙ c .if1 .taken),
     )
 
@@ -49,7 +50,8 @@ returns c =
     let c6 = c3 .before .before .before in
     let c9 = c6 .before .before .before in
     c .and2 .ensures
-    ∙ ap₂ both (c3 .blocks-sound .ensures) (ap₂ leb (c .before .before .stopped-nodes .ensures) (c .before .faults-in .ensures))
+    ∙ ap₂ both (c3 .blocks-sound .ensures) (ap₂ leb (c .before .before .stopped-nodes .ensures)
+    (c .before .faults-in .ensures))
     ∙ sym (sound-sized (c9 .args .b .now) (c6 .index .result) (c6 .index .ensures .0) (sym
     (c3 .before .before .and .ensures) ∙ c3 .before .if1 .taken))
 

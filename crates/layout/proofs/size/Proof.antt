@@ -10,10 +10,12 @@ and-requires : tie.Need-and-requires
 and-requires c κs = search needs
 
 mul-result : tie.Need-mul-result
-mul-result c = let h = is-size (c .before .before .args .n) (sym (c .before .and .ensures) ∙ c .if1 .taken) in omega arith
+mul-result c = let h = is-size (c .before .before .args .n) (sym (c .before .and .ensures)
+    ∙ c .if1 .taken) in omega arith
 
 add-result : tie.Need-add-result
-add-result c = let h = is-size (c .before .before .args .n) (sym (c .before .and .ensures) ∙ c .if1 .taken) in omega arith
+add-result c = let h = is-size (c .before .before .args .n) (sym (c .before .and .ensures)
+    ∙ c .if1 .taken) in omega arith
 
 returns : tie.Need-returns
 unfolding size

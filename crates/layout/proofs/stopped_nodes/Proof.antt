@@ -30,16 +30,35 @@ loop-less : tie.Need-loop-less Inv-loop μ-loop
 loop-less c = search needs
 
 loop-again : tie.Need-loop-again Inv-loop μ-loop
-loop-again c = (search needs, search needs, simp (count-more, sym (c .before .stopped-at .ensures) ∙ c .if1 .taken, c .before .before .before .loop .inv .2))
+loop-again c = (
+  search needs,
+  search needs,
+  simp (
+    count-more,
+    sym (c .before .stopped-at .ensures)
+        ∙ c .if1 .taken,
+    c .before .before .before .loop .inv .2,
+  ),
+)
 
 loop-less-2 : tie.Need-loop-less-2 Inv-loop μ-loop
 loop-less-2 c = search needs
 
 loop-again-2 : tie.Need-loop-again-2 Inv-loop μ-loop
-loop-again-2 c = (search needs, search needs, simp (count-more, sym (c .before .stopped-at .ensures) ∙ c .if1 .left, c .before .before .before .loop .inv .2))
+loop-again-2 c = (
+  search needs,
+  search needs,
+  simp (
+    count-more,
+    sym (c .before .stopped-at .ensures)
+        ∙ c .if1 .left,
+    c .before .before .before .loop .inv .2,
+  ),
+)
 
 returns : tie.Need-returns Inv-loop μ-loop
-returns c = let e : c .before .loop .c ≡ c .before .before .before .args .n = omega arith in rw e at (c .before .loop .inv .2)
+returns c = let e : c .before .loop .c ≡ c .before .before .before .args .n = omega arith in rw e
+    at (c .before .loop .inv .2)
 
 pub stopped-nodes-spec : {M : Type 1} → statement M
 stopped-nodes-spec =

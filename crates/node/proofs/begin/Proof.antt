@@ -79,7 +79,8 @@ returns-5 c =
     let c5 = c .before .before .before .before .before in
     let a = c5 .args in
     let long = le-ltb _ _ (c .before .before .before .if1 .left) in
-    let e = begin-2 (a .c) (a .o) (a .out .now) long (sym (c .before .before .is-usable .ensures) ∙ c .before .if2 .left) in
+    let e = begin-2 (a .c) (a .o) (a .out .now) long (sym (c .before .before .is-usable .ensures)
+    ∙ c .before .if2 .left) in
     subst (tells (c .refused-reply4 .result) _) (sym e) (c .refused-reply4 .ensures _)
 
 pub begin-spec : {M : Type 1} → statement M

@@ -19,5 +19,6 @@ returns-4 c = rw (c .enum-told4 .given .1) (λ v. refl)
 pub said-of-spec : {M : Type 1} → statement M
 said-of-spec =
     tie.close
-    (tie.spec (λ c. search needs) (λ c. search needs) (λ c. search needs) (λ c. search needs) returns returns-2 returns-3
+    (tie.spec (λ c. search needs) (λ c. search needs) (λ c. search needs) (λ c. search needs) returns returns-2
+    returns-3
     returns-4)

@@ -35,4 +35,5 @@ pub is-stale-in-spec : {M : Type 1} → statement M
 is-stale-in-spec =
     tie.close
     (tie.spec (λ c. search needs) (λ c. search needs) (λ c. search needs) (λ c. search needs) (λ c. search needs)
-    (λ c. search needs) stale-in-requires (λ c. search needs) returns returns-2 returns-3 returns-4 returns-5 returns-6 returns-7)
+    (λ c. search needs) stale-in-requires (λ c. search needs) returns returns-2 returns-3 returns-4 returns-5 returns-6
+    returns-7)

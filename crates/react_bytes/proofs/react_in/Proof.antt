@@ -21,7 +21,8 @@ received-in-requires c κs =
 returns : tie.Need-returns
 unfolding react recordOf
 returns c =
-    let r = c .before .before .before .before .before .before .before .before .before .before .before .before .before .args .r .now in
+    let c10 = c .before .before .before .before .before .before .before .before .before .before in
+    let r = c10 .before .before .before .args .r .now in
     let q = c .before .before .before .before .before .before .before .before .before .m .given .0 .0 in
     rw (c .before .before .before .before .before .before .before .before .before .m .given .1) (
       ap (λ (x : ℕ). One (ReadAnswer q x)) (c .before .before .before .before .before .before .get-word .ensures),
@@ -42,8 +43,10 @@ returns-2 c =
     let t = c10 .m2 .given .0 .1 .0 in
     rw (c10 .m2 .given .1) (
       refl,
-      c .before .before .waiting-in2 .ensures ∙ ap (λ (w : Wait). recordBytes (waiting (recordOf r) w)) (c3 .read-wait .ensures
-          ∙ ap₂ (λ (w : Wait) (x : ℕ). readWait x (a .s) q t w) (c6 .load-wait2 .ensures) (c3 .before .get-word2 .ensures)),
+      c .before .before .waiting-in2 .ensures ∙ ap (λ (w : Wait). recordBytes (waiting (recordOf r) w))
+          (c3 .read-wait .ensures
+          ∙ ap₂ (λ (w : Wait) (x : ℕ). readWait x (a .s) q t w) (c6 .load-wait2 .ensures)
+          (c3 .before .get-word2 .ensures)),
     )
 
 returns-3 : tie.Need-returns-3
@@ -66,8 +69,10 @@ returns-4 c =
     let t = c10 .m4 .given .0 .1 .0 in
     rw (c10 .m4 .given .1) (
       refl,
-      c .before .before .waiting-in3 .ensures ∙ ap (λ (w : Wait). recordBytes (waiting (recordOf r) w)) (c3 .write-wait .ensures
-          ∙ ap₂ (λ (w : Wait) (x : ℕ). writeWait x (a .s) q t w) (c6 .load-wait3 .ensures) (c3 .before .get-word3 .ensures)),
+      c .before .before .waiting-in3 .ensures ∙ ap (λ (w : Wait). recordBytes (waiting (recordOf r) w))
+          (c3 .write-wait .ensures
+          ∙ ap₂ (λ (w : Wait) (x : ℕ). writeWait x (a .s) q t w) (c6 .load-wait3 .ensures)
+          (c3 .before .get-word3 .ensures)),
     )
 
 returns-5 : tie.Need-returns-5
@@ -91,10 +96,12 @@ returns-7 c = rw (c .before .before .before .before .before .m7 .given .1) (refl
 pub react-in-spec : {M : Type 1} → statement M
 react-in-spec =
     tie.close
-    (tie.spec (λ c. search needs) (λ c κs. search needs) (λ c κs. search needs) (λ c κs. search needs) (λ c. search needs)
+    (tie.spec (λ c. search needs) (λ c κs. search needs) (λ c κs. search needs) (λ c κs. search needs)
+    (λ c. search needs)
     (λ c κs. search needs) (λ c κs. search needs) (λ c κs. search needs) (λ c κs. search needs) (λ c. search needs)
     (λ c κs. search needs) (λ c κs. search needs) (λ c. search needs) (λ c κs. search needs) (λ c κs. search needs)
     (λ c κs. search needs) (λ c κs. search needs) (λ c. search needs) (λ c κs. search needs) (λ c κs. search needs)
     (λ c. search needs) received-in-requires (λ c κs. search needs) (λ c. search needs) (λ c κs. search needs)
-    (λ c. search needs) returns (λ c. search needs) returns-2 (λ c. search needs) returns-3 (λ c. search needs) returns-4
+    (λ c. search needs) returns (λ c. search needs) returns-2 (λ c. search needs) returns-3 (λ c. search needs)
+    returns-4
     (λ c. search needs) returns-5 (λ c. search needs) returns-6 (λ c. search needs) returns-7)

@@ -32,7 +32,8 @@ returns c =
     c9 .before .and .ensures ∙ ap₂ both fresh (ap (λ (h : Head). leb (a .t) (h .maxtag))
     (c12 .before .before .head-of .ensures)) in
     let round : c6 .before .before .and2 .result ≡ both new (roundHolds (waitIn r) (a .t)) =
-    c6 .before .before .and2 .ensures ∙ ap₂ both fresh (c9 .round-holds .ensures ∙ ap (λ (h : Head). roundHolds (h .wait)
+    c6 .before .before .and2 .ensures ∙ ap₂ both fresh (c9 .round-holds .ensures
+    ∙ ap (λ (h : Head). roundHolds (h .wait)
     (a .t)) (c12 .before .before .head-of .ensures)) in (
       fresh,
       c .before .before .save-head .ensures

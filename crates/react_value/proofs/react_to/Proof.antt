@@ -24,7 +24,8 @@ returns c = rw (c .before .before .m .given .1) (simp (c .started-step .ensures)
 
 returns-2 : tie.Need-returns-2
 unfolding react
-returns-2 c = rw (c .before .before .before .before .m2 .given .1) (simp (c .started-step2 .ensures, c .before .waiting-node .ensures, c .before .before .read-wait .ensures))
+returns-2 c = rw (c .before .before .before .before .m2 .given .1)
+    (simp (c .started-step2 .ensures, c .before .waiting-node .ensures, c .before .before .read-wait .ensures))
 
 returns-3 : tie.Need-returns-3
 unfolding react
@@ -35,7 +36,8 @@ returns-3 c =
 
 returns-4 : tie.Need-returns-4
 unfolding react
-returns-4 c = rw (c .before .before .before .before .m4 .given .1) (simp (c .started-step4 .ensures, c .before .waiting-node2 .ensures, c .before .before .write-wait .ensures))
+returns-4 c = rw (c .before .before .before .before .m4 .given .1)
+    (simp (c .started-step4 .ensures, c .before .waiting-node2 .ensures, c .before .before .write-wait .ensures))
 
 returns-5 : tie.Need-returns-5
 unfolding react
@@ -48,12 +50,17 @@ returns-6 : tie.Need-returns-6
 unfolding react
 returns-6 c =
     let c3 = c .before .before .before in
-    rw (c3 .before .before .m6 .given .1) (simp
-    (c .started-step6 .ensures, c3 .received-node .ensures, c .before .sent-where2 .ensures, c .before .before .tag-of .ensures))
+    rw (c3 .before .before .m6 .given .1) (simp (
+      c .started-step6 .ensures,
+      c3 .received-node .ensures,
+      c .before .sent-where2 .ensures,
+      c .before .before .tag-of .ensures,
+    ))
 
 returns-7 : tie.Need-returns-7
 unfolding react
-returns-7 c = rw (c .before .before .before .m7 .given .1) (simp (c .started-step7 .ensures, c .before .kept-node .ensures))
+returns-7 c = rw (c .before .before .before .m7 .given .1) (simp
+    (c .started-step7 .ensures, c .before .kept-node .ensures))
 
 pub react-to-spec : {M : Type 1} → statement M
 react-to-spec =

@@ -30,7 +30,8 @@ returns-2 c =
 
 returns-3 : tie.Need-returns-3
 unfolding afterRead
-returns-3 c = rw (c .before .before .before .enum-told .given .1) (simp (c .after-reading2 .ensures, c .before .opened-node2 .ensures))
+returns-3 c = rw (c .before .before .before .enum-told .given .1)
+    (simp (c .after-reading2 .ensures, c .before .opened-node2 .ensures))
 
 pub after-read-spec : {M : Type 1} → statement M
 after-read-spec =

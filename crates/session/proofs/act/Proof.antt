@@ -47,7 +47,11 @@ same-length c = search needs
 
 returns : tie.Need-returns
 returns c =
-    rw (c .before .before .before .before .before .before .l .given .1, sym (c .before .before .before .extent-of .ensures))
+    rw (
+      c .before .before .before .before .before .before .l .given .1,
+      sym
+          (c .before .before .before .extent-of .ensures),
+    )
     (c .before .before .begin .ensures)
 
 same-length-2 : tie.Need-same-length-2
@@ -55,7 +59,11 @@ same-length-2 c = search needs
 
 returns-2 : tie.Need-returns-2
 returns-2 c =
-    rw (c .before .before .before .before .before .before .l2 .given .1, sym (c .before .before .before .extent-of2 .ensures))
+    rw (
+      c .before .before .before .before .before .before .l2 .given .1,
+      sym
+          (c .before .before .before .extent-of2 .ensures),
+    )
     (c .before .before .begin2 .ensures)
 
 same-length-3 : tie.Need-same-length-3
@@ -63,7 +71,11 @@ same-length-3 c = search needs
 
 returns-3 : tie.Need-returns-3
 returns-3 c =
-    rw (c .before .before .before .before .before .before .l3 .given .1, sym (c .before .before .before .extent-of3 .ensures))
+    rw (
+      c .before .before .before .before .before .before .l3 .given .1,
+      sym
+          (c .before .before .before .extent-of3 .ensures),
+    )
     (c .before .before .deliver .ensures)
 
 same-length-4 : tie.Need-same-length-4

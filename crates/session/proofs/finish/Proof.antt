@@ -36,23 +36,33 @@ ends o p e = (e .0, e .1 ∙ zero-add (length (finished p)), omega (arith, e .1,
 
 returns : tie.Need-returns
 unfolding finished
-returns c = ends (c .before .before .before .before .args .out .now) (c .before .before .before .before .args .p) (rw (c .before .before .enum-told .given .1) (c .put-bad .ensures))
+returns c = ends (c .before .before .before .before .args .out .now) (c .before .before .before .before .args .p)
+    (rw (c .before .before .enum-told .given .1) (c .put-bad .ensures))
 
 returns-2 : tie.Need-returns-2
 unfolding finished
 returns-2 c =
     let x = c .before .before .before .before .before .args in
-    ends (x .out .now) (x .p) (rw (c .before .before .before .stage .given .1, eq-eqb (x .p .carry .size) 0 (c .if1 .taken)) (sym (put-nil (x .out .now) 0), refl))
+    ends (x .out .now) (x .p) (rw (
+      c .before .before .before .stage .given .1,
+      eq-eqb (x .p .carry .size) 0
+          (c .if1 .taken),
+    ) (sym (put-nil (x .out .now) 0), refl))
 
 returns-3 : tie.Need-returns-3
 unfolding finished
 returns-3 c =
     let x = c .before .before .before .before .before .before .before .args in
-    ends (x .out .now) (x .p) (rw (c .before .before .before .before .before .stage .given .1, ne-eqb (x .p .carry .size) 0 (c .before .before .if1 .left)) (c .put-bad2 .ensures))
+    ends (x .out .now) (x .p) (rw (
+      c .before .before .before .before .before .stage .given .1,
+      ne-eqb
+          (x .p .carry .size) 0 (c .before .before .if1 .left),
+    ) (c .put-bad2 .ensures))
 
 returns-4 : tie.Need-returns-4
 unfolding finished
-returns-4 c = ends (c .before .before .args .out .now) (c .before .before .args .p) (rw (c .enum-told2 .given .1) (sym (put-nil (c .before .before .args .out .now) 0), refl))
+returns-4 c = ends (c .before .before .args .out .now) (c .before .before .args .p)
+    (rw (c .enum-told2 .given .1) (sym (put-nil (c .before .before .args .out .now) 0), refl))
 
 pub finish-spec : {M : Type 1} → statement M
 finish-spec =

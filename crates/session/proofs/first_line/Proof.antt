@@ -15,7 +15,8 @@ same-length c = search needs
 returns : tie.Need-returns
 returns c =
     let e = c .before .before .put-bad .ensures in
-    rw (eq-eqb (c .before .before .before .before .before .before .before .args .n) 0 (c .before .before .before .before .if1 .taken)) (refl, refl, e .0, e .1)
+    rw (eq-eqb (c .before .before .before .before .before .before .before .args .n) 0
+    (c .before .before .before .before .if1 .taken)) (refl, refl, e .0, e .1)
 
 fresh-in-requires : tie.Need-fresh-in-requires
 fresh-in-requires c κs = search needs

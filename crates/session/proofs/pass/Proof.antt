@@ -39,7 +39,12 @@ same-length-2 c = search needs
 
 returns : tie.Need-returns
 unfolding told
-returns c = rw (c .before .before .before .before .before .before .before .before .enum-told .given .1, sym (c .before .before .before .before .before .before .nodes .ensures)) (c .before .before .before .before .first-line .ensures)
+returns c = rw (
+  c .before .before .before .before .before .before .before .before .enum-told .given .1,
+  sym
+      (c .before .before .before .before .before .before .nodes .ensures),
+)
+    (c .before .before .before .before .first-line .ensures)
 
 same-length-3 : tie.Need-same-length-3
 same-length-3 c = search needs
@@ -52,7 +57,8 @@ unfolding told
 returns-2 c =
     let r = c .before .before .before .before .before .run-in .ensures in
     let s = c .before .before .before .before .before .before .before .before .before .before .s .given in
-    rw (s .1, sym (c .before .before .before .before .before .before .before .event .ensures)) (ap (λ k. Events (s .0 .0) k) (c .next .ensures), r .0, r .1, r .2)
+    rw (s .1, sym (c .before .before .before .before .before .before .before .event .ensures))
+    (ap (λ k. Events (s .0 .0) k) (c .next .ensures), r .0, r .1, r .2)
 
 returns-3 : tie.Need-returns-3
 unfolding told

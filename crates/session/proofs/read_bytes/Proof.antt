@@ -27,7 +27,13 @@ step-requires : tie.Need-step-requires Inv-loop μ-loop
 step-requires c κs =
     let n = c .before .before .before .before .before .least .ensures in
     let l = c .before .before .before .loop-test .taken in
-    omega (arith, c .before .before .before .before .loop .inv .1 .short, l, n, c .before .before .before .before .before .before .before .pre)
+    omega (
+      arith,
+      c .before .before .before .before .loop .inv .1 .short,
+      l,
+      n,
+      c .before .before .before .before .before .before .before .pre,
+    )
 
 add-i : tie.Need-add-i Inv-loop μ-loop
 add-i c = search needs
@@ -39,8 +45,11 @@ loop-again : tie.Need-loop-again Inv-loop μ-loop
 loop-again c =
     let e = c .before .step .ensures in
     let l = c .before .before .before .before .before .loop-test .taken in
-    let n = c .before .before .before .before .before .before .before .least .ensures in
-    (omega (arith, l), read-more (c .before .before .before .before .before .before .loop .inv .1) (omega (arith, l, n)) refl (e .0) (e .1) (e .2) (e .3))
+    let n = c .before .before .before .before .before .before .before .least .ensures in (
+      omega (arith, l),
+      read-more (c .before .before .before .before .before .before .loop .inv .1) (omega (arith, l, n))
+          refl (e .0) (e .1) (e .2) (e .3),
+    )
 
 returns : tie.Need-returns Inv-loop μ-loop
 returns c =
@@ -49,7 +58,13 @@ returns c =
     let r = v .inv .1 in
     let n = c .before .before .least .ensures in
     let e = take-least (x .piece .now) (x .count) (v .i) (omega (arith, c .loop-test .left, n)) in
-    rw (sym e) (r .progress, r .memory, r .buffer, r .place, omega (arith, r .short, n, v .inv .0, c .before .before .before .before .pre))
+    rw (sym e) (
+      r .progress,
+      r .memory,
+      r .buffer,
+      r .place,
+      omega (arith, r .short, n, v .inv .0, c .before .before .before .before .pre),
+    )
 
 pub read-bytes-spec : {M : Type 1} → statement M
 read-bytes-spec =

@@ -19,7 +19,8 @@ returns : tie.Need-returns
 returns c = rw (c .before .outcome .given .1) refl
 
 returns-2 : tie.Need-returns-2
-returns-2 c = rw (c .before .before .outcome2 .given .1) (c .ending-at .ensures (c .before .before .before .before .args .a .view))
+returns-2 c = rw (c .before .before .outcome2 .given .1) (c .ending-at .ensures
+    (c .before .before .before .before .args .a .view))
 
 pub reply-at-spec : {M : Type 1} → statement M
 reply-at-spec =

@@ -61,10 +61,14 @@ says e l b k {c} {n} a {r} p q s t =
 
 returns : tie.Need-returns
 returns c =
-    let x = c .before .before .before .before .before .before .before .before .before .before .before .before .before .before .args in
+    let c10 = c .before .before .before .before .before .before .before .before .before .before in
+    let x = c10 .before .before .before .before .args in
     let a = c .before .before .before .before .before .before .before .before .act .ensures in
     let p = c .before .before .put-line .ensures in
-    let s = says (x .e) (x .l) (x .b .now) _ (c .before .before .before .before .before .before .before .before .act .result) (c .before .before .before .before .before .before .before .before .before .before .nodes-in .ensures) (c .before .before .before .before .handler .ensures) (c .before .before .before .reply-at .ensures) a in
+    let s = says (x .e) (x .l) (x .b .now) _
+    (c .before .before .before .before .before .before .before .before .act .result)
+    (c .before .before .before .before .before .before .before .before .before .before .nodes-in .ensures)
+    (c .before .before .before .before .handler .ensures) (c .before .before .before .reply-at .ensures) a in
     rw (sym s) (a .3, p .0, p .1)
 
 pub run-at-spec : {M : Type 1} → statement M

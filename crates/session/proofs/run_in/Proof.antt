@@ -38,7 +38,8 @@ returns c =
     let z = zero-add (lent n) ∙ sym (c .before .before .before .before .before .before .before .lent-for .ensures .0) in
     let r = c .before .before .before .before .run-at .ensures in
     let s = sym (part-of m 0 (lent n) z) in (
-      lent-back m 0 (lent n) (λ b. ran (x .l) b .bytes) z (omega arith) (c .before .before .before .before .run-at .kept .0) (r .0),
+      lent-back m 0 (lent n) (λ b. ran (x .l) b .bytes) z (omega arith)
+          (c .before .before .before .before .run-at .kept .0) (r .0),
       rw s (r .1),
       rw s (r .2),
     )

@@ -18,7 +18,12 @@ returns : tie.Need-returns
 unfolding stepped
 returns c =
     let p = c .before .pass .ensures in
-    rw (eq-eqb (c .before .before .before .before .before .args .x) feed (c .before .before .before .before .if1 .taken), sym (c .none .ensures), sym (p .0)) (refl, p .1, p .2, p .3)
+    rw (
+      eq-eqb (c .before .before .before .before .before .args .x) feed
+          (c .before .before .before .before .if1 .taken),
+      sym (c .none .ensures),
+      sym (p .0),
+    ) (refl, p .1, p .2, p .3)
 
 push-requires : tie.Need-push-requires
 push-requires c κs = search needs

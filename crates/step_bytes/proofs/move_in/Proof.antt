@@ -38,7 +38,8 @@ returns c =
     let y = c .before .before .before .before .before .before .before .if1 .taken in
     let m = c .before .before .before .before .get-word .ensures ∙ maxtag-of r in
     let t = c .before .before .before .larger .ensures ∙ ap (max (v .0 .1 .1 .0)) m in
-    as-step (read-on (a .f) (started (recordOf r) (a .to) (a .sent)) l w (sym q ∙ y) t) (c .before .before .read-in .ensures)
+    as-step (read-on (a .f) (started (recordOf r) (a .to) (a .sent)) l w (sym q ∙ y) t)
+    (c .before .before .read-in .ensures)
 
 compare-in-requires : tie.Need-compare-in-requires
 compare-in-requires c κs =
@@ -59,16 +60,19 @@ returns-2 c =
     let w = sym (b .before .before .load-wait .ensures ∙ wait-of r) ∙ v .1 in
     let k = c .before .before .before .before .before .before .members2 .ensures in
     let n = b .before .before .before .before .before .pre .1 in
-    let q = answered-of r (a .f) n (c .before .before .before .before .before .is-quorum2 .ensures) (v .0 .1 .1 .1 .0) k in
+    let q = answered-of r (a .f) n (c .before .before .before .before .before .is-quorum2 .ensures) (v .0 .1 .1 .1 .0)
+    k in
     let y = c .before .before .before .before .if2 .taken in
-    as-step (write-on (a .f) (started (recordOf r) (a .to) (a .sent)) w (sym q ∙ y)) (c .before .before .compare-in .ensures)
+    as-step (write-on (a .f) (started (recordOf r) (a .to) (a .sent)) w (sym q ∙ y))
+    (c .before .before .compare-in .ensures)
 
 compare-in-requires-2 : tie.Need-compare-in-requires-2
 compare-in-requires-2 c κs =
     let r = c .before .before .before .before .before .before .before .args .r .now in
     let h = c .before .before .before .before .before .before .before .pre in
     let p = parts (recordOf r) (h .4) in
-    let w = sym (c .before .before .before .before .load-wait .ensures ∙ wait-of r) ∙ c .before .before .kind2 .given .1 in
+    let w = sym (c .before .before .before .before .load-wait .ensures ∙ wait-of r)
+    ∙ c .before .before .kind2 .given .1 in
     (h .0, h .1, h .2, p .request-high, comparing-most (recordOf r) p w .tag)
 
 returns-3 : tie.Need-returns-3
@@ -87,7 +91,8 @@ returns-4 c =
     let a = c .before .before .before .before .before .before .args in
     let r = a .r .now in
     let w = sym (c .before .before .before .load-wait .ensures ∙ wait-of r) ∙ c .before .enum-told .given .1 in
-    rests r (a .f) (a .to) (a .sent) w tt (c .before .before .before .before .before .before .pre .5) (c .rested .ensures)
+    rests r (a .f) (a .to) (a .sent) w tt (c .before .before .before .before .before .before .pre .5)
+    (c .rested .ensures)
 
 returns-5 : tie.Need-returns-5
 returns-5 c =
@@ -136,10 +141,13 @@ returns-8 c =
 pub move-in-spec : {M : Type 1} → statement M
 move-in-spec =
     tie.close
-    (tie.spec (λ c κs. search needs) (λ c. search needs) (λ c κs. search needs) (λ c. search needs) (λ c κs. search needs)
+    (tie.spec (λ c κs. search needs) (λ c. search needs) (λ c κs. search needs) (λ c. search needs)
+    (λ c κs. search needs)
     (λ c κs. search needs) (λ c κs. search needs) (λ c κs. search needs) read-in-requires (λ c. search needs) returns
     (λ c κs. search needs) (λ c. search needs) (λ c κs. search needs) (λ c κs. search needs) compare-in-requires
     (λ c. search needs) returns-2 (λ c κs. search needs) (λ c. search needs) compare-in-requires-2 (λ c. search needs)
-    (λ c κs. search needs) (λ c κs. search needs) (λ c. search needs) returns-3 (λ c κs. search needs) (λ c. search needs)
-    returns-4 (λ c. search needs) returns-5 (λ c. search needs) returns-6 (λ c. search needs) returns-7 (λ c. search needs)
+    (λ c κs. search needs) (λ c κs. search needs) (λ c. search needs) returns-3 (λ c κs. search needs)
+    (λ c. search needs)
+    returns-4 (λ c. search needs) returns-5 (λ c. search needs) returns-6 (λ c. search needs) returns-7
+    (λ c. search needs)
     returns-8)

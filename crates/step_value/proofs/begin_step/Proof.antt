@@ -11,7 +11,8 @@ begun-step-requires c κs = parts _ (c .pre .0) .request-high
 
 move-on-requires : tie.Need-move-on-requires
 move-on-requires c κs = let p = c .before .pre in
-    rw (c .begun-step .ensures) (usable-of _ (begun-parts (c .before .args .c) (c .before .args .o) (parts _ (p .0)) (p .1) (p .2)))
+    rw (c .begun-step .ensures) (usable-of _ (begun-parts (c .before .args .c) (c .before .args .o) (parts _ (p .0))
+    (p .1) (p .2)))
 
 returns : tie.Need-returns
 unfolding beginStep

@@ -24,7 +24,8 @@ react-to-requires c κs = let p = c .pre in (p .1, p .2, parts _ (p .0) .n-high,
 move-on-requires : tie.Need-move-on-requires
 move-on-requires c κs = let a = c .before .args in
     let p = c .before .pre in
-    rw (c .react-to .ensures) (usable-of _ (react-parts (a .c) (a .s) (a .m) (a .v) (parts _ (p .0)) (long (c .before)) (p .1) (p .2) (p .3)))
+    rw (c .react-to .ensures) (usable-of _ (react-parts (a .c) (a .s) (a .m) (a .v) (parts _ (p .0)) (long (c .before))
+    (p .1) (p .2) (p .3)))
 
 returns : tie.Need-returns
 unfolding messageStep

@@ -11,7 +11,12 @@ use Rattle.view.proofs.report_bytes.Tie as tie
 returns : tie.Need-returns
 returns c =
     c .digits8 .ensures ∙ ap (be reportSize) (c .before .report-number .ensures)
-    ∙ number-bytes (c .before .before .args .p) (record { extensions = search needs; lines = search needs; waiting = search needs; wakeups = search needs })
+    ∙ number-bytes (c .before .before .args .p) (record {
+      extensions = search needs;
+      lines = search needs;
+      waiting = search needs;
+      wakeups = search needs;
+    })
 
 pub report-bytes-spec : {M : Type 1} → statement M
 report-bytes-spec = tie.close (tie.spec (λ c κs. search needs) (λ c κs. search needs) returns)

@@ -7,7 +7,8 @@ use Rattle.wire.proofs.parse_prefix.Statement.{statement}
 use Rattle.wire.proofs.parse_prefix.Tie as tie
 
 at-front-requires : tie.Need-at-front-requires
-at-front-requires c κs = size-most (c .before .before .before .args .n) (sym (c .before .is-size .ensures) ∙ c .if1 .taken)
+at-front-requires c κs = size-most (c .before .before .before .args .n)
+    (sym (c .before .is-size .ensures) ∙ c .if1 .taken)
 
 returns : tie.Need-returns
 returns c =
@@ -17,7 +18,8 @@ returns c =
     (sym (c .before .before .is-size .ensures) ∙ c .before .if1 .taken))
 
 returns-2 : tie.Need-returns-2
-returns-2 c = sym (front-size (c .before .before .before .args .n) (c .before .before .before .args .b .now) (sym (c .before .is-size .ensures) ∙ c .if1 .left))
+returns-2 c = sym (front-size (c .before .before .before .args .n) (c .before .before .before .args .b .now)
+    (sym (c .before .is-size .ensures) ∙ c .if1 .left))
 
 pub parse-prefix-spec : {M : Type 1} → statement M
 parse-prefix-spec = tie.close (tie.spec (λ c κs. search needs) at-front-requires returns returns-2)

@@ -48,7 +48,11 @@ returns c =
     let c7 = c4 .before .before .before in
     let c10 = c7 .before .before .before in
     rw (c7 .m .given .1)
-    (simp (sym (c10 .is-size .ensures) ∙ c7 .before .before .if1 .taken, sym (c4 .before .is-request .ensures) ∙ c4 .if2 .taken)
+    (simp (
+      sym (c10 .is-size .ensures) ∙ c7 .before .before .if1 .taken,
+      sym (c4 .before .is-request .ensures)
+          ∙ c4 .if2 .taken,
+    )
     (c .before .before .one .ensures))
 
 returns-2 : tie.Need-returns-2
@@ -57,7 +61,11 @@ returns-2 c =
     let c3 = c .before .before .before in
     let c6 = c3 .before .before .before in (
       rw (c3 .m .given .1)
-          (simp (sym (c6 .is-size .ensures) ∙ c3 .before .before .if1 .taken, sym (c .before .is-request .ensures) ∙ c .if2 .left)),
+          (simp (
+            sym (c6 .is-size .ensures) ∙ c3 .before .before .if1 .taken,
+            sym (c .before .is-request .ensures)
+                ∙ c .if2 .left,
+          )),
       refl,
     )
 
@@ -68,7 +76,11 @@ returns-3 c =
     let c7 = c4 .before .before .before in
     let c10 = c7 .before .before .before in
     rw (c7 .m2 .given .1)
-    (simp (sym (c10 .is-size .ensures) ∙ c7 .before .before .if1 .taken, sym (c4 .before .is-pair .ensures) ∙ c4 .if3 .taken)
+    (simp (
+      sym (c10 .is-size .ensures) ∙ c7 .before .before .if1 .taken,
+      sym (c4 .before .is-pair .ensures)
+          ∙ c4 .if3 .taken,
+    )
     (c .before .before .two .ensures))
 
 returns-4 : tie.Need-returns-4
@@ -77,7 +89,11 @@ returns-4 c =
     let c3 = c .before .before .before in
     let c6 = c3 .before .before .before in (
       rw (c3 .m2 .given .1)
-          (simp (sym (c6 .is-size .ensures) ∙ c3 .before .before .if1 .taken, sym (c .before .is-pair .ensures) ∙ c .if3 .left)),
+          (simp (
+            sym (c6 .is-size .ensures) ∙ c3 .before .before .if1 .taken,
+            sym (c .before .is-pair .ensures)
+                ∙ c .if3 .left,
+          )),
       refl,
     )
 
@@ -88,7 +104,11 @@ returns-5 c =
     let c7 = c4 .before .before .before in
     let c10 = c7 .before .before .before in
     rw (c7 .m3 .given .1)
-    (simp (sym (c10 .is-size .ensures) ∙ c7 .before .before .if1 .taken, sym (c4 .before .is-pair2 .ensures) ∙ c4 .if4 .taken)
+    (simp (
+      sym (c10 .is-size .ensures) ∙ c7 .before .before .if1 .taken,
+      sym (c4 .before .is-pair2 .ensures)
+          ∙ c4 .if4 .taken,
+    )
     (c .before .before .two2 .ensures))
 
 returns-6 : tie.Need-returns-6
@@ -97,7 +117,11 @@ returns-6 c =
     let c3 = c .before .before .before in
     let c6 = c3 .before .before .before in (
       rw (c3 .m3 .given .1)
-          (simp (sym (c6 .is-size .ensures) ∙ c3 .before .before .if1 .taken, sym (c .before .is-pair2 .ensures) ∙ c .if4 .left)),
+          (simp (
+            sym (c6 .is-size .ensures) ∙ c3 .before .before .if1 .taken,
+            sym (c .before .is-pair2 .ensures)
+                ∙ c .if4 .left,
+          )),
       refl,
     )
 
@@ -108,7 +132,11 @@ returns-7 c =
     let c7 = c4 .before .before .before in
     let c10 = c7 .before .before .before in
     rw (c7 .m4 .given .1)
-    (simp (sym (c10 .is-size .ensures) ∙ c7 .before .before .if1 .taken, sym (c4 .before .is-pair3 .ensures) ∙ c4 .if5 .taken)
+    (simp (
+      sym (c10 .is-size .ensures) ∙ c7 .before .before .if1 .taken,
+      sym (c4 .before .is-pair3 .ensures)
+          ∙ c4 .if5 .taken,
+    )
     (c .before .before .two3 .ensures))
 
 returns-8 : tie.Need-returns-8
@@ -117,7 +145,11 @@ returns-8 c =
     let c3 = c .before .before .before in
     let c6 = c3 .before .before .before in (
       rw (c3 .m4 .given .1)
-          (simp (sym (c6 .is-size .ensures) ∙ c3 .before .before .if1 .taken, sym (c .before .is-pair3 .ensures) ∙ c .if5 .left)),
+          (simp (
+            sym (c6 .is-size .ensures) ∙ c3 .before .before .if1 .taken,
+            sym (c .before .is-pair3 .ensures)
+                ∙ c .if5 .left,
+          )),
       refl,
     )
 
@@ -128,7 +160,11 @@ returns-9 c =
     let c7 = c4 .before .before .before in
     let c10 = c7 .before .before .before in
     rw (c7 .m5 .given .1)
-    (simp (sym (c10 .is-size .ensures) ∙ c7 .before .before .if1 .taken, sym (c4 .before .is-request2 .ensures) ∙ c4 .if6 .taken)
+    (simp (
+      sym (c10 .is-size .ensures) ∙ c7 .before .before .if1 .taken,
+      sym (c4 .before .is-request2 .ensures)
+          ∙ c4 .if6 .taken,
+    )
     (c .before .before .one2 .ensures))
 
 returns-10 : tie.Need-returns-10
@@ -137,7 +173,11 @@ returns-10 c =
     let c3 = c .before .before .before in
     let c6 = c3 .before .before .before in (
       rw (c3 .m5 .given .1)
-          (simp (sym (c6 .is-size .ensures) ∙ c3 .before .before .if1 .taken, sym (c .before .is-request2 .ensures) ∙ c .if6 .left)),
+          (simp (
+            sym (c6 .is-size .ensures) ∙ c3 .before .before .if1 .taken,
+            sym (c .before .is-request2 .ensures)
+                ∙ c .if6 .left,
+          )),
       refl,
     )
 
@@ -148,7 +188,11 @@ returns-11 c =
     let c7 = c4 .before .before .before in
     let c10 = c7 .before .before .before in
     rw (c7 .m6 .given .1)
-    (simp (sym (c10 .is-size .ensures) ∙ c7 .before .before .if1 .taken, sym (c4 .before .is-sent .ensures) ∙ c4 .if7 .taken)
+    (simp (
+      sym (c10 .is-size .ensures) ∙ c7 .before .before .if1 .taken,
+      sym (c4 .before .is-sent .ensures)
+          ∙ c4 .if7 .taken,
+    )
     (c .before .before .value .ensures))
 
 returns-12 : tie.Need-returns-12
@@ -157,7 +201,11 @@ returns-12 c =
     let c3 = c .before .before .before in
     let c6 = c3 .before .before .before in (
       rw (c3 .m6 .given .1)
-          (simp (sym (c6 .is-size .ensures) ∙ c3 .before .before .if1 .taken, sym (c .before .is-sent .ensures) ∙ c .if7 .left)),
+          (simp (
+            sym (c6 .is-size .ensures) ∙ c3 .before .before .if1 .taken,
+            sym (c .before .is-sent .ensures)
+                ∙ c .if7 .left,
+          )),
       refl,
     )
 
@@ -168,7 +216,11 @@ returns-13 c =
     let c7 = c4 .before .before .before in
     let c10 = c7 .before .before .before in
     rw (c7 .m7 .given .1)
-    (simp (sym (c10 .is-size .ensures) ∙ c7 .before .before .if1 .taken, sym (c4 .before .is-held .ensures) ∙ c4 .if8 .taken)
+    (simp (
+      sym (c10 .is-size .ensures) ∙ c7 .before .before .if1 .taken,
+      sym (c4 .before .is-held .ensures)
+          ∙ c4 .if8 .taken,
+    )
     (c .before .before .good2 .ensures))
 
 returns-14 : tie.Need-returns-14
@@ -177,7 +229,11 @@ returns-14 c =
     let c3 = c .before .before .before in
     let c6 = c3 .before .before .before in (
       rw (c3 .m7 .given .1)
-          (simp (sym (c6 .is-size .ensures) ∙ c3 .before .before .if1 .taken, sym (c .before .is-held .ensures) ∙ c .if8 .left)),
+          (simp (
+            sym (c6 .is-size .ensures) ∙ c3 .before .before .if1 .taken,
+            sym (c .before .is-held .ensures)
+                ∙ c .if8 .left,
+          )),
       refl,
     )
 

@@ -43,14 +43,16 @@ returns-2 c =
     let c3 = c .before .before .before in
     let a = c3 .before .before .args in
     judged-other (a .n) (a .c) (a .r .now)
-    (sym (c .before .and .ensures ∙ ap₂ both (ap (λ (x : ℕ). eqb x (a .n)) (c3 .get-word .ensures)) (ap (λ (x : ℕ). eqb x
+    (sym (c .before .and .ensures ∙ ap₂ both (ap (λ (x : ℕ). eqb x (a .n)) (c3 .get-word .ensures))
+    (ap (λ (x : ℕ). eqb x
     (a .c)) (c .before .before .get-word2 .ensures)))
     ∙ c .if1 .left)
 
 pub record-sound-spec : {M : Type 1} → statement M
 record-sound-spec =
     tie.close
-    (tie.spec (λ c κs. search needs) (λ c κs. search needs) (λ c κs. search needs) (λ c κs. search needs) (λ c κs. search needs)
+    (tie.spec (λ c κs. search needs) (λ c κs. search needs) (λ c κs. search needs) (λ c κs. search needs)
+    (λ c κs. search needs)
     (λ c κs. search needs) (λ c κs. search needs) (λ c κs. search needs) (λ c κs. search needs) (λ c κs. search needs)
     (λ c κs. search needs) (λ c κs. search needs) (λ c κs. search needs) (λ c κs. search needs) (λ c κs. search needs)
     (λ c κs. search needs) (λ c κs. search needs) returns returns-2)

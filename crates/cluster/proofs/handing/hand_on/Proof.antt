@@ -66,7 +66,8 @@ returns-2 c =
 
 handle-first-requires : tie.Need-handle-first-requires
 handle-first-requires c κs =
-    let c16 = c .before .before .before .before .before .before .before .before .before .before .before .before .before .before .before .before in
+    let c10 = c .before .before .before .before .before .before .before .before .before .before in
+    let c16 = c10 .before .before .before .before .before .before in
     let a = c16 .args in
     let h = c16 .pre .0 in (
       h .small,
@@ -81,7 +82,8 @@ handle-first-requires c κs =
 
 faults-in-requires : tie.Need-faults-in-requires
 faults-in-requires c κs =
-    let c21 = c .before .before .before .before .before .before .before .before .before .before .before .before .before .before .before .before .before .before .before .before .before in
+    let c10 = c .before .before .before .before .before .before .before .before .before .before in
+    let c21 = c10 .before .before .before .before .before .before .before .before .before .before .before in
     let h = c21 .pre .0 .long in omega arith
 
 move-in-requires : tie.Need-move-in-requires

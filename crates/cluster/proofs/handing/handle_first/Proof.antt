@@ -32,10 +32,13 @@ returns : tie.Need-returns
 returns c =
     let a = c .before .before .before .before .before .before .before .before .args in
     let n = a .n in
-    let e = ap (λ (t : List ℕ). viewOf n t) (lent (c .before .before .before .before .before .first-at .result .now) goodHead (viewSize n) refl)
+    let e = ap (λ (t : List ℕ). viewOf n t) (lent (c .before .before .before .before .before .first-at .result .now)
+    goodHead (viewSize n) refl)
     ∙ ap (λ (t : List ℕ). viewOf n (viewAt n t)) (c .before .before .before .before .before .first-at .ensures) in (
-      c .before .before .react-in .ensures .0 ∙ ap (λ (v : View). react (recordOf (a .r .now)) (a .a) (a .m) v .outbox .handler) e,
-      c .before .before .react-in .ensures .1 ∙ ap (λ (v : View). recordBytes (react (recordOf (a .r .now)) (a .a) (a .m) v .node)) e,
+      c .before .before .react-in .ensures .0 ∙ ap (λ (v : View). react (recordOf (a .r .now)) (a .a) (a .m)
+          v .outbox .handler) e,
+      c .before .before .react-in .ensures .1 ∙ ap (λ (v : View). recordBytes
+          (react (recordOf (a .r .now)) (a .a) (a .m) v .node)) e,
     )
 
 pub handle-first-spec : {M : Type 1} → statement M

@@ -50,7 +50,8 @@ returns c =
     let w = c6 .write-view in
     let view = front-is (a .n) _ refl (p .1) (w .last .1 .1 .0) (w .kept .1 .1 .0) (a .o .view) (w .ensures) in (
       c .before .before .emit-parts .ensures .0 ∙ ap (λ (v : List ℕ). length (run v (messages (a .o)))) view,
-      c .before .before .emit-parts .ensures .1 ∙ ap (λ (v : List ℕ). put (a .out .now) 0 (run v (messages (a .o)))) view,
+      c .before .before .emit-parts .ensures .1 ∙ ap (λ (v : List ℕ). put (a .out .now) 0 (run v (messages (a .o))))
+          view,
     )
 
 pub emit-all-spec : {M : Type 1} → statement M

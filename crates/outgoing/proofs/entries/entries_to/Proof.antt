@@ -40,7 +40,8 @@ returns c =
     let x = entriesOf n a v (listed (c3 .before .before .args .o .handler)) in
     let y = entriesOf n a v (listed (c3 .before .before .args .o .reading)) in
     let z = entriesOf n a v (listed (c3 .before .before .args .o .comparing)) in
-    let second : c3 .before .left-past .result ≡ c3 .before .before .args .left - length x = c3 .before .left-past .ensures a v in
+    let second : c3 .before .left-past .result ≡ c3 .before .before .args .left - length
+    x = c3 .before .left-past .ensures a v in
     let third : c3 .left-past2 .result ≡ c3 .before .before .args .left - length x - length y =
     c3 .left-past2 .ensures a v ∙ ap (λ (k : ℕ). k - length y) second in (
       omega (arith, c .before .before .sent-to .ensures .0, c .before .sent-to2 .ensures .0, c .sent-to3 .ensures .0),

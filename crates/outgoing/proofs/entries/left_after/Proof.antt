@@ -17,13 +17,15 @@ less-requires-2 c κs = search needs
 returns : tie.Need-returns
 returns c =
     let c3 = c .before .before .before in
-    λ a v. c .less .ensures ∙ ap (λ (k : ℕ). c3 .args .left - k) (sym (length-answer (c3 .args .n) a v (c3 .args .m) (sym
+    λ a v. c .less .ensures ∙ ap (λ (k : ℕ). c3 .args .left - k)
+    (sym (length-answer (c3 .args .n) a v (c3 .args .m) (sym
     (c .before .before .is-answer .ensures) ∙ c .before .if1 .taken)))
 
 returns-2 : tie.Need-returns-2
 returns-2 c =
     let c3 = c .before .before .before in
-    λ a v. c .less2 .ensures ∙ ap (λ (k : ℕ). c3 .args .left - k) (sym (length-others (c3 .args .n) a v (c3 .args .m) (sym
+    λ a v. c .less2 .ensures ∙ ap (λ (k : ℕ). c3 .args .left - k)
+    (sym (length-others (c3 .args .n) a v (c3 .args .m) (sym
     (c .before .before .is-answer .ensures) ∙ c .before .if1 .left)))
 
 pub left-after-spec : {M : Type 1} → statement M

@@ -31,7 +31,8 @@ left-after-requires-3 : tie.Need-left-after-requires-3
 left-after-requires-3 c κs = search needs
 
 returns : tie.Need-returns
-returns c = λ a v. rw (c .enum-told .given .1) (sym (nothing-left (c .before .before .args .left) (c .before .before .args .n) a v))
+returns c = λ a v. rw (c .enum-told .given .1) (sym (nothing-left (c .before .before .args .left)
+    (c .before .before .args .n) a v))
 
 returns-2 : tie.Need-returns-2
 returns-2 c =

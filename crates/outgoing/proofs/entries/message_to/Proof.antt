@@ -33,7 +33,8 @@ returns-3 c =
     let c3 = c .before .before .before in (
       omega arith,
       λ v. sym (others-reach (c3 .args .b) (c3 .args .left) (c3 .args .n) (c3 .args .a) v (c3 .args .m)
-          (sym (c .before .before .is-answer .ensures) ∙ c .before .if1 .left) (omega arith) (omega arith) (c .if3 .taken)),
+          (sym (c .before .before .is-answer .ensures) ∙ c .before .if1 .left) (omega arith) (omega arith)
+          (c .if3 .taken)),
     )
 
 returns-4 : tie.Need-returns-4

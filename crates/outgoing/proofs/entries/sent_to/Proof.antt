@@ -36,7 +36,12 @@ add-result : tie.Need-add-result
 add-result c = search needs
 
 returns : tie.Need-returns
-returns c = (omega arith, λ v. rw (c .enum-told .given .1) (sym (nothing-to (c .before .before .args .b) (c .before .before .args .left) (c .before .before .args .n) (c .before .before .args .a) v)))
+returns c = (
+  omega arith,
+  λ v. rw (c .enum-told .given .1) (sym
+      (nothing-to (c .before .before .args .b) (c .before .before .args .left) (c .before .before .args .n)
+      (c .before .before .args .a) v)),
+)
 
 returns-2 : tie.Need-returns-2
 returns-2 c =
@@ -53,7 +58,8 @@ returns-3 c =
       omega (arith, c .before .before .message-to2 .ensures .0, c .message-to3 .ensures .0),
       λ v. rw (c4 .s2 .given .1)
           (two-to (c4 .before .before .args .b) (c4 .before .before .args .left) (c4 .before .before .args .n)
-          (c4 .before .before .args .a) v _ _ (c .before .before .message-to2 .ensures .1 v) (c .before .left-after .ensures
+          (c4 .before .before .args .a) v _ _ (c .before .before .message-to2 .ensures .1 v)
+          (c .before .left-after .ensures
           (c4 .before .before .args .a) v)
           (c .message-to3 .ensures .1 v)),
     )

@@ -41,7 +41,8 @@ returns c =
     let x = c .before .before .before .before .before .before .before .before .before .before .before .args in
     let v = viewBytes (x .n) (x .v) in
     written-is (x .n) (x .m) v _ (x .s .now)
-    (front-put (x .w .now) v (viewSize (x .n)) (length-viewBytes (x .n) (x .v)) (c .before .before .before .before .before .before .before .write-view .ensures))
+    (front-put (x .w .now) v (viewSize (x .n)) (length-viewBytes (x .n) (x .v))
+    (c .before .before .before .before .before .before .before .write-view .ensures))
     (omega arith) (c .before .before .write .ensures .0) (c .before .before .write .ensures .1)
 
 pub write-slot-spec : {M : Type 1} → statement M

@@ -11,7 +11,8 @@ use Rattle.outgoing.specs.Room.{roomBefore}
 use Rattle.outgoing.proofs.judge.has_room.Tie as tie
 
 abbrev Inv-loop : tie.InvT-loop
-Inv-loop b n a c cut gone o left ok₀ k₀ ok k = (k ≤ n) × (ok ≡ all k (roomBefore cut gone c (take left (entries n a o)) b))
+Inv-loop b n a c cut gone o left ok₀ k₀ ok k = (k ≤ n) × (ok
+    ≡ all k (roomBefore cut gone c (take left (entries n a o)) b))
 
 abbrev μ-loop : tie.MeasureT-loop
 μ-loop b n a c cut gone o left ok₀ k₀ ok k = n - k
@@ -32,10 +33,19 @@ loop-less : tie.Need-loop-less Inv-loop μ-loop
 loop-less c = search needs
 
 loop-again : tie.Need-loop-again Inv-loop μ-loop
-loop-again c = (search needs, simp (all-more, c .and .ensures, c .before .room-at .ensures, c .before .before .before .loop .inv .1))
+loop-again c = (
+  search needs,
+  simp (
+    all-more,
+    c .and .ensures,
+    c .before .room-at .ensures,
+    c .before .before .before .loop .inv .1,
+  ),
+)
 
 returns : tie.Need-returns Inv-loop μ-loop
-returns c = let e : c .before .loop .k ≡ c .before .before .before .args .n = omega arith in rw e at (c .before .loop .inv .1)
+returns c = let e : c .before .loop .k ≡ c .before .before .before .args .n = omega arith in rw e
+    at (c .before .loop .inv .1)
 
 pub has-room-spec : {M : Type 1} → statement M
 has-room-spec =

@@ -13,7 +13,8 @@ use Rattle.outgoing.proofs.Out.{let-nothing, let-answer, let-others}
 use Rattle.outgoing.proofs.sending.let_message.Tie as tie
 
 abbrev Inv-loop : tie.InvT-loop
-Inv-loop b₀ n a c left s upto k₀ b k = (k ≤ upto) × (length b ≡ clusterSize n) × (b ≡ upTo k (λ i. onBlock (i + 1) (receive c s)) b₀)
+Inv-loop b₀ n a c left s upto k₀ b k = (k ≤ upto) × (length b ≡ clusterSize n)
+    × (b ≡ upTo k (λ i. onBlock (i + 1) (receive c s)) b₀)
 
 abbrev μ-loop : tie.MeasureT-loop
 μ-loop b₀ n a c left s upto k₀ b k = upto - k

@@ -27,8 +27,10 @@ returns c =
     let c10 = c6 .before .before .before .before in
     let c13 = c10 .before .before .before in
     let-three (c13 .before .before .args .n) (c13 .before .before .args .a) (c13 .before .before .args .c)
-    (c13 .before .before .args .left) (c13 .before .before .args .o) (c13 .before .before .args .b .now) (c10 .let-sent .ensures)
-    (c13 .left-past .ensures (c13 .before .before .args .a) (c13 .before .before .args .o .view)) (c6 .let-sent2 .ensures)
+    (c13 .before .before .args .left) (c13 .before .before .args .o) (c13 .before .before .args .b .now)
+    (c10 .let-sent .ensures)
+    (c13 .left-past .ensures (c13 .before .before .args .a) (c13 .before .before .args .o .view))
+    (c6 .let-sent2 .ensures)
     (c10 .before .before .left-past2 .ensures (c13 .before .before .args .a) (c13 .before .before .args .o .view))
     (c .before .before .let-sent3 .ensures)
 

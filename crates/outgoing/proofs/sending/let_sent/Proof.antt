@@ -50,10 +50,12 @@ same-length-2 c = search needs
 
 returns-3 : tie.Need-returns-3
 returns-3 c =
-    let x = c .before .before .before .before .before .before .before .before .before .before .before .before .before .args in
+    let c10 = c .before .before .before .before .before .before .before .before .before .before in
+    let x = c10 .before .before .before .args in
     rw (c .before .before .before .before .before .before .before .before .before .before .s2 .given .1)
     (let-two (x .n) (x .a) (x .c) (x .left) (x .v) _ _ (x .b .now)
-    (c .before .before .before .before .before .before .before .let-message2 .ensures) (c .before .before .before .left-after .ensures (x .a) (x .v))
+    (c .before .before .before .before .before .before .before .let-message2 .ensures)
+    (c .before .before .before .left-after .ensures (x .a) (x .v))
     (c .before .before .let-message3 .ensures))
 
 pub let-sent-spec : {M : Type 1} → statement M

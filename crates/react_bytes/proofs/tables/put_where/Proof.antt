@@ -14,7 +14,8 @@ returns c =
     (c4 .if1 .taken))
 
 returns-2 : tie.Need-returns-2
-returns-2 c = let a = c .before .before .args in ap (λ (t : Bool). putWhere t (a .i) (a .w) (a .t) (a .p) (a .r .now)) (sym (c .if1 .left))
+returns-2 c = let a = c .before .before .args in ap (λ (t : Bool). putWhere t (a .i) (a .w) (a .t) (a .p) (a .r .now))
+    (sym (c .if1 .left))
 
 pub put-where-spec : {M : Type 1} → statement M
 put-where-spec =

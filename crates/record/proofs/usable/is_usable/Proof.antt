@@ -28,4 +28,5 @@ returns-2 c = simp (sym (c .before .sizes-ok .ensures) ∙ c .if1 .left)
 pub is-usable-spec : {M : Type 1} → statement M
 is-usable-spec =
     tie.close
-    (tie.spec (λ c κs. search needs) numbers-ok-requires (λ c κs. search needs) (λ c κs. search needs) returns returns-2)
+    (tie.spec (λ c κs. search needs) numbers-ok-requires (λ c κs. search needs) (λ c κs. search needs) returns
+    returns-2)

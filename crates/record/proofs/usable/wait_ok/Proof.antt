@@ -9,7 +9,11 @@ returns-2 c = rw (c .before .before .before .wait .given .1) (simp (c .and .ensu
 returns-3 : tie.Need-returns-3
 returns-3 c =
     let c4 = c .before .before .before .before in
-    rw (c4 .wait2 .given .1) (simp (c .and2 .ensures, c .before .before .is-only2 .ensures, c .before .round-ok .ensures))
+    rw (c4 .wait2 .given .1) (simp (
+      c .and2 .ensures,
+      c .before .before .is-only2 .ensures,
+      c .before .round-ok .ensures,
+    ))
 
 returns-4 : tie.Need-returns-4
 returns-4 c = rw (c .before .before .wait3 .given .1) (c .round-ok2 .ensures)

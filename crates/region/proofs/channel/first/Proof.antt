@@ -30,7 +30,8 @@ part-result-end : tie.Need-part-result-end
 part-result-end c = search needs
 
 returns : tie.Need-returns
-returns c = rw (sym (c .before .index .ensures .0)) (lent (c .before .before .before .before .args .t .now) (slotAt (c .before .index .result)) slotSize refl)
+returns c = rw (sym (c .before .index .ensures .0)) (lent (c .before .before .before .before .args .t .now)
+    (slotAt (c .before .index .result)) slotSize refl)
 
 pub first-spec : {M : Type 1} → statement M
 first-spec =

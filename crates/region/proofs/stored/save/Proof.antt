@@ -15,13 +15,15 @@ use Rattle.region.proofs.stored.save.Tie as tie
 returns : tie.Need-returns
 unfolding recordBytes
 returns c =
-    let b = c .before .before .before .before .before .before .before .before .before .before .before .before .before .before .before .args .b .now in
-    let x = c .before .before .before .before .before .before .before .before .before .before .before .before .before .before .before .args .c in
+    let c10 = c .before .before .before .before .before .before .before .before .before .before in
+    let b = c10 .before .before .before .before .before .args .b .now in
+    let x = c10 .before .before .before .before .before .args .c in
     let long : length (x .heard) ≡ cells = search needs in
     put-then b nPlace (headBytes (headIn x) ++ wordBytes (x .heard)) (viewsBytes x) (viewPlace lastIn) (omega arith)
     (heard-end x long)
     (put-then b nPlace (headBytes (headIn x)) (wordBytes (x .heard)) heardPlace (omega arith) (head-end (headIn x))
-    (c .before .before .before .before .before .before .before .before .before .before .before .before .save-head .ensures) (c .before .before .before .before .before .before .put-table256 .ensures)) (c .before .before .save-views .ensures)
+    (c10 .before .before .save-head .ensures) (c .before .before .before .before .before .before .put-table256 .ensures))
+    (c .before .before .save-views .ensures)
 
 pub save-spec : {M : Type 1} → statement M
 save-spec =

@@ -21,7 +21,12 @@ kind-of-requires-2 c κs = search needs
 returns-3 : tie.Need-returns-3
 returns-3 c =
     let d = c .before .before in
-    simp (ne-eqb _ _ (d .before .if1 .left), ne-eqb _ _ (d .if2 .left), eq-eqb _ _ (c .before .if3 .taken), c .kind-of2 .ensures)
+    simp (
+      ne-eqb _ _ (d .before .if1 .left),
+      ne-eqb _ _ (d .if2 .left),
+      eq-eqb _ _ (c .before .if3 .taken),
+      c .kind-of2 .ensures,
+    )
 
 kind-of-requires-3 : tie.Need-kind-of-requires-3
 kind-of-requires-3 c κs = search needs

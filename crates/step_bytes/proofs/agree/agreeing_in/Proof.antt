@@ -24,17 +24,39 @@ loop-holds c = (search needs, search needs, sym (count-none _))
 
 loop-again : tie.Need-loop-again Inv-loop μ-loop
 unfolding agrees
-loop-again c = (search needs, search needs, simp (count-more, ← c .before .before .has-sent .ensures, sym (c .before .or .ensures) ∙ c .if1 .taken, c .before .before .before .before .loop .inv .2))
+loop-again c = (
+  search needs,
+  search needs,
+  simp (
+    count-more,
+    ← c .before .before .has-sent .ensures,
+    sym
+        (c .before .or .ensures) ∙ c .if1 .taken,
+    c .before .before .before .before .loop .inv .2,
+  ),
+)
 
 loop-again-2 : tie.Need-loop-again-2 Inv-loop μ-loop
 unfolding agrees
-loop-again-2 c = (search needs, search needs, simp (count-more, ← c .before .before .has-sent .ensures, sym (c .before .or .ensures) ∙ c .if1 .left, c .before .before .before .before .loop .inv .2))
+loop-again-2 c = (
+  search needs,
+  search needs,
+  simp (
+    count-more,
+    ← c .before .before .has-sent .ensures,
+    sym
+        (c .before .or .ensures) ∙ c .if1 .left,
+    c .before .before .before .before .loop .inv .2,
+  ),
+)
 
 returns : tie.Need-returns Inv-loop μ-loop
 unfolding agreeing
-returns c = let e : c .before .loop .s ≡ c .before .before .before .args .n = omega arith in rw e at (c .before .loop .inv .2)
+returns c = let e : c .before .loop .s ≡ c .before .before .before .args .n = omega arith in rw e
+    at (c .before .loop .inv .2)
 
 pub agreeing-in-spec : {M : Type 1} → statement M
 agreeing-in-spec =
     tie.close
-    (tie.spec Inv-loop μ-loop loop-holds (λ c. search needs) (λ c κs. search needs) (λ c κs. search needs) (λ c. search needs) (λ c. search needs) loop-again (λ c. search needs) loop-again-2 returns)
+    (tie.spec Inv-loop μ-loop loop-holds (λ c. search needs) (λ c κs. search needs) (λ c κs. search needs)
+    (λ c. search needs) (λ c. search needs) loop-again (λ c. search needs) loop-again-2 returns)

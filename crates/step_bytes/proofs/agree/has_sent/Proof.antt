@@ -23,12 +23,23 @@ loop-holds : tie.Need-loop-holds Inv-loop μ-loop
 loop-holds c = (search needs, sym (all-none _))
 
 loop-again : tie.Need-loop-again Inv-loop μ-loop
-loop-again c = (search needs, simp (all-more, c .and .ensures, c .before .before .tag-in .ensures, c .before .heard-in .ensures, c .before .before .before .before .loop .inv .1))
+loop-again c = (
+  search needs,
+  simp (
+    all-more,
+    c .and .ensures,
+    c .before .before .tag-in .ensures,
+    c .before .heard-in .ensures,
+    c .before .before .before .before .loop .inv .1,
+  ),
+)
 
 returns : tie.Need-returns Inv-loop μ-loop
-returns c = let e : c .before .loop .w ≡ c .before .before .before .args .n = omega arith in rw e at (c .before .loop .inv .1)
+returns c = let e : c .before .loop .w ≡ c .before .before .before .args .n = omega arith in rw e
+    at (c .before .loop .inv .1)
 
 pub has-sent-spec : {M : Type 1} → statement M
 has-sent-spec =
     tie.close
-    (tie.spec Inv-loop μ-loop loop-holds (λ c. search needs) (λ c κs. search needs) (λ c κs. search needs) (λ c κs. search needs) (λ c. search needs) loop-again returns)
+    (tie.spec Inv-loop μ-loop loop-holds (λ c. search needs) (λ c κs. search needs) (λ c κs. search needs)
+    (λ c κs. search needs) (λ c. search needs) loop-again returns)

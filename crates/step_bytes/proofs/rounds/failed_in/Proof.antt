@@ -19,7 +19,8 @@ add-t16 c = search needs
 returns : tie.Need-returns
 unfolding recordOf
 returns c =
-    let a = c .before .before .before .before .before .before .before .before .before .before .before .before .before .args in
+    let c10 = c .before .before .before .before .before .before .before .before .before .before in
+    let a = c10 .before .before .before .args in
     let d = recordOf (a .r .now) in
     let more = c .before .before .before .before .before .before .before .before .before .before .before .if1 .taken in
     let next = c .before .before .before .before .before .before .before .before .before .next-in .ensures in
@@ -57,6 +58,8 @@ pub failed-in-spec : {M : Type 1} → statement M
 failed-in-spec =
     tie.close
     (tie.spec (λ c κs. search needs) (λ c κs. search needs) add-t16 (λ c. search needs) (λ c κs. search needs)
-    (λ c κs. search needs) (λ c κs. search needs) (λ c κs. search needs) (λ c. search needs) returns (λ c κs. search needs)
-    (λ c κs. search needs) (λ c. search needs) returns-2 (λ c κs. search needs) (λ c κs. search needs) (λ c. search needs)
+    (λ c κs. search needs) (λ c κs. search needs) (λ c κs. search needs) (λ c. search needs) returns
+    (λ c κs. search needs)
+    (λ c κs. search needs) (λ c. search needs) returns-2 (λ c κs. search needs) (λ c κs. search needs)
+    (λ c. search needs)
     returns-3)

@@ -38,11 +38,13 @@ returns-2 c =
     let held = c .before .before .before .before .before .before .before .load-view .ensures
     ∙ places-of (a .r .now) atroundIn (p .1) in
     is-step (good-end (recordOf (a .r .now)) (a .to) (a .sent) (a .k) (a .i) (a .t) (ne-eqb _ _ nonzero))
-    (simp (c .effect-of2 .ensures, c .before .ending-of .ensures, held)) (c .before .before .before .before .close-in .ensures)
+    (simp (c .effect-of2 .ensures, c .before .ending-of .ensures, held))
+    (c .before .before .before .before .close-in .ensures)
 
 pub good-in-spec : {M : Type 1} → statement M
 good-in-spec =
     tie.close
     (tie.spec (λ c κs. search needs) (λ c κs. search needs) (λ c κs. search needs) add-t20 (λ c κs. search needs)
-    (λ c κs. search needs) (λ c κs. search needs) (λ c. search needs) returns (λ c κs. search needs) (λ c κs. search needs)
+    (λ c κs. search needs) (λ c κs. search needs) (λ c. search needs) returns (λ c κs. search needs)
+    (λ c κs. search needs)
     (λ c κs. search needs) (λ c. search needs) returns-2)

@@ -17,7 +17,8 @@ returns c =
     let update = arm .o .given in
     let last = c .before .before .before .before .before .before .before .if1 .taken in
     let bytes = c .before .before .before .before .before .close-in .ensures in
-    rw (update .1) (is-step (read-spent (recordOf (a .r .now)) (a .to) (a .sent) (update .0 .0) (a .t) (eq-eqb _ _ last))
+    rw (update .1) (is-step (read-spent (recordOf (a .r .now)) (a .to) (a .sent) (update .0 .0) (a .t)
+    (eq-eqb _ _ last))
     (simp (c .effect-of .ensures, c .before .before .absent .ensures, c .before .absent2 .ensures)) bytes)
 
 returns-2 : tie.Need-returns-2
@@ -30,8 +31,10 @@ returns-2 c =
     let request = arm .before .before .get-word .ensures in
     let own = c .before .before .before .before .before .before .before .get-word2 .ensures in
     let bytes = c .before .before .before .before .before .open-in .ensures in
-    rw (update .1) (is-step (read-update (recordOf (a .r .now)) (a .to) (a .sent) (update .0 .0) (a .t) (ne-eqb _ _ below))
-    (simp (c .effect-of2 .ensures, c .before .before .absent3 .ensures, c .before .absent4 .ensures, request, own)) bytes)
+    rw (update .1) (is-step (read-update (recordOf (a .r .now)) (a .to) (a .sent) (update .0 .0) (a .t)
+    (ne-eqb _ _ below))
+    (simp (c .effect-of2 .ensures, c .before .before .absent3 .ensures, c .before .absent4 .ensures, request, own))
+    bytes)
 
 returns-3 : tie.Need-returns-3
 unfolding recordOf
@@ -49,5 +52,6 @@ read-in-spec =
     (tie.spec (λ c κs. search needs) add-t12 (λ c. search needs) (λ c κs. search needs) (λ c κs. search needs)
     (λ c κs. search needs) (λ c κs. search needs) (λ c. search needs) returns (λ c. search needs) (λ c κs. search needs)
     (λ c κs. search needs) (λ c κs. search needs) (λ c κs. search needs) (λ c κs. search needs) (λ c. search needs)
-    (λ c κs. search needs) (λ c κs. search needs) (λ c κs. search needs) (λ c κs. search needs) (λ c. search needs) returns-2
+    (λ c κs. search needs) (λ c κs. search needs) (λ c κs. search needs) (λ c κs. search needs) (λ c. search needs)
+    returns-2
     (λ c. search needs) returns-3)

@@ -10,7 +10,8 @@ use Rattle.step_value.proofs.passes.compare_pass.Statement.{statement}
 use Rattle.step_value.proofs.passes.compare_pass.Tie as tie
 
 agreeing-nodes-requires : tie.Need-agreeing-nodes-requires
-agreeing-nodes-requires c κs = parts _ (c .before .before .before .before .before .before .before .before .before .pre) .n-high
+agreeing-nodes-requires c κs = parts _
+    (c .before .before .before .before .before .before .before .before .before .pre) .n-high
 
 after-good-requires : tie.Need-after-good-requires
 after-good-requires c κs =
@@ -35,7 +36,11 @@ after-failed-requires : tie.Need-after-failed-requires
 after-failed-requires c κs =
     let c10 = c .before .before .before .before .before .before .before .before .before .before in
     let c13 = c10 .before .before .before in
-    let d = c13 .args .s .node in let p = parts d (c13 .pre) in (p .request-high, comparing-most d p (c10 .wait .given .1) .tag)
+    let d = c13 .args .s .node in let p = parts d (c13 .pre) in (
+      p .request-high,
+      comparing-most d p
+          (c10 .wait .given .1) .tag,
+    )
 
 returns-2 : tie.Need-returns-2
 returns-2 c =

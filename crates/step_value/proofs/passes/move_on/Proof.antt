@@ -14,7 +14,8 @@ write-pass-requires c κs = let a = c .before .args in
 compare-pass-requires : tie.Need-compare-pass-requires
 compare-pass-requires c κs = let a = c .before .before .args in
     rw (c .write-pass .ensures, c .before .read-pass .ensures)
-    (usable-of _ (writes-parts (a .f) (reads (a .f) (a .s)) (reads-parts (a .f) (a .s) (parts _ (c .before .before .pre)))))
+    (usable-of _ (writes-parts (a .f) (reads (a .f) (a .s)) (reads-parts (a .f) (a .s)
+    (parts _ (c .before .before .pre)))))
 
 borrow-pass-requires : tie.Need-borrow-pass-requires
 borrow-pass-requires c κs = let a = c .before .before .before .args in
@@ -28,7 +29,8 @@ returns c =
     let c3 = c .before .before .before in
     let f = c3 .before .args .f in
     c .borrow-pass .ensures
-    ∙ ap borrows (c .before .compare-pass .ensures ∙ ap (compares f) (c .before .before .write-pass .ensures ∙ ap (writes f)
+    ∙ ap borrows (c .before .compare-pass .ensures ∙ ap (compares f)
+    (c .before .before .write-pass .ensures ∙ ap (writes f)
     (c3 .read-pass .ensures)))
 
 pub move-on-spec : {M : Type 1} → statement M

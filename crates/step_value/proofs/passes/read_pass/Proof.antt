@@ -27,7 +27,8 @@ returns c =
     let s = c9 .args .s in
     c .after-read .ensures
     ∙ reads-on (c9 .args .f) s (s .node) (c6 .wait .given .1) (ap (isQuorum (s .node .n) (c9 .args .f)) (sym
-    (c3 .before .members .ensures)) ∙ sym (c3 .is-quorum .ensures) ∙ c .before .before .if1 .taken) (c .before .larger .ensures)
+    (c3 .before .members .ensures)) ∙ sym (c3 .is-quorum .ensures) ∙ c .before .before .if1 .taken)
+    (c .before .larger .ensures)
 
 returns-2 : tie.Need-returns-2
 unfolding readPass

@@ -34,7 +34,11 @@ returns-4 : tie.Need-returns-4
 unfolding writePass
 returns-4 c =
     let c4 = c .before .before .before .before in
-    rw (c4 .wait .given .1) (simp (← c .before .before .members .ensures, sym (c .before .is-quorum .ensures) ∙ c .if1 .left))
+    rw (c4 .wait .given .1) (simp (
+      ← c .before .before .members .ensures,
+      sym (c .before .is-quorum .ensures)
+          ∙ c .if1 .left,
+    ))
 
 returns-5 : tie.Need-returns-5
 unfolding writePass

@@ -1,4 +1,5 @@
--- `table::quorum::agreeing_nodes` meets its contract: the invariant: k counts the agreeing nodes among the first s. Assumes nothing.
+-- `table::quorum::agreeing_nodes` meets its contract: the invariant: k counts the agreeing nodes among the first s.
+-- Assumes nothing.
 use borrow.Author.Needs.{needs}
 use mathlib.Core.Path.{_≡_, sym, _∙_}
 use Prim.Native.Nat.{_-_, _≤_}

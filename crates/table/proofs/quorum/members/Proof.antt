@@ -1,4 +1,5 @@
--- `table::quorum::members` meets its contract: the invariant: k counts the members among the first s nodes. Assumes nothing.
+-- `table::quorum::members` meets its contract: the invariant: k counts the members among the first s nodes. Assumes
+-- nothing.
 use borrow.Author.Needs.{needs}
 use mathlib.Core.Path.{_≡_, sym, _∙_}
 use Prim.Native.Nat.{_-_, _≤_}

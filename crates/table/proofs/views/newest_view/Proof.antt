@@ -1,4 +1,5 @@
--- `table::views::newest_view` meets its contract: the invariant: the first w entries are chosen, the others are as held. Assumes nothing.
+-- `table::views::newest_view` meets its contract: the invariant: the first w entries are chosen, the others are as
+-- held. Assumes nothing.
 use borrow.Author.Needs.{needs}
 use mathlib.Core.Path.{_≡_, refl, ap₂, _∙_}
 use mathlib.Core.List.{List, _++_}
@@ -28,7 +29,10 @@ loop-holds c = (search needs, filled-none _ _, filled-none _ _)
 loop-again : tie.Need-loop-again Inv-loop μ-loop
 loop-again c =
     let c3 = c .before .before .before in
-    let a = c3 .args in let w = c .before .before .loop .w in let e = c .newest-at .ensures in let i = c .before .before .loop .inv in
+    let a = c3 .args in
+    let w = c .before .before .loop .w in
+    let e = c .newest-at .ensures in
+    let i = c .before .before .loop .inv in
     let b = leb (tagOf (a .last) (w + 1)) (a .t) in (
       search needs,
       e .0 ∙ rw (i .1) (filled w (newestTag (a .t) (a .last) (a .held)) (a .held .tags) b (tagOf (a .last) (w + 1)) 0

@@ -8,7 +8,11 @@ use Rattle.wire.proofs.heads.at_front.Tie as tie
 
 returns : tie.Need-returns
 unfolding shape
-returns c = simp (le-leb _ _ (c .before .before .before .if1 .taken), sym (c .before .before .has-head .ensures) ∙ c .before .if2 .taken) (c .of-kind .ensures)
+returns c = simp (
+  le-leb _ _ (c .before .before .before .if1 .taken),
+  sym (c .before .before .has-head .ensures)
+      ∙ c .before .if2 .taken,
+) (c .of-kind .ensures)
 
 returns-2 : tie.Need-returns-2
 unfolding shape

@@ -41,8 +41,12 @@ unfolding shapeAs said allowed size part
 returns-3 c =
     let c3 = c .before .before .before in
     let c6 = c3 .before .before .before in
-    let t = rw
-    (c3 .has-two .ensures, c .before .before .is-pair .ensures, c3 .before .before .get-word2 .ensures, c3 .before .get-word3 .ensures) at
+    let t = rw (
+      c3 .has-two .ensures,
+      c .before .before .is-pair .ensures,
+      c3 .before .before .get-word2 .ensures,
+      c3 .before .get-word3 .ensures,
+    ) at
     (sym (c .before .and2 .ensures) ∙ c .if3 .taken) in
     rw (c6 .before .match .keys2)
     (simp (le-leb _ _ (c6 .if2 .taken), t, c3 .before .before .get-word2 .ensures, c3 .before .get-word3 .ensures))
@@ -52,8 +56,12 @@ unfolding shapeAs said allowed size part
 returns-4 c =
     let c3 = c .before .before .before in
     let c6 = c3 .before .before .before in
-    let t = rw
-    (c3 .has-two .ensures, c .before .before .is-pair .ensures, c3 .before .before .get-word2 .ensures, c3 .before .get-word3 .ensures) at
+    let t = rw (
+      c3 .has-two .ensures,
+      c .before .before .is-pair .ensures,
+      c3 .before .before .get-word2 .ensures,
+      c3 .before .get-word3 .ensures,
+    ) at
     (sym (c .before .and2 .ensures) ∙ c .if3 .left) in
     rw (c6 .before .match .keys2)
     (simp (le-leb _ _ (c6 .if2 .taken), t))
@@ -67,8 +75,12 @@ unfolding shapeAs said allowed size part
 returns-6 c =
     let c3 = c .before .before .before in
     let c6 = c3 .before .before .before in
-    let t = rw
-    (c3 .has-two2 .ensures, c .before .before .is-pair2 .ensures, c3 .before .before .get-word4 .ensures, c3 .before .get-word5 .ensures) at
+    let t = rw (
+      c3 .has-two2 .ensures,
+      c .before .before .is-pair2 .ensures,
+      c3 .before .before .get-word4 .ensures,
+      c3 .before .get-word5 .ensures,
+    ) at
     (sym (c .before .and3 .ensures) ∙ c .if5 .taken) in
     rw (c6 .before .match .keys3)
     (simp (le-leb _ _ (c6 .if4 .taken), t, c3 .before .before .get-word4 .ensures, c3 .before .get-word5 .ensures))
@@ -78,8 +90,12 @@ unfolding shapeAs said allowed size part
 returns-7 c =
     let c3 = c .before .before .before in
     let c6 = c3 .before .before .before in
-    let t = rw
-    (c3 .has-two2 .ensures, c .before .before .is-pair2 .ensures, c3 .before .before .get-word4 .ensures, c3 .before .get-word5 .ensures) at
+    let t = rw (
+      c3 .has-two2 .ensures,
+      c .before .before .is-pair2 .ensures,
+      c3 .before .before .get-word4 .ensures,
+      c3 .before .get-word5 .ensures,
+    ) at
     (sym (c .before .and3 .ensures) ∙ c .if5 .left) in
     rw (c6 .before .match .keys3)
     (simp (le-leb _ _ (c6 .if4 .taken), t))
@@ -93,8 +109,12 @@ unfolding shapeAs said allowed size part
 returns-9 c =
     let c3 = c .before .before .before in
     let c6 = c3 .before .before .before in
-    let t = rw
-    (c3 .has-two3 .ensures, c .before .before .is-pair3 .ensures, c3 .before .before .get-word6 .ensures, c3 .before .get-word7 .ensures) at
+    let t = rw (
+      c3 .has-two3 .ensures,
+      c .before .before .is-pair3 .ensures,
+      c3 .before .before .get-word6 .ensures,
+      c3 .before .get-word7 .ensures,
+    ) at
     (sym (c .before .and4 .ensures) ∙ c .if7 .taken) in
     rw (c6 .before .match .keys4)
     (simp (le-leb _ _ (c6 .if6 .taken), t, c3 .before .before .get-word6 .ensures, c3 .before .get-word7 .ensures))
@@ -104,8 +124,12 @@ unfolding shapeAs said allowed size part
 returns-10 c =
     let c3 = c .before .before .before in
     let c6 = c3 .before .before .before in
-    let t = rw
-    (c3 .has-two3 .ensures, c .before .before .is-pair3 .ensures, c3 .before .before .get-word6 .ensures, c3 .before .get-word7 .ensures) at
+    let t = rw (
+      c3 .has-two3 .ensures,
+      c .before .before .is-pair3 .ensures,
+      c3 .before .before .get-word6 .ensures,
+      c3 .before .get-word7 .ensures,
+    ) at
     (sym (c .before .and4 .ensures) ∙ c .if7 .left) in
     rw (c6 .before .match .keys4)
     (simp (le-leb _ _ (c6 .if6 .taken), t))
@@ -167,7 +191,8 @@ returns-17 c =
     (a .b .now)) =
     c .before .before .is-held .ensures ∙ ap (λ (v : List ℕ). allowed (a .n) (Good (c4 .before .get-word10 .result)) v)
     (lent (a .b .now) goodHead (viewSize (a .n)) refl) in
-    let t = rw (c4 .has-good .ensures, h, c4 .before .get-word10 .ensures) at (sym (c .before .and7 .ensures) ∙ c .if12 .taken) in
+    let t = rw (c4 .has-good .ensures, h, c4 .before .get-word10 .ensures)
+    at (sym (c .before .and7 .ensures) ∙ c .if12 .taken) in
     rw (c7 .match .keys7) (simp (le-leb _ _ (c4 .before .before .if11 .taken), t, c4 .before .get-word10 .ensures))
 
 returns-18 : tie.Need-returns-18
@@ -181,7 +206,8 @@ returns-18 c =
     (a .b .now)) =
     c .before .before .is-held .ensures ∙ ap (λ (v : List ℕ). allowed (a .n) (Good (c4 .before .get-word10 .result)) v)
     (lent (a .b .now) goodHead (viewSize (a .n)) refl) in
-    let t = rw (c4 .has-good .ensures, h, c4 .before .get-word10 .ensures) at (sym (c .before .and7 .ensures) ∙ c .if12 .left) in
+    let t = rw (c4 .has-good .ensures, h, c4 .before .get-word10 .ensures)
+    at (sym (c .before .and7 .ensures) ∙ c .if12 .left) in
     rw (c7 .match .keys7) (simp (le-leb _ _ (c4 .before .before .if11 .taken), t))
 
 returns-19 : tie.Need-returns-19
