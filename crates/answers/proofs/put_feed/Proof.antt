@@ -1,3 +1,4 @@
+-- `answers::put_feed` meets its contract.
 use borrow.Author.Needs.{needs}
 use mathlib.Core.Path.{refl}
 use Rattle.octets.proofs.Put.{put-one}

@@ -1,3 +1,4 @@
+-- `bench::run_all` meets its contract: its turns are counted down, so that it ends.
 use borrow.Author.Needs.{needs}
 use native.Mathlib.Omega.{arith}
 use Rattle.bench.proofs.run_all.Statement.{statement}

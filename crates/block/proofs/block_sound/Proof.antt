@@ -1,3 +1,4 @@
+-- `block::block_sound` meets its contract.
 use borrow.Author.Needs.{needs}
 use Prim.Native.Nat.{ℕ}
 use mathlib.Core.Path.{refl, ap, ap₂, _∙_}

@@ -1,3 +1,4 @@
+-- `block::channels_sound` meets its contract: after i turns its loop has what the definition has after i.
 use borrow.Author.Needs.{needs}
 use Rattle.block.proofs.channels_sound.Statement.{statement}
 use Prim.Native.Nat.{ℕ, _-_, _≤_}

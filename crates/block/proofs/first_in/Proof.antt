@@ -1,3 +1,4 @@
+-- `block::first_in` meets its contract.
 use borrow.Author.Needs.{needs}
 use mathlib.Core.Path.{_∙_, ap, refl}
 use Rattle.octets.proofs.Lent.{lent}

@@ -1,3 +1,4 @@
+-- `block::halt_node` meets its contract: after i turns its loop has what the definition has after i.
 use borrow.Author.Needs.{needs}
 use Rattle.block.proofs.halt_node.Statement.{statement}
 use Prim.Native.Nat.{ℕ, _+_, _-_, _*_, _≤_}

@@ -1,3 +1,4 @@
+-- `block::keep_node` meets its contract.
 use borrow.Author.Needs.{needs}
 use mathlib.Core.Path.{refl}
 use mathlib.Core.List.{List}

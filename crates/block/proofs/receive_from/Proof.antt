@@ -1,3 +1,4 @@
+-- `block::receive_from` meets its contract.
 use borrow.Author.Needs.{needs}
 use mathlib.Core.Path.{refl}
 use native.Mathlib.Omega.{arith}

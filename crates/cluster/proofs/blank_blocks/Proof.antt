@@ -1,3 +1,4 @@
+-- `cluster::blank_blocks` meets its contract: after i turns its loop has what the definition has after i.
 use borrow.Author.Needs.{needs}
 use Rattle.cluster.proofs.blank_blocks.Statement.{statement}
 use Prim.Native.Nat.{ℕ, _+_, _-_, _≤_}

@@ -1,3 +1,4 @@
+-- `cluster::fresh` meets its contract.
 use borrow.Author.Needs.{needs}
 use lib.ListN.{length-set}
 use mathlib.Core.Path.{sym, _∙_}

@@ -1,3 +1,4 @@
+-- `cluster::given` meets its contract.
 use borrow.Author.Needs.{needs}
 use mathlib.Core.Path.{refl}
 use Rattle.cluster.proofs.given.Statement.{statement}

@@ -1,3 +1,4 @@
+-- `cluster::refused` meets its contract.
 use borrow.Author.Needs.{needs}
 use Rattle.cluster.proofs.refused.Statement.{statement}
 use Rattle.cluster.proofs.refused.Tie as tie

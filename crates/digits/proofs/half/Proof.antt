@@ -1,3 +1,4 @@
+-- `digits::half` meets its contract.
 use borrow.Author.Needs.{needs}
 use borrow.Author.Tests.{eq-eqb, ne-eqb}
 use Rattle.digits.specs.Hex.{half}

@@ -1,3 +1,4 @@
+-- `digits::hex_digit` meets its contract.
 use borrow.Author.Needs.{needs}
 use borrow.Author.Tests.{lt-ltb, le-ltb}
 use Rattle.digits.specs.Hex.{hexDigit}

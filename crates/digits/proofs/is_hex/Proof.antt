@@ -1,3 +1,4 @@
+-- `digits::is_hex` meets its contract.
 use borrow.Author.Needs.{needs}
 use mathlib.Core.Path.{sym, _∙_}
 use Rattle.digits.proofs.is_hex.Statement.{statement}

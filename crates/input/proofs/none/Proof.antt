@@ -1,3 +1,4 @@
+-- `input::none` meets its contract.
 use borrow.Author.Needs.{needs}
 use mathlib.Core.Path.{refl}
 use Rattle.input.specs.Carry.{carryOf}

@@ -1,3 +1,4 @@
+-- `input::push` meets its contract.
 use borrow.Author.Needs.{needs}
 use borrow.Author.Tests.{lt-ltb, le-ltb}
 use Rattle.input.specs.Carry.{push}

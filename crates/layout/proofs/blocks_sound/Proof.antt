@@ -1,3 +1,4 @@
+-- `layout::blocks_sound` meets its contract: after i turns its loop has what the definition has after i.
 use borrow.Author.Needs.{needs}
 use Rattle.layout.proofs.blocks_sound.Statement.{statement}
 use mathlib.Core.Path.{_≡_, refl, sym, ap, ap₂, _∙_}

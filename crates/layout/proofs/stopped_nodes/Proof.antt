@@ -1,3 +1,4 @@
+-- `layout::stopped_nodes` meets its contract: after i turns its loop has what the definition has after i.
 use borrow.Author.Needs.{needs}
 use Rattle.layout.proofs.stopped_nodes.Statement.{statement}
 use mathlib.Core.Path.{_≡_, sym, _∙_}

@@ -1,3 +1,4 @@
+-- `lines::after` meets its contract.
 use borrow.Author.Needs.{needs}
 use mathlib.Core.Path.{_∙_}
 use Rattle.lines.specs.Grammar.{after}

@@ -1,3 +1,4 @@
+-- `lines::is_cut` meets its contract.
 use borrow.Author.Needs.{needs}
 use Rattle.lines.proofs.Fields.{cut-same, cut-other}
 use mathlib.Core.Path.{sym, _∙_}

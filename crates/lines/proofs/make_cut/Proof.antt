@@ -1,3 +1,4 @@
+-- `lines::make_cut` meets its contract.
 use borrow.Author.Needs.{needs}
 use mathlib.Core.Path.{sym, _∙_}
 use Rattle.lines.proofs.make_cut.Statement.{statement}

@@ -1,3 +1,4 @@
+-- `lines::make_deliver` meets its contract.
 use borrow.Author.Needs.{needs}
 use Rattle.lines.proofs.make_deliver.Statement.{statement}
 use Rattle.lines.proofs.make_deliver.Tie as tie

@@ -1,3 +1,4 @@
+-- `lines::make_scan` meets its contract.
 use borrow.Author.Needs.{needs}
 use Rattle.lines.proofs.make_scan.Statement.{statement}
 use Rattle.lines.proofs.make_scan.Tie as tie

@@ -1,3 +1,4 @@
+-- `lines::make_stop` meets its contract.
 use borrow.Author.Needs.{needs}
 use Rattle.lines.proofs.make_stop.Statement.{statement}
 use Rattle.lines.proofs.make_stop.Tie as tie

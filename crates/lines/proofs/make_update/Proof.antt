@@ -1,3 +1,4 @@
+-- `lines::make_update` meets its contract.
 use borrow.Author.Needs.{needs}
 use Rattle.lines.proofs.make_update.Statement.{statement}
 use Rattle.lines.proofs.make_update.Tie as tie

@@ -1,3 +1,4 @@
+-- `lines::place_of` meets its contract: what was passed over, and the place in the rest.
 use borrow.Author.Needs.{needs}
 use Prim.Native.Nat.{ℕ, _+_, _-_, _≤_}
 use mathlib.Core.Path.{_≡_, refl, sym, ap, _∙_}

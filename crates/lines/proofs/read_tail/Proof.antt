@@ -1,3 +1,4 @@
+-- `lines::read_tail` meets its contract.
 use borrow.Author.Needs.{needs}
 use borrow.Author.Tests.{eq-eqb, ne-eqb}
 use Rattle.lines.specs.Grammar.{tailOf}

@@ -1,3 +1,4 @@
+-- `lines::word` meets its contract.
 use borrow.Author.Needs.{needs}
 use Rattle.lines.specs.Grammar.{word}
 use mathlib.Core.Path.{_≡_, sym, _∙_}

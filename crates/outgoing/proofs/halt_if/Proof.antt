@@ -1,3 +1,4 @@
+-- `outgoing::halt_if` meets its contract.
 use borrow.Author.Needs.{needs}
 use mathlib.Core.Path.{refl}
 use Rattle.outgoing.proofs.halt_if.Statement.{statement}

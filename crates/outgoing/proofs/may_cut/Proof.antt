@@ -1,3 +1,4 @@
+-- `outgoing::may_cut` meets its contract.
 use borrow.Author.Needs.{needs}
 use mathlib.Core.Path.{refl, ap₂}
 use lib.Dec.{ltb}

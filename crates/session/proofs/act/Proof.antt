@@ -1,3 +1,4 @@
+-- `session::act` meets its contract.
 use borrow.Author.Needs.{needs}
 use mathlib.Core.Path.{refl, sym}
 use Rattle.session.proofs.act.Statement.{statement}

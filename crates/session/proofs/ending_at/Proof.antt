@@ -1,3 +1,4 @@
+-- `session::ending_at` meets its contract.
 use borrow.Author.Needs.{needs}
 use mathlib.Core.Path.{refl}
 use Rattle.session.proofs.ending_at.Statement.{statement}

@@ -1,3 +1,4 @@
+-- `session::extent_of` meets its contract.
 use borrow.Author.Needs.{needs}
 use Rattle.session.proofs.extent_of.Statement.{statement}
 use Rattle.session.proofs.extent_of.Tie as tie

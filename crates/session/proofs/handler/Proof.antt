@@ -1,3 +1,4 @@
+-- `session::handler` meets its contract.
 use borrow.Author.Needs.{needs}
 use Rattle.session.proofs.handler.Statement.{statement}
 use Rattle.session.proofs.handler.Tie as tie

@@ -1,3 +1,4 @@
+-- `session::nodes_in` meets its contract.
 use borrow.Author.Needs.{needs}
 use mathlib.Core.Path.{sym}
 use native.Mathlib.Omega.{arith}

@@ -1,3 +1,4 @@
+-- `session::pass` meets its contract.
 use borrow.Author.Needs.{needs}
 use mathlib.Core.Path.{refl, sym, ap}
 use native.Mathlib.Nat.{add-zero}

@@ -1,3 +1,4 @@
+-- `session::put_bad` meets its contract.
 use borrow.Author.Needs.{needs}
 use mathlib.Core.Path.{sym}
 use Rattle.session.proofs.put_bad.Statement.{statement}

@@ -1,3 +1,4 @@
+-- `session::read_bytes` meets its contract: after i turns its loop has what the definition has after i.
 use borrow.Author.Needs.{needs}
 use Prim.Native.Nat.{_-_, _≤_}
 use mathlib.Core.Path.{refl, sym}

@@ -1,3 +1,4 @@
+-- `session::reply_at` meets its contract.
 use borrow.Author.Needs.{needs}
 use mathlib.Core.Path.{refl}
 use Rattle.session.proofs.reply_at.Statement.{statement}

@@ -1,3 +1,4 @@
+-- `session::run` meets its contract.
 use borrow.Author.Needs.{needs}
 use native.Mathlib.Omega.{arith}
 use Rattle.session.proofs.run.Statement.{statement}

@@ -1,3 +1,4 @@
+-- `session::start` meets its contract.
 use borrow.Author.Needs.{needs}
 use Rattle.session.specs.Progress.{begun}
 use Rattle.session.proofs.start.Statement.{statement}

@@ -1,3 +1,4 @@
+-- `view::bytes` meets its contract.
 use borrow.Author.Needs.{needs}
 use Rattle.view.specs.Size.{nodes, viewSize}
 use Rattle.view.proofs.bytes.Statement.{statement}

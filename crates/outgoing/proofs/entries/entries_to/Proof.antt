@@ -1,3 +1,4 @@
+-- `outgoing::entries::entries_to` meets its contract.
 use borrow.Author.Needs.{needs}
 use native.Mathlib.Omega.{arith}
 use Prim.Native.Nat.{ℕ, _+_, _-_}

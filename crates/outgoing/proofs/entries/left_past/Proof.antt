@@ -1,3 +1,4 @@
+-- `outgoing::entries::left_past` meets its contract.
 use borrow.Author.Needs.{needs}
 use Prim.Native.Nat.{_-_}
 use mathlib.Core.List.{List}

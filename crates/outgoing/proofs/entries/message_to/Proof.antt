@@ -1,3 +1,4 @@
+-- `outgoing::entries::message_to` meets its contract.
 use borrow.Author.Needs.{needs}
 use native.Mathlib.Omega.{arith}
 use mathlib.Core.Path.{sym, _∙_}

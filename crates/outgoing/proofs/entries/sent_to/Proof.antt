@@ -1,3 +1,4 @@
+-- `outgoing::entries::sent_to` meets its contract.
 use borrow.Author.Needs.{needs}
 use mathlib.Core.Path.{sym, ap, _∙_}
 use Rattle.outgoing.specs.Entries.{Entry, goTo}

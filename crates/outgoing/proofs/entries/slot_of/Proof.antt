@@ -1,3 +1,4 @@
+-- `outgoing::entries::slot_of` meets its contract.
 use borrow.Author.Needs.{needs}
 use Rattle.outgoing.specs.Entries.{slot}
 use Rattle.outgoing.proofs.entries.slot_of.Statement.{statement}

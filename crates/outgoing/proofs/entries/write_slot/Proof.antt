@@ -1,3 +1,4 @@
+-- `outgoing::entries::write_slot` meets its contract.
 use borrow.Author.Needs.{needs}
 use Prim.Native.Nat.{_*_, _≤_}
 use native.Mathlib.Omega.{arith}

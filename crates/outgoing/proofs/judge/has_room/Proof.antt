@@ -1,3 +1,4 @@
+-- `outgoing::judge::has_room` meets its contract: after i turns its loop has what the definition has after i.
 use borrow.Author.Needs.{needs}
 use Rattle.outgoing.proofs.judge.has_room.Statement.{statement}
 use Prim.Native.Nat.{_-_, _≤_}

@@ -1,3 +1,4 @@
+-- `outgoing::judge::room_at` meets its contract.
 use borrow.Author.Needs.{needs}
 use Prim.Native.Nat.{ℕ, _+_, _-_}
 use mathlib.Core.Path.{refl, sym, ap, ap₂, _∙_}

@@ -1,3 +1,4 @@
+-- `outgoing::sending::let_message` meets its contract: after i turns its loop has what the definition has after i.
 use borrow.Author.Needs.{needs}
 use Rattle.outgoing.proofs.sending.let_message.Statement.{statement}
 use Prim.Native.Nat.{ℕ, _+_, _-_, _≤_, min}

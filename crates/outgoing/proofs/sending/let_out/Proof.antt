@@ -1,3 +1,4 @@
+-- `outgoing::sending::let_out` meets its contract.
 use borrow.Author.Needs.{needs}
 use Rattle.outgoing.proofs.Out.{let-three}
 use Rattle.outgoing.proofs.sending.let_out.Statement.{statement}

@@ -1,3 +1,4 @@
+-- `outgoing::sending::let_sent` meets its contract.
 use borrow.Author.Needs.{needs}
 use mathlib.Core.Path.{sym, ap, _∙_}
 use mathlib.Core.List.{List}

@@ -1,3 +1,4 @@
+-- `region::channel::clear` meets its contract.
 use borrow.Author.Needs.{needs}
 use mathlib.Core.Path.{refl}
 use Rattle.region.specs.Channel.{clear}

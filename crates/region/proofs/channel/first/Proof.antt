@@ -1,3 +1,4 @@
+-- `region::channel::first` meets its contract.
 use borrow.Author.Needs.{needs}
 use mathlib.Core.Path.{refl, sym}
 use Rattle.octets.proofs.Lent.{lent}

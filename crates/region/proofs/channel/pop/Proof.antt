@@ -1,3 +1,4 @@
+-- `region::channel::pop` meets its contract.
 use borrow.Author.Needs.{needs}
 use borrow.Author.Tests.{lt-ltb, le-ltb}
 use Rattle.region.specs.Channel.{pop}

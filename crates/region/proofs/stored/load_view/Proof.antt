@@ -1,3 +1,4 @@
+-- `region::stored::load_view` meets its contract.
 use borrow.Author.Needs.{needs}
 use mathlib.Core.Path.{_∙_, ap, sym, refl}
 use Rattle.octets.specs.Bytes.{part}

@@ -1,3 +1,4 @@
+-- `region::stored::load_wait` meets its contract.
 use borrow.Author.Needs.{needs}
 use mathlib.Core.Path.{refl}
 use Rattle.octets.proofs.Lent.{lent}

@@ -1,3 +1,4 @@
+-- `region::stored::operation_of` meets its contract.
 use Rattle.region.proofs.stored.operation_of.Statement.{statement}
 use borrow.Author.Tests.{eq-eqb, ne-eqb}
 use Rattle.region.proofs.stored.operation_of.Tie as tie

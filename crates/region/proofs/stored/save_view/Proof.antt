@@ -1,3 +1,4 @@
+-- `region::stored::save_view` meets its contract.
 use borrow.Author.Needs.{needs}
 use mathlib.Core.Path.{refl, sym, ap, _∙_, _≡_}
 use lib.ListN.{length}

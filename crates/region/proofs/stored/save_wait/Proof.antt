@@ -1,3 +1,4 @@
+-- `region::stored::save_wait` meets its contract.
 use borrow.Author.Needs.{needs}
 use native.Mathlib.Omega.{arith}
 use Prim.Native.Nat.{ℕ}

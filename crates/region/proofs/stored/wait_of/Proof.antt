@@ -1,3 +1,4 @@
+-- `region::stored::wait_of` meets its contract.
 use borrow.Author.Needs.{needs}
 use borrow.Author.Tests.{eq-eqb, ne-eqb}
 use Rattle.region.proofs.stored.wait_of.Statement.{statement}

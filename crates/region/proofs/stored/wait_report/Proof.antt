@@ -1,3 +1,4 @@
+-- `region::stored::wait_report` meets its contract.
 use borrow.Author.Needs.{needs}
 use Rattle.region.proofs.stored.wait_report.Statement.{statement}
 use Rattle.region.proofs.stored.wait_report.Tie as tie

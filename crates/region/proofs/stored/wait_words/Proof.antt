@@ -1,3 +1,4 @@
+-- `region::stored::wait_words` meets its contract.
 use borrow.Author.Needs.{needs}
 use Rattle.region.proofs.stored.wait_words.Statement.{statement}
 use Rattle.region.proofs.stored.wait_words.Tie as tie
