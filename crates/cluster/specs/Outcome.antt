@@ -1,4 +1,4 @@
--- What the answer of an event says. In document 01's terms that is `told` of node: the refusal's number, or the ending
+-- What the answer of an event says. In document 01's terms that is `told` of step: the refusal's number, or the ending
 -- with its number and values. The code gives more: the rule of an ending, and the view of an update.
 use Prim.Native.Nat.{ℕ}
 use mathlib.Core.Path.{_≡_}

@@ -55,3 +55,11 @@ viewless = begins 1 (update 7) ∷ handles 1 (isDone []) (own 1 1 7) ∷ []
 pub viewless-out : ¬ SingleOrder 1 viewless
 unfolding firstEnding ℕ-discrete decide
 viewless-out o = omega (arith, o .kinds 0)
+
+-- One that is done with an entry more than nodes.
+abbrev overlong : Trace
+overlong = begins 1 (update 7) ∷ handles 1 (isDone (entry 1 7 ∷ absent ∷ [])) (own 1 1 7) ∷ []
+
+pub overlong-out : ¬ SingleOrder 1 overlong
+unfolding firstEnding ℕ-discrete decide
+overlong-out o = omega (arith, o .kinds 0)

@@ -8,6 +8,7 @@ use mathlib.Core.List.{List, [], _∷_, map}
 use lib.ListN.{length, getD, replicate}
 use Rattle.octets.specs.Answer.{result}
 use Rattle.octets.proofs.Test.{true-false}
+use Rattle.view.specs.Size.{nodes}
 use Rattle.record.specs.declared.Operation.the-variants.{Scan}
 use Rattle.step.specs.declared.Ending.the-variants.{None}
 use Rattle.layout.specs.Layout.{clusterSize, stated, stopped, node}
@@ -100,7 +101,7 @@ absent-view n c (T.ended k (H.shown r v)) long end each = all-absent v
 
 -- ---- the scan
 
-module _ (n c : ℕ) (size : OneTo 16 n) (at : OneTo n c) (b : List ℕ) (long : length b ≡ clusterSize n) where
+module _ (n c : ℕ) (size : OneTo nodes n) (at : OneTo n c) (b : List ℕ) (long : length b ≡ clusterSize n) where
   abbrev start : List ℕ
   start = E.fresh n b .bytes
 

@@ -9,6 +9,8 @@ use lib.ListN.{length, take}
 use borrow.Author.Tests.{lt-ltb}
 use Rattle.octets.specs.Answer.{result}
 use Rattle.octets.proofs.Test.{true-false}
+use Rattle.table.specs.Table.{cells}
+use Rattle.view.specs.Size.{nodes}
 use Rattle.view.specs.View.{noView}
 use Rattle.wire.specs.declared.Message.the-variants.{Read}
 use Rattle.table.specs.Loop.{count}
@@ -24,7 +26,7 @@ use Rattle.block.specs.Block.{recordIn}
 use Rattle.outgoing.specs.Entries.{addressed, entries, goTo}
 use Rattle.outgoing.proofs.Laws.{entries-one, goTo-once, others-reach}
 use Rattle.outgoing.proofs.Judged.{heard-read}
-use Rattle.layout.specs.Layout.{stated, block, stopped, node, channel}
+use Rattle.layout.specs.Layout.{stated, block, stopped, node, channel, faultsIn}
 use Rattle.cluster.specs.Event.{Result, begin, settle}
 use Rattle.outgoing.specs.Outgoing.{mayCut}
 use Rattle.outgoing.specs.declared.Extent.{Extent}
@@ -42,7 +44,7 @@ use Rattle.points.proofs.Judged.{commits, judged}
 -- Refusal 10 does not apply.
 pub may-cut : (b : List ℕ) (x : Extent) → MayCut b x → mayCut (stated b) x b ≡ true
 may-cut b Whole h = refl
-may-cut b (Cut m) h = lt-ltb (count (stated b) (stopped b)) (faults (stated b)) (h refl)
+may-cut b (Cut m) h = lt-ltb (count (stated b) (stopped b)) (faultsIn b) (h refl)
 
 -- A whole event stops nobody.
 pub still-stands : (b : List ℕ) (c k : ℕ) → OneTo (stated b) k → stopped b k ≡ false → StandsAfter b c Whole k
@@ -59,7 +61,7 @@ module _ (b : List ℕ) (c : ℕ) (o : Operation) (x : Extent) (M : MayBegin b c
   asks = begin-asks (faults n) (node b c) o
       (rw (sound-n b (M .usable) n c refl (node-is n c (M .at))) (omega (arith, M .at .0, M .at .1)))
 
-  heard : length (step .node .heard) ≡ 256
+  heard : length (step .node .heard) ≡ cells
   unfolding begun
   heard = ap (λ (s : Step). length (s .node .heard)) asks ∙ heard-read (recordIn (block b c))
 

@@ -12,13 +12,13 @@ use borrow.Author.Tests.{lt-ltb, eq-eqb, ne-eqb}
 use Rattle.octets.specs.Answer.{result}
 use Rattle.octets.specs.Test.{pick, both}
 use Rattle.octets.proofs.Test.{true-false}
+use Rattle.table.specs.Table.{cells}
 use Rattle.view.specs.View.{noView, viewOf}
 use Rattle.view.specs.declared.View.{View}
 use Rattle.view.proofs.ViewBytes.{view-absent}
 use Rattle.wire.specs.Codec.{viewAt}
 use Rattle.wire.specs.declared.Message.{Message}
 use Rattle.wire.specs.declared.Message.the-variants.{Read, ReadAnswer, Write, WriteAnswer, Echo}
-use Rattle.table.specs.Quorum.{faults}
 use Rattle.record.specs.Usable.{isOpen, full}
 use Rattle.record.specs.declared.Node.{Node}
 use Rattle.record.specs.declared.Wait.{Wait}
@@ -37,7 +37,7 @@ use Rattle.block.specs.Block.{recordIn, takeOff}
 use Rattle.outgoing.specs.Entries.{entry, addressed, entriesOf, entries, goTo}
 use Rattle.outgoing.proofs.Laws.{entries-two, goTo-append, goTo-once}
 use Rattle.react_bytes.proofs.Handling.{reacted}
-use Rattle.layout.specs.Layout.{stated, block, stopped, node, channel, onBlock}
+use Rattle.layout.specs.Layout.{stated, block, stopped, node, channel, onBlock, faultsIn}
 use Rattle.layout.proofs.Check.{is-size, sound-size, sound-channel}
 use Rattle.cluster.specs.Event.{Result, refuse, begin, deliver, settle}
 use Rattle.outgoing.specs.declared.Extent.{Extent}
@@ -66,14 +66,14 @@ module _ (b : List ℕ) (a c : ℕ) (x : Extent) (m : Message) (M : MayDeliver b
   beside = viewOf (stated b) (viewAt (stated b) slot)
 
   abbrev handling : Step
-  handling = messageStep (faults (stated b)) (node b c) a m beside
+  handling = messageStep (faultsIn b) (node b c) a m beside
 
-  heard-after : length (handling .node .heard) ≡ 256
+  heard-after : length (handling .node .heard) ≡ cells
   unfolding messageStep
   heard-after =
       let r = recordIn (block b c) in
       let s = react (recordOf r) a m beside in
-      ap length (move-on-keeps (λ (d : Node). d .heard) (λ d q w v. refl) (faults (stated b)) s)
+      ap length (move-on-keeps (λ (d : Node). d .heard) (λ d q w v. refl) (faultsIn b) s)
       ∙ ap (λ (d : Node). length (d .heard)) (sym (reacted r (recordBytes (s .node)) a m beside
       (sized-view (stated b) (viewAt (stated b) slot) (is-size (stated b) (sound-size b (M .usable)) .1)) refl))
       ∙ heard-read (recordBytes (s .node))
@@ -130,7 +130,7 @@ module _ (b : List ℕ) (c q : ℕ) (M : MayDeliver b c c Whole (Read q)) (idle 
   answered : handled b c c Whole (Read q) ≡ entry noView (ReadAnswer q (node b c .maxtag)) c ∷ []
   unfolding entriesOf addressed
   answered = ap (λ (s : Step). entries (stated b) c (s .outbox))
-      (answers-only (faults (stated b)) (node b c) c q (beside b c c Whole (Read q) M) idle)
+      (answers-only (faultsIn b) (node b c) c q (beside b c c Whole (Read q) M) idle)
 
   here : stillWaits b c c c ≡ countOf (channel b c c) - 1
   here = own-left b c c Whole (Read q) M ∙ rw (eq-eqb c c refl) refl
@@ -166,7 +166,7 @@ module _ (b : List ℕ) (c q : ℕ) (M : MayDeliver b c c Whole (Read q)) (idle 
       (own-left b c c Whole (Read q) M) (other-left b c c Whole (Read q) M) (R.deliver c c Whole)
       (delivers b c c Whole (Read q) M) own-room)
       ∙ ap (λ (s : Step). result (s .ending))
-      (answers-only (faults (stated b)) (node b c) c q (beside b c c Whole (Read q) M) idle)
+      (answers-only (faultsIn b) (node b c) c q (beside b c c Whole (Read q) M) idle)
 
   -- As many wait after it as before.
   pub own-count : stillWaits b c c c + goTo c (handled b c c Whole (Read q)) ≡ countOf (channel b c c)
@@ -200,7 +200,7 @@ module _ {n : ℕ} (b : List ℕ) (F : Filled n 1 16 (Write 1 1) b) where
   two =
       let v = handling b 1 1 Whole (Write 1 1) (F .delivers) .outbox .view in
       ap (λ ms. goTo 1 (entriesOf (stated b) 1 v ms))
-      (writes-two (faults (stated b)) (node b 1) (beside b 1 1 Whole (Write 1 1) (F .delivers)) (F .begins .idle)
+      (writes-two (faultsIn b) (node b 1) (beside b 1 1 Whole (Write 1 1) (F .delivers)) (F .begins .idle)
       (F .maxtag))
       ∙ ap (goTo 1) (entries-two (stated b) 1 v (Echo 1) (WriteAnswer 1 1))
       ∙ goTo-append 1 (addressed (stated b) 1 v (Echo 1)) (addressed (stated b) 1 v (WriteAnswer 1 1))

@@ -14,7 +14,8 @@ use Rattle.octets.specs.Bytes.{put}
 use Rattle.octets.specs.Loop.{each}
 use Rattle.octets.specs.Test.{pick}
 use Rattle.octets.proofs.Put.{length-put}
-use Rattle.view.specs.Size.{isSize}
+use Rattle.table.specs.Table.{cells}
+use Rattle.view.specs.Size.{isSize, nodes}
 use Rattle.view.specs.View.{viewBytes}
 use Rattle.view.specs.declared.View.{View}
 use Rattle.wire.specs.Codec.{answer, after}
@@ -150,7 +151,7 @@ module _ (n : ℕ) (small : n ≤ 16) where
         ];
       }
 
-    pub held-keep : (r : Node) → length (r .heard) ≡ 256 → Held (onBlock d (keep r) t)
+    pub held-keep : (r : Node) → length (r .heard) ≡ cells → Held (onBlock d (keep r) t)
     held-keep r h = held-on (keep r) (keep-length (block t d) own r h)
         (λ a p. rw (keep-channel (block t d) own r h a) (H .most a d p o))
 

@@ -13,7 +13,7 @@ use Rattle.logs.proofs.Count.{count-none}
 use Rattle.octets.specs.Answer.{Answer, result, refused}
 use Rattle.octets.specs.Test.{pick}
 use Rattle.octets.proofs.Test.{both-true, true-false}
-use Rattle.view.specs.Size.{isSize}
+use Rattle.view.specs.Size.{isSize, nodes}
 use Rattle.view.specs.View.{noView, viewOf, viewBytes}
 use Rattle.view.specs.declared.View.{View}
 use Rattle.wire.specs.Codec.{front, viewAt}
@@ -48,7 +48,7 @@ abbrev filled : (n d k : ℕ) → Message → List ℕ
 filled n d k m = letOut n 1 (replicate k (entry noView m d)) (freshBytes n (clusterSize n))
 
 -- The message is known by what it means for the algorithm, and is never stale.
-module _ (n : ℕ) (size : OneTo 16 n) (d : ℕ) (at : OneTo n d) (m : Message)
+module _ (n : ℕ) (size : OneTo nodes n) (d : ℕ) (at : OneTo n d) (m : Message)
     (ok : allowed n m (viewBytes n noView) ≡ true)
     (known : (k : Message) (v : View) → messageOf n d v k ≡ messageOf n d noView m → k ≡ m)
     (new : (k : Node) → staleMessage k 1 m ≡ false) where
@@ -198,7 +198,7 @@ known-write n d (Echo t) v e = cc
 known-write n d (Value t w p) v e = cc
 known-write n d (Good t) v e = cc
 
-pub filled-reads : (n : ℕ) → OneTo 16 n → (d : ℕ) → OneTo n d → (j : ℕ) → suc j ≤ capacity
+pub filled-reads : (n : ℕ) → OneTo nodes n → (d : ℕ) → OneTo n d → (j : ℕ) → suc j ≤ capacity
     → (b : List ℕ) × Filled n d (suc j) (Read 1) b
 unfolding allowed
 filled-reads n size d at j h = (
@@ -206,7 +206,7 @@ filled-reads n size d at j h = (
   is-filled n size d at (Read 1) refl (known-read n d) (λ k. refl) j h,
 )
 
-pub filled-writes : (n : ℕ) → OneTo 16 n → (d : ℕ) → OneTo n d → (j : ℕ) → suc j ≤ capacity
+pub filled-writes : (n : ℕ) → OneTo nodes n → (d : ℕ) → OneTo n d → (j : ℕ) → suc j ≤ capacity
     → (b : List ℕ) × Filled n d (suc j) (Write 1 1) b
 unfolding allowed
 filled-writes n size d at j h = (

@@ -7,6 +7,7 @@ use mathlib.Core.Path.{_≡_, refl, sym, ap, ap₂, _∙_, subst}
 use mathlib.Core.Bool.{false, decide}
 use mathlib.Core.List.{List, [], _∷_, map}
 use lib.ListN.{length}
+use Rattle.view.specs.Size.{nodes}
 use Rattle.logs.specs.Count.{count}
 use Rattle.logs.specs.Update.{upd, upd2}
 use Rattle.layout.specs.Layout.{clusterSize}
@@ -49,7 +50,7 @@ nothing-waits b long a c (lo, hi) (low, high) up =
     ap₂ (λ x y. T.waits (R.traceOf 1 b (scanThen 1 five)) x y) first second
     ∙ ap (λ tr. T.waits tr 1 1) (demand2 1 (omega arith, omega arith) b long .same (scanThen 1 five)) ∙ all-handed
 
-none-of-code : (n c : ℕ) → OneTo 16 n → OneTo n c → (b : List ℕ) → length b ≡ clusterSize n → (ds : List Delivery)
+none-of-code : (n c : ℕ) → OneTo nodes n → OneTo n c → (b : List ℕ) → length b ≡ clusterSize n → (ds : List Delivery)
     → T.stopped (C.traceOf C.code n b (scanThen c ds)) c ≡ false
     → NothingWaits n (C.traceOf C.code n b (scanThen c ds)) → ShowsNone C.code n c b ds
 none-of-code n c size at b long ds up quiet = record {

@@ -12,6 +12,7 @@ use borrow.Author.Tests.{le-leb, leb-true, eq-eqb, ne-eqb}
 use Rattle.octets.specs.Answer.{result, refused}
 use Rattle.octets.specs.Test.{pick}
 use Rattle.octets.proofs.Test.{true-false, not-true-false}
+use Rattle.table.specs.Table.{cells}
 use Rattle.table.specs.Loop.{all}
 use Rattle.table.proofs.Laws.{all-at, all-all}
 use Rattle.step.specs.Step.{messages}
@@ -55,7 +56,7 @@ only-if-full b c x waits l r full (e, h) k S = elim (decLe (waits k + goTo k l) 
 -- messages are left then from c to k.
 module _ (b : List ℕ) (fit : fits b ≡ true) (usable : sound b ≡ true) (took : Bool) (a c : ℕ)
     (from : OneTo (stated b) a) (at : OneTo (stated b) c) (some : took ≡ true → 0 < countOf (channel b a c))
-    (x : Extent) (s : Step) (heard : length (s .node .heard) ≡ 256) (waits : ℕ → ℕ)
+    (x : Extent) (s : Step) (heard : length (s .node .heard) ≡ cells) (waits : ℕ → ℕ)
     (own-waits : waits c ≡ countOf (channel b c c) - goneIn took a c)
     (other-waits : (k : ℕ) → (k ≡ c → ⊥) → waits k ≡ countOf (channel b c k)) where
   abbrev n : ℕ

@@ -22,7 +22,7 @@ use Rattle.table.specs.Quorum.{member, with, only, size, faults, isQuorum}
 use Rattle.table.specs.Table.{heardWithin}
 use Rattle.table.proofs.Entries.{within-absent}
 use Rattle.table.proofs.Sets.{size-with}
-use Rattle.record.specs.Record.{waiting, closed}
+use Rattle.record.specs.Record.{waiting, closed, faultsOf}
 use Rattle.record.specs.Usable.{stillUses}
 use Rattle.record.specs.declared.Node.{Node}
 use Rattle.record.specs.declared.Operation.{Operation}
@@ -48,7 +48,7 @@ use Rattle.points.specs.LastTag.{LastAnswer, used, spentBy, goesOn, scan
 
 module _ (c : Node) (o : Operation) (m s t : ℕ) (b out : List ℕ) (L : LastAnswer c o m s t b out) where
   abbrev f : ℕ
-  f = faults (c .n)
+  f = faultsOf c
 
   abbrev step : Step
   step = messageStep f c s (ReadAnswer (c .request) t) noView

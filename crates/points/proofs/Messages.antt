@@ -11,7 +11,7 @@ use Rattle.octets.specs.Bytes.{part}
 use Rattle.octets.specs.Loop.{allTo, sumTo}
 use Rattle.octets.proofs.Put.{put-over}
 use Rattle.octets.proofs.Test.{both-true}
-use Rattle.view.specs.Size.{isSize}
+use Rattle.view.specs.Size.{isSize, nodes}
 use Rattle.view.specs.Report.{reportOf}
 use Rattle.view.specs.View.{viewOk}
 use Rattle.wire.specs.Layout.{encode, allowed, size}
@@ -45,7 +45,7 @@ not-taken n s = record {
   figures = λ v e. rw (eq-eqb (length v) (16 * n) e, s) refl;
 }
 
-is-taken : (n : ℕ) → OneTo 16 n → Taken code n
+is-taken : (n : ℕ) → OneTo nodes n → Taken code n
 unfolding figuresOf N.fresh statedSize
 is-taken n (low, small) = record {
   read = λ m v h. read-back n m v s h;

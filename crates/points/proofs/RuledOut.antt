@@ -1,7 +1,8 @@
--- For every clause of the points a wrong call that it rules out: no calls with that one in them have the points. It is
--- the code's call but where a test says so, and no other clause rules it out; this is not proved. Only a clause that
--- follows from others (`Follows`) rules out no call alone; it has a wrong call where it has document 01's words. Here
--- for n, f and messages: `absent-1` and `absent-16`, `values`, `written`, `read` and `long` follow.
+-- For the clauses of the points wrong calls that they rule out: no calls with that one in them have the points. A wrong
+-- call is the code's but where a test says so, and no other clause rules it out; this is not proved. Two kinds of clause
+-- rule out no call alone: one that follows from others (`Follows`), which has a wrong call where it has document 01's
+-- words; and one that says of the code that there is such a case. Here for n, f and messages: `absent-1` and
+-- `absent-16`, `values`, `written`, `read` and `long` follow.
 use Prim.Native.Nat.{ℕ, _+_, _*_, _≤_, _<_, min, max}
 use native.Mathlib.Omega.{arith}
 use mathlib.Core.Path.{_≡_, refl, sym, ap, _∙_}
@@ -14,7 +15,7 @@ use Rattle.octets.specs.Bytes.{part}
 use Rattle.octets.specs.Loop.{allTo, sumTo}
 use Rattle.octets.specs.Test.{pick, both}
 use Rattle.view.specs.Report.{reportOf}
-use Rattle.view.specs.Size.{isSize}
+use Rattle.view.specs.Size.{isSize, nodes}
 use Rattle.view.specs.View.{noView, viewOk}
 use Rattle.wire.specs.Codec.{decode, answer, isGood}
 use Rattle.wire.specs.Layout.{encode, allowed}
@@ -80,7 +81,7 @@ long-lent n = length-replicate {A = ℕ} (code .size n) 0
 -- ---- n 0 and 17 refused: each call in turn takes 0 for 1, or 17 for 16
 
 -- The number that n is taken for is not refused.
-module _ (f : ℕ → ℕ) (k : ℕ) (size : OneTo 16 (f k)) where
+module _ (f : ℕ → ℕ) (k : ℕ) (size : OneTo nodes (f k)) where
   abbrev taken : Taken code (f k)
   taken = points .sizes .taken (f k) size
 
@@ -159,7 +160,7 @@ echo-unwritten P = apart (ap (λ (p : Answer ℕ × List ℕ). p .0)
 
 first-only : RuledOut (makes (λ n own. N.fresh n 1))
 first-only P =
-    let size : OneTo 16 2 = (omega arith, omega arith) in
+    let size : OneTo nodes 2 = (omega arith, omega arith) in
     let e : _≡_ {A = ℕ} 1 2 = ap (λ (x : Outcome). x .node .own)
     (sym (points .sizes .taken 2 size .fresh-node 1 (omega arith, omega arith))
     ∙ P .sizes .taken 2 size .fresh-node 2 (omega arith, omega arith)) in omega arith

@@ -12,6 +12,7 @@ use Rattle.logs.specs.Count.{count}
 use Rattle.logs.specs.Update.{upd, upd2}
 use Rattle.octets.specs.Answer.{Answer, result}
 use Rattle.octets.specs.Test.{pick, both}
+use Rattle.view.specs.Size.{nodes}
 use Rattle.view.specs.View.{noView}
 use Rattle.view.specs.declared.View.{View}
 use Rattle.record.specs.declared.Operation.the-variants.{Scan}
@@ -49,7 +50,7 @@ silent y v b = record { bytes = b; answer = y; view = v; sent = [] }
 one : OneTo 1 1
 one = (omega arith, omega arith)
 
-size : OneTo 16 1
+size : OneTo nodes 1
 size = (omega arith, omega arith)
 
 -- With one node there is one channel.

@@ -10,6 +10,7 @@ use borrow.Author.Tests.{le-leb, lt-ltb, le-ltb}
 use Rattle.octets.specs.Answer.{result}
 use Rattle.octets.specs.Test.{pick, both}
 use Rattle.octets.proofs.Test.{both-true, not-true-false}
+use Rattle.view.specs.Size.{nodes}
 use Rattle.logs.proofs.Count.{count-none}
 use Rattle.logs.proofs.Update.{upd-same}
 use Rattle.view.specs.View.{noView}
@@ -38,13 +39,13 @@ pub node-is : (n c : ℕ) → OneTo n c → isNode n c ≡ true
 node-is n c (lo, hi) = both-true (le-leb 1 c lo) (le-leb c n hi)
 
 -- Fresh bytes mirror the cluster at its start.
-pub start-mirrors : (n : ℕ) → OneTo 16 n → (b : List ℕ) → length b ≡ clusterSize n
+pub start-mirrors : (n : ℕ) → OneTo nodes n → (b : List ℕ) → length b ≡ clusterSize n
     → Mirrors n (fresh n b .bytes) K.start
 unfolding after K.after
 start-mirrors n (low, small) b long = run-mirrors n low small b long []
 
 -- Bytes that mirror a cluster are those of a cluster.
-pub is-cluster : {n : ℕ} → OneTo 16 n → {b : List ℕ} {σ : K.Cluster} → Mirrors n b σ → IsCluster n b
+pub is-cluster : {n : ℕ} → OneTo nodes n → {b : List ℕ} {σ : K.Cluster} → Mirrors n b σ → IsCluster n b
 is-cluster (low, small) M = record {
   states = M .shows .states;
   fit = is-fit low small M;
@@ -123,7 +124,7 @@ module _ (b : List ℕ) (long : length b ≡ clusterSize 3) (a : ℕ) (at : OneT
   abbrev three : List ℕ
   three = fresh 3 b .bytes
 
-  size : OneTo 16 3
+  size : OneTo nodes 3
   size = (omega arith, omega arith)
 
   start : Mirrors 3 three K.start

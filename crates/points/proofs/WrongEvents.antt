@@ -9,6 +9,7 @@ use borrow.Author.Tests.{eq-eqb}
 use Rattle.octets.specs.Answer.{Answer, result, refused}
 use Rattle.octets.specs.Test.{pick, both}
 use Rattle.octets.proofs.Test.{both-true}
+use Rattle.view.specs.Size.{nodes}
 use Rattle.view.specs.View.{noView}
 use Rattle.wire.specs.declared.Message.{Message}
 use Rattle.wire.specs.declared.Message.the-variants.{Read, Write}
@@ -105,7 +106,7 @@ pub too-many : (b : List ℕ) × Filled 1 1 16 (Write 1 1) b
 too-many = points .channels .sixteen-writes
 
 -- Two nodes.
-two : OneTo 16 2
+two : OneTo nodes 2
 two = (omega arith, omega arith)
 
 pub pair : (b : List ℕ) × Filled 2 1 14 (Read 1) b

@@ -4,6 +4,7 @@ use mathlib.Core.Path.{_≡_}
 use mathlib.Core.Bool.{false}
 use mathlib.Core.List.{List, [], _∷_, map}
 use lib.ListN.{length, replicate}
+use Rattle.view.specs.Size.{nodes}
 use Rattle.record.specs.declared.Operation.the-variants.{Scan}
 use Rattle.layout.specs.Layout.{clusterSize}
 use Rattle.outgoing.specs.declared.Extent.{Extent}
@@ -46,10 +47,10 @@ five = replicate 5 (record { sender = 1; receiver = 1; extent = Whole })
 pub record Absences (calls : Calls) : Type 0 where
   -- With whole deliveries. It follows from the next clause, since these stop no node, and rules out no call that that
   -- one does not.
-  pub whole : (n c : ℕ) → OneTo 16 n → OneTo n c → (b : List ℕ) → length b ≡ clusterSize n → (ds : List Delivery)
+  pub whole : (n c : ℕ) → OneTo nodes n → OneTo n c → (b : List ℕ) → length b ≡ clusterSize n → (ds : List Delivery)
       → AllWhole ds → NothingWaits n (traceOf calls n b (scanThen c ds)) → ShowsNone calls n c b ds
   -- With cut deliveries too, where the scan's node has not stopped.
-  pub cut : (n c : ℕ) → OneTo 16 n → OneTo n c → (b : List ℕ) → length b ≡ clusterSize n → (ds : List Delivery)
+  pub cut : (n c : ℕ) → OneTo nodes n → OneTo n c → (b : List ℕ) → length b ≡ clusterSize n → (ds : List Delivery)
       → T.stopped (traceOf calls n b (scanThen c ds)) c ≡ false
       → NothingWaits n (traceOf calls n b (scanThen c ds)) → ShowsNone calls n c b ds
   -- There is such a list: at the code's cluster of one node, the scan and its five deliveries.

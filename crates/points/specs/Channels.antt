@@ -6,12 +6,12 @@ use mathlib.Core.List.{List}
 use lib.Dec.{eqb}
 use Rattle.octets.specs.Answer.{result}
 use Rattle.octets.specs.Test.{pick, both}
+use Rattle.view.specs.Size.{nodes}
 use Rattle.view.specs.View.{viewOf}
 use Rattle.wire.specs.Codec.{front, viewAt}
 use Rattle.wire.specs.declared.Message.{Message}
 use Rattle.wire.specs.declared.Message.the-variants.{Read, Write}
 use Rattle.table.specs.Loop.{count}
-use Rattle.table.specs.Quorum.{faults}
 use Rattle.record.specs.Usable.{isOpen, full}
 use Rattle.record.specs.declared.Operation.{Operation}
 use Rattle.step.specs.Move.{messageStep, beginStep}
@@ -20,7 +20,7 @@ use Rattle.step.specs.declared.Ending.{Ending}
 use Rattle.step.specs.declared.Ending.the-variants.{None}
 use Rattle.region.specs.Channel.{countOf, first}
 use Rattle.outgoing.specs.Entries.{Entry, entries, goTo}
-use Rattle.layout.specs.Layout.{stated, stopped, node, channel, fits, sound}
+use Rattle.layout.specs.Layout.{stated, stopped, node, channel, fits, sound, faultsIn}
 use Rattle.cluster.specs.Event.{Result, refuse}
 use Rattle.outgoing.specs.Outgoing.{within, isCut}
 use Rattle.outgoing.specs.declared.Extent.{Extent}
@@ -33,7 +33,7 @@ use Rattle.points.specs.Calls.{Calls, event}
 
 -- One node more may stop, if the event is cut.
 abbrev pub MayCut : List ℕ → Extent → Type 0
-MayCut b x = isCut x ≡ true → count (stated b) (stopped b) < faults (stated b)
+MayCut b x = isCut x ≡ true → count (stated b) (stopped b) < faultsIn b
 
 -- An operation begins at node c.
 pub record MayBegin (b : List ℕ) (c : ℕ) (x : Extent) : Type 0 where
@@ -62,10 +62,10 @@ pub record MayDeliver (b : List ℕ) (a c : ℕ) (x : Extent) (m : Message) : Ty
 
 -- The entries that the event lets out: the step's list, or its first part.
 abbrev pub begun : List ℕ → ℕ → Operation → Extent → List Entry
-begun b c o x = within x (entries (stated b) c (beginStep (faults (stated b)) (node b c) o .outbox))
+begun b c o x = within x (entries (stated b) c (beginStep (faultsIn b) (node b c) o .outbox))
 
 abbrev pub handled : List ℕ → (a c : ℕ) → Extent → Message → List Entry
-handled b a c x m = within x (entries (stated b) a (messageStep (faults (stated b)) (node b c) a m
+handled b a c x m = within x (entries (stated b) a (messageStep (faultsIn b) (node b c) a m
     (viewOf (stated b) (viewAt (stated b) (first (channel b a c)))) .outbox))
 
 -- What waits from c to k: all of it for a begin; without the delivered message, if it was one of c to itself.

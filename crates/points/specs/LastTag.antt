@@ -7,14 +7,14 @@ use lib.ListN.{length, replicate}
 use Rattle.octets.specs.Answer.{result}
 use Rattle.octets.specs.Bytes.{put}
 use Rattle.view.specs.Report.{noReport}
-use Rattle.view.specs.Size.{limit}
+use Rattle.view.specs.Size.{limit, nodes}
 use Rattle.view.specs.View.{noView}
 use Rattle.view.specs.declared.Report.{Report}
 use Rattle.wire.specs.Layout.{encode}
 use Rattle.wire.specs.Codec.{decode}
 use Rattle.wire.specs.declared.Message.the-variants.{ReadAnswer, Write, Value}
-use Rattle.table.specs.Quorum.{member, with, size, faults}
-use Rattle.record.specs.Record.{closed}
+use Rattle.table.specs.Quorum.{member, with, size}
+use Rattle.record.specs.Record.{closed, faultsOf}
 use Rattle.record.specs.Usable.{usable}
 use Rattle.record.specs.declared.Node.{Node}
 use Rattle.record.specs.declared.Operation.{Operation}
@@ -34,7 +34,7 @@ pub record LastAnswer (c : Node) (o : Operation) (m s t : ℕ) (b out : List ℕ
   pub is-usable : usable c ≡ true
   pub answered : ℕ
   pub reads : c .wait ≡ Reading o answered m
-  pub short : size (c .n) answered + 1 ≡ c .n - faults (c .n)
+  pub short : size (c .n) answered + 1 ≡ c .n - faultsOf c
   pub sender : OneTo (c .n) s
   pub new : member answered s ≡ false
   pub says : decode (c .n) b ≡ result (ReadAnswer (c .request) t)

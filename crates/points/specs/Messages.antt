@@ -6,7 +6,7 @@ use mathlib.Core.List.{List, [], _∷_, map}
 use lib.ListN.{length, take, getD, replicate}
 use Rattle.octets.specs.Answer.{result, refused}
 use Rattle.octets.specs.Bytes.{put}
-use Rattle.view.specs.Size.{limit}
+use Rattle.view.specs.Size.{limit, nodes}
 use Rattle.view.specs.View.{noView, viewOk}
 use Rattle.wire.specs.Layout.{encode, allowed}
 use Rattle.wire.specs.declared.Message.{Message}
@@ -51,7 +51,7 @@ pub record Sizes (calls : Calls) : Type 0 where
   pub none : Refused calls 0
   pub seventeen : Refused calls 17
   -- 1 and 16, and all between.
-  pub taken : (n : ℕ) → OneTo 16 n → Taken calls n
+  pub taken : (n : ℕ) → OneTo nodes n → Taken calls n
   -- The figures of no report. They follow from `taken`, and rule out no call that it does not.
   pub absent-1 : calls .figures 1 (replicate 16 0) ≡ result zeros
   pub absent-16 : calls .figures 16 (replicate 256 0) ≡ result zeros

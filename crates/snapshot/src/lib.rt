@@ -15,7 +15,7 @@
 //   100 to 103     an update is done
 //   110 to 113     a scan has ended
 //
-// The last digit of an ending is its rule: 0 for a view borrowed from a good message, or the round, 1 to 3. Refusals
+// The last digit of 100 to 113 is the rule: 0 for a view borrowed from a good message, or the round, 1 to 3. Refusals
 // that come later stay below 100. A refusal leaves all that is lent as it was.
 mod codes;
 
