@@ -23,7 +23,8 @@ returns c =
     put-then b nPlace (headBytes (headIn x) ++ wordBytes (x .heard)) (viewsBytes x) (viewPlace lastIn) (omega arith)
     (heard-end x long)
     (put-then b nPlace (headBytes (headIn x)) (wordBytes (x .heard)) heardPlace (omega arith) (head-end (headIn x))
-    (c10 .before .before .save-head .ensures) (c .before .before .before .before .before .before .put-table256 .ensures))
+    (c10 .before .before .save-head .ensures)
+    (c .before .before .before .before .before .before .put-table256 .ensures))
     (c .before .before .save-views .ensures)
 
 pub save-spec : {M : Type 1} → statement M
