@@ -2,19 +2,26 @@
 use Prim.Native.Nat.{ℕ, _≤_}
 use native.Mathlib.Omega.{arith}
 use mathlib.Core.Path.{_≡_, refl, sym, ap, _∙_}
-use mathlib.Core.Bool.{true, false}
+use mathlib.Core.Bool.{Bool, true, false}
 use mathlib.Core.List.{List}
+use Rattle.octets.specs.Answer.{result, refused}
+use Rattle.octets.specs.Test.{pick}
+use Rattle.view.specs.View.{noView}
 use Rattle.record.specs.Usable.{isOpen, full}
 use Rattle.record.specs.declared.Node.{Node}
 use Rattle.record.specs.declared.Operation.{Operation}
 use Rattle.step.specs.Move.{begun, beginStep}
 use Rattle.step.specs.declared.Step.{Step}
+use Rattle.step.specs.declared.Ending.the-variants.{None}
 use Rattle.step.proofs.Waits.{begin-asks}
 use Rattle.layout.specs.Layout.{stated, faultsIn, node}
 use Rattle.outgoing.specs.Entries.{entries}
-use Rattle.outgoing.specs.Outgoing.{within, mayCut, hasRoom}
+use Rattle.outgoing.specs.Outgoing.{within, isCut, mayCut, hasRoom, released}
 use Rattle.outgoing.specs.declared.Extent.{Extent}
-use Rattle.cluster.specs.Event.{refuse, commit, settle, openIn}
+use Rattle.cluster.specs.declared.Answer.{Answer}
+use Rattle.cluster.specs.Event.{refuse, demand, commit, settle, openIn}
+use Rattle.cluster.specs.Outcome.{said, tells}
+use Rattle.cluster.proofs.Told.{gives}
 
 module _ (n a c : ℕ) (x : Extent) (s : Step) (found b : List ℕ) where
   pub settle-full : hasRoom n a c x (s .node) (s .outbox) found ≡ false → settle n a c x s found b ≡ refuse 11 b
@@ -25,6 +32,24 @@ module _ (n a c : ℕ) (x : Extent) (s : Step) (found b : List ℕ) where
       → settle n a c x s found b ≡ commit n c x s (within x (entries n a (s .outbox))) found
   unfolding settle
   settle-commits h = rw h refl
+
+  -- what the code tells, by whether there was room (t), and the bytes z that it left
+  pub settle-told : {t cut : Bool} {z : List ℕ} (r : Answer) → t ≡ hasRoom n a c x (s .node) (s .outbox) found
+      → z ≡ pick t (released n a c x (s .node) (s .outbox) found) b → cut ≡ isCut x
+      → said (r .outcome) ≡ pick t (result (pick cut None (s .ending))) (refused 11)
+      → r .view ≡ pick t (pick cut noView (s .view)) noView → tells r z (settle n a c x s found b)
+  unfolding settle
+  settle-told {t} {cut} {z} r judged left e answer shown = rw (sym judged) (go t left answer shown)
+    where
+      go : (u : Bool) → z ≡ pick u (released n a c x (s .node) (s .outbox) found) b
+          → said (r .outcome) ≡ pick u (result (pick cut None (s .ending))) (refused 11)
+          → r .view ≡ pick u (pick cut noView (s .view)) noView
+          → tells r z (demand u 11 b (commit n c x s (within x (entries n a (s .outbox))) found))
+      go true q h v =
+          gives r z {e = commit n c x s (within x (entries n a (s .outbox))) found} refl
+          (h ∙ ap (λ (y : Bool). result (pick y None (s .ending))) e)
+          (v ∙ ap (λ (y : Bool). pick y noView (s .view)) e) q
+      go false q h v = gives r z {e = refuse 11 b} refl h v q
 
 -- the begin of an operation at a node whose record is d
 module _ (n c : ℕ) (o : Operation) (x : Extent) (b : List ℕ) (d : Node) (at : d ≡ node b c) where

@@ -1,17 +1,18 @@
 // A message handed to a node: the step is done on a copy of the bytes of its record, and written where nothing is
 // refused.
 use crate::Answer;
+use crate::answered;
 use crate::refused;
-use crate::step_at;
 use layout::copy_record_at;
 use layout::faults_in;
 use layout::first_at;
 use outgoing::Extent;
 use outgoing::is_cut;
-use outgoing::may_cut;
 use react_bytes::is_stale_in;
 use react_bytes::react_in;
 use region::places::RECORD;
+use release::may_cut;
+use release::settle_delivery;
 use step::Sent;
 use step_bytes::move_in;
 use view::ENTRY;
@@ -71,7 +72,9 @@ fn hand_on<'a>(
     }
     let sent = handle_first(b, n, a, c, m, r);
     let e = move_in(r, n, faults_in(b), a, sent);
-    step_at(b, n, a, c, true, r, e, x)
+    let room = settle_delivery(b, n, a, c, r, e.outbox, x);
+    let ending = e.ending;
+    answered(room, is_cut(x), ending, e.view)
 }
 
 pub(crate) fn hand_over(b: &mut [u8], n: usize, a: usize, c: usize, m: Message, x: Extent) -> Answer

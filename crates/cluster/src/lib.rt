@@ -17,14 +17,13 @@ use layout::waiting_at;
 use octets::and;
 use outgoing::Extent;
 use outgoing::is_cut;
-use outgoing::may_cut;
-use outgoing::settle;
 use record::Operation;
 use record::blank_node;
 use region::channel::index;
 use region::places::RECORD;
+use release::may_cut;
+use release::settle;
 use step::Ending;
-use step_bytes::Effect;
 use step_bytes::begin_in;
 use step_bytes::is_full_in;
 use step_bytes::is_open_in;
@@ -35,20 +34,18 @@ use wire::parse_prefix;
 ghost use mathlib.Core.Path.{_≡_};
 ghost use Prim.Native.Nat.{_+_, _≤_};
 ghost use lib.ListN.{length};
-ghost use Rattle.octets.specs.Answer.{result};
+ghost use Rattle.octets.specs.Answer.{result, refused};
 ghost use Rattle.octets.specs.Test.{pick};
 ghost use Rattle.octets.specs.Loop.{upTo};
 ghost use Rattle.view.specs.Size.{nodes};
 ghost use Rattle.view.specs.View.{noView};
 ghost use Rattle.record.specs.Record.{blank};
 ghost use Rattle.step.specs.declared.Ending.the-variants.{None};
-ghost use Rattle.region.specs.Record.{recordSize, recordOf, recordBytes};
+ghost use Rattle.region.specs.Record.{recordSize};
 ghost use Rattle.block.specs.Block.{keep};
 ghost use Rattle.layout.specs.Layout.{clusterSize, onBlock};
-ghost use Rattle.outgoing.specs.Outgoing.{foundIn};
-ghost use Rattle.step_bytes.specs.Moved.{stepOf};
 ghost use Rattle.cluster.specs.declared.Outcome.the-variants.{Refused};
-ghost use Rattle.cluster.specs.Event.{admission as admissionOf, settle as settleEvent, openIn};
+ghost use Rattle.cluster.specs.Event.{admission as admissionOf, openIn};
 ghost use Rattle.cluster.specs.Event.{fresh as freshEvent, begin as beginEvent, deliver as deliverEvent};
 ghost use Rattle.cluster.specs.Stop.{stop as stopEvent};
 ghost use Rattle.cluster.specs.Outcome.{said, tells};
@@ -91,28 +88,16 @@ pub(crate) fn given(cut: bool, ending: Ending, view: View) -> Answer
     }
 }
 
-// Node c takes a step with effect e, after which `r` is its record, or refuses with 11. If `took`, the message from a
-// that it handled is taken off.
-pub(crate) fn step_at(
-    b: &mut [u8],
-    n: usize,
-    a: usize,
-    c: usize,
-    took: bool,
-    r: &[u8],
-    e: Effect,
-    x: Extent,
-) -> Answer
-    requires { ⌜ (n ≤ nodes) × (1 ≤ a) × (a ≤ n) × (1 ≤ c) × (c ≤ n) × (length (now b) ≡ clusterSize n)
-        × (length (now r) ≡ recordSize) × (now r ≡ recordBytes (recordOf (now r))) ⌝ }
-    ensures { λ t. ⌜ tells t (now (b .exit)) (settleEvent n a c x (stepOf (recordOf (now (r .entry))) e)
-        (foundIn took a c (now (b .entry))) (now (b .entry))) ⌝ }
+// What an event that steps a node answers: 11 where a channel had no room.
+pub(crate) fn answered(room: bool, cut: bool, ending: Ending, view: View) -> Answer
+    ensures { λ r. ⌜ (said (r .outcome) ≡ pick room (result (pick cut None ending)) (refused 11))
+        × (r .view ≡ pick room (pick cut noView view) noView) ⌝ }
 {
-    if !settle(b, n, a, c, took, r, e.outbox, x) {
-        return refused(11);
+    if room {
+        given(cut, ending, view)
+    } else {
+        refused(11)
     }
-    let ending = e.ending;
-    given(is_cut(x), ending, e.view)
 }
 
 // A fresh record in every block.
@@ -167,7 +152,9 @@ fn open_on<'a>(
         return refused(10);
     }
     let e = begin_in(r, o);
-    step_at(b, n, c, c, false, r, e, x)
+    let room = settle(b, n, c, r, e.outbox, x);
+    let ending = e.ending;
+    answered(room, is_cut(x), ending, e.view)
 }
 
 fn open_at(b: &mut [u8], n: usize, c: usize, o: Operation, x: Extent) -> Answer

@@ -12,10 +12,11 @@ use Rattle.step.specs.Move.{begun}
 use Rattle.region.specs.Record.{recordOf}
 use Rattle.react_bytes.proofs.Handling.{sized-of}
 use Rattle.layout.specs.Layout.{node}
+use Rattle.step_bytes.specs.Moved.{stepOf}
 use Rattle.outgoing.proofs.Judged.{cut-judged}
 use Rattle.cluster.proofs.Told.{becomes, refuses}
 use Rattle.cluster.proofs.Moved.{sized-begun, step-bytes, step-back}
-use Rattle.cluster.proofs.Settled.{open-busy, open-full, open-uncut, open-settles}
+use Rattle.cluster.proofs.Settled.{settle-told, open-busy, open-full, open-uncut, open-settles}
 use Rattle.cluster.proofs.open_on.Statement.{statement}
 use Rattle.cluster.proofs.open_on.Tie as tie
 
@@ -69,8 +70,8 @@ begin-in-requires c κs =
     let more : full d ≡ false = sym (c6 .is-full-in .ensures) ∙ c5 .if2 .left in
     (search needs, omega (arith, ltb-false (limit - d .request) 5 more))
 
-step-at-requires : tie.Need-step-at-requires
-step-at-requires c κs =
+settle-requires : tie.Need-settle-requires
+settle-requires c κs =
     let c4 = c .before .before .before .before in
     let c14 = c4 .before .before .before .before .before .before .before .before .before .before in
     let c18 = c14 .before .before .before .before in
@@ -81,8 +82,6 @@ step-at-requires c κs =
       h .small,
       h .low,
       h .high,
-      h .low,
-      h .high,
       h .long,
       c4 .begin-in .kept .0 ∙ c18 .copy-record-at .kept .1 .1 .0 ∙ c23 .pre .1,
       step-bytes (begun (recordOf r) (a .o)) (sized-begun (recordOf r) (a .o) (sized-of r)) (c4 .begin-in .ensures),
@@ -90,35 +89,39 @@ step-at-requires c κs =
 
 same-length-8 : tie.Need-same-length-8
 same-length-8 c =
-    let c7 = c .before .before .before .before .before .before .before in
-    let c17 = c7 .before .before .before .before .before .before .before .before .before .before in
-    let c21 = c17 .before .before .before .before in
-    c7 .begin-in .kept .0 ∙ c21 .copy-record-at .kept .1 .1 .0
+    let c9 = c .before .before .before .before .before .before .before .before .before in
+    let c19 = c9 .before .before .before .before .before .before .before .before .before .before in
+    let c23 = c19 .before .before .before .before in
+    c9 .begin-in .kept .0 ∙ c23 .copy-record-at .kept .1 .1 .0
 
 returns-4 : tie.Need-returns-4
 returns-4 c =
-    let c7 = c .before .before .before .before .before .before .before in
-    let c9 = c7 .before .before in
-    let c10 = c9 .before in
-    let c11 = c10 .before in
-    let c13 = c11 .before .before in
-    let c14 = c13 .before in
-    let c16 = c14 .before .before in
-    let c17 = c16 .before in
-    let c21 = c17 .before .before .before .before in
-    let c26 = c21 .before .before .before .before .before in
-    let a = c26 .args in
-    let h = c26 .pre .0 in
-    let r = c21 .copy-record-at .last .1 .1 .0 in
+    let c9 = c .before .before .before .before .before .before .before .before .before in
+    let c11 = c9 .before .before in
+    let c12 = c11 .before in
+    let c13 = c12 .before in
+    let c15 = c13 .before .before in
+    let c16 = c15 .before in
+    let c18 = c16 .before .before in
+    let c19 = c18 .before in
+    let c23 = c19 .before .before .before .before in
+    let c28 = c23 .before .before .before .before .before in
+    let a = c28 .args in
+    let h = c28 .pre .0 in
+    let r = c23 .copy-record-at .last .1 .1 .0 in
     let d = recordOf r in
-    let at : d ≡ node (a .b .now) (a .c) = ap recordOf (c21 .copy-record-at .ensures) in
-    let back = step-back (begun d (a .o)) (sized-begun d (a .o) (sized-of r)) (c7 .begin-in .ensures) in
-    becomes (c .before .before .step-at .result) (c .before .before .step-at .last .0)
-    (open-settles (a .n) (a .c) (a .o) (a .x) (a .b .now) d at (sym (c17 .is-open-in .ensures) ∙ c16 .if1 .left)
-    (sym (c14 .is-full-in .ensures) ∙ c13 .if2 .left)
-    (cut-judged (a .n) (a .x) (a .b .now) (c11 .is-cut .ensures) (c10 .may-cut .ensures) (not-false _ (c9 .if3 .left)))
+    let at : d ≡ node (a .b .now) (a .c) = ap recordOf (c23 .copy-record-at .ensures) in
+    let settled = c .before .before .before .before .settle in
+    let back = step-back (begun d (a .o)) (sized-begun d (a .o) (sized-of r)) (c9 .begin-in .ensures) in
+    becomes (c .answered .result) (settled .last .0)
+    (open-settles (a .n) (a .c) (a .o) (a .x) (a .b .now) d at (sym (c19 .is-open-in .ensures) ∙ c18 .if1 .left)
+    (sym (c16 .is-full-in .ensures) ∙ c15 .if2 .left)
+    (cut-judged (a .n) (a .x) (a .b .now) (c13 .is-cut .ensures) (c12 .may-cut .ensures) (not-false _ (c11 .if3 .left)))
     (h .states) (ap (λ (y : Node). y .n) at ∙ h .same) (omega (arith, h .low, h .high)) back)
-    (c .before .before .step-at .ensures)
+    (settle-told (a .n) (a .c) (a .c) (a .x) (stepOf (recordOf (c9 .begin-in .last .0)) (c9 .begin-in .result))
+    (a .b .now) (a .b .now)
+    (c .answered .result) (settled .ensures .0) (settled .ensures .1) (c .before .is-cut2 .ensures)
+    (c .answered .ensures .0) (c .answered .ensures .1))
 
 pub open-on-spec : {M : Type 1} → statement M
 open-on-spec =
@@ -128,4 +131,5 @@ open-on-spec =
     (λ c κs. search needs) (λ c κs. search needs) (λ c. search needs) (λ c. search needs) returns-2
     (λ c κs. search needs) (λ c κs. search needs) (λ c κs. search needs) (λ c. search needs)
     (λ c. search needs) returns-3
-    begin-in-requires step-at-requires (λ c. search needs) same-length-8 returns-4)
+    begin-in-requires settle-requires (λ c κs. search needs) (λ c κs. search needs) (λ c. search needs) same-length-8
+    returns-4)

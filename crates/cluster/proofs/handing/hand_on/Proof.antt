@@ -13,9 +13,12 @@ use Rattle.step.proofs.Allowed.{lawful-writer}
 use Rattle.region.specs.Channel.{first}
 use Rattle.region.specs.Record.{recordOf}
 use Rattle.react_bytes.proofs.Handling.{sized-view, sized-of, reacted, reacted-n, reacted-bytes, reacted-step}
-use Rattle.layout.specs.Layout.{node, channel}
+use Rattle.block.specs.Block.{takeOff}
+use Rattle.layout.specs.Layout.{node, channel, onBlock}
+use Rattle.step_bytes.specs.Moved.{stepOf}
 use Rattle.outgoing.proofs.Judged.{cut-judged}
 use Rattle.cluster.proofs.Told.{refuses, becomes}
+use Rattle.cluster.proofs.Settled.{settle-told}
 use Rattle.cluster.proofs.Handed.{hand-stale, hand-uncut, hand-settles}
 use Rattle.cluster.proofs.Moved.{sized-moved, step-bytes, step-back}
 use Rattle.cluster.proofs.Reacted.{react-usable}
@@ -112,8 +115,8 @@ move-in-requires c κs =
       reacted-bytes r r′ (a .a) (a .m) v z (f .ensures .1),
     )
 
-step-at-requires : tie.Need-step-at-requires
-step-at-requires c κs =
+settle-delivery-requires : tie.Need-settle-delivery-requires
+settle-delivery-requires c κs =
     let c4 = c .before .before .before .before in
     let c5 = c4 .before in
     let c10 = c5 .before .before .before .before .before in
@@ -138,45 +141,49 @@ step-at-requires c κs =
 
 same-length-6 : tie.Need-same-length-6
 same-length-6 c =
-    let c7 = c .before .before .before .before .before .before .before in
-    let c13 = c7 .before .before .before .before .before .before in
-    let c25 = c13 .before .before .before .before .before .before .before .before .before .before .before .before in
-    c7 .move-in .kept .0 ∙ c13 .handle-first .kept .1 .1 .1 .1 .1 .0 ∙ c25 .copy-record-at .kept .1 .1 .0
+    let c9 = c .before .before .before .before .before .before .before .before .before in
+    let c15 = c9 .before .before .before .before .before .before in
+    let c27 = c15 .before .before .before .before .before .before .before .before .before .before .before .before in
+    c9 .move-in .kept .0 ∙ c15 .handle-first .kept .1 .1 .1 .1 .1 .0 ∙ c27 .copy-record-at .kept .1 .1 .0
 
 returns-3 : tie.Need-returns-3
 unfolding messageStep
 returns-3 c =
-    let c7 = c .before .before .before .before .before .before .before in
-    let c8 = c7 .before in
-    let c13 = c8 .before .before .before .before .before in
-    let c16 = c13 .before .before .before in
-    let c17 = c16 .before in
-    let c18 = c17 .before in
-    let c20 = c18 .before .before in
-    let c21 = c20 .before in
-    let c25 = c21 .before .before .before .before in
-    let c30 = c25 .before .before .before .before .before in
-    let a = c30 .args in
-    let h = c30 .pre .0 in
-    let k = c25 .copy-record-at in
+    let c9 = c .before .before .before .before .before .before .before .before .before in
+    let c10 = c9 .before in
+    let c15 = c10 .before .before .before .before .before in
+    let c18 = c15 .before .before .before in
+    let c19 = c18 .before in
+    let c20 = c19 .before in
+    let c22 = c20 .before .before in
+    let c23 = c22 .before in
+    let c27 = c23 .before .before .before .before in
+    let c32 = c27 .before .before .before .before .before in
+    let a = c32 .args in
+    let h = c32 .pre .0 in
+    let k = c27 .copy-record-at in
     let r = k .last .1 .1 .0 in
     let d = recordOf r in
     let at : d ≡ node (a .b .now) (a .c) = ap recordOf (k .ensures) in
-    let f = c13 .handle-first in
+    let f = c15 .handle-first in
     let r′ = f .last .1 .1 .1 .1 .1 .0 in
     let t = first (channel (a .b .now) (a .a) (a .c)) in
     let v = viewOf (a .n) (viewAt (a .n) t) in
     let z = sized-view (a .n) (viewAt (a .n) t) (h .small) in
-    let most = c8 .faults-in .result in
+    let most = c10 .faults-in .result in
     let s = started (recordOf r′) (a .a) (f .result) in
-    let back = step-back (moveOn most s) (sized-moved most s (sized-of r′)) (c7 .move-in .ensures) in
-    becomes (c .before .before .step-at .result) (c .before .before .step-at .last .0)
+    let settled = c .before .before .before .before .settle-delivery in
+    let back = step-back (moveOn most s) (sized-moved most s (sized-of r′)) (c9 .move-in .ensures) in
+    becomes (c .answered .result) (settled .last .0)
     (hand-settles (a .n) (a .a) (a .c) (a .x) (a .b .now) t (a .m) d at
-    (sym (c21 .is-stale-in .ensures) ∙ c20 .if1 .left)
-    (cut-judged (a .n) (a .x) (a .b .now) (c18 .is-cut .ensures) (c17 .may-cut .ensures) (not-false _ (c16 .if2 .left)))
-    (c8 .faults-in .ensures) refl
+    (sym (c23 .is-stale-in .ensures) ∙ c22 .if1 .left)
+    (cut-judged (a .n) (a .x) (a .b .now) (c20 .is-cut .ensures) (c19 .may-cut .ensures) (not-false _ (c18 .if2 .left)))
+    (c10 .faults-in .ensures) refl
     (back ∙ ap (moveOn most) (reacted-step r r′ (a .a) (a .m) v z (f .ensures .1) (f .ensures .0))))
-    (c .before .before .step-at .ensures)
+    (settle-told (a .n) (a .a) (a .c) (a .x) (stepOf (recordOf (c9 .move-in .last .0)) (c9 .move-in .result))
+    (onBlock (a .c) (takeOff (a .a)) (a .b .now)) (a .b .now)
+    (c .answered .result) (settled .ensures .0) (settled .ensures .1) (c .before .is-cut2 .ensures)
+    (c .answered .ensures .0) (c .answered .ensures .1))
 
 pub hand-on-spec : {M : Type 1} → statement M
 hand-on-spec =
@@ -185,5 +192,5 @@ hand-on-spec =
     (λ c. search needs) returns
     (λ c κs. search needs) (λ c κs. search needs) (λ c κs. search needs) (λ c. search needs)
     (λ c. search needs) returns-2
-    handle-first-requires faults-in-requires move-in-requires step-at-requires
-    (λ c. search needs) same-length-6 returns-3)
+    handle-first-requires faults-in-requires move-in-requires settle-delivery-requires
+    (λ c κs. search needs) (λ c κs. search needs) (λ c. search needs) same-length-6 returns-3)

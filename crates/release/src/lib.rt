@@ -1,0 +1,108 @@
+// A step of a node written into the cluster's bytes: refusals 10 and 11 judged, then the record kept and its entries let
+// out. The begin of an operation and the delivery of a message settle apart, so that each is compiled where the copy of
+// the record is a local array, which is then written back in one move.
+mod judge;
+mod sending;
+
+use judge::has_room;
+use layout::faults_in;
+use layout::halt_at;
+use layout::keep_record_at;
+use layout::stopped_nodes;
+use layout::take_off_at;
+use outgoing::Extent;
+use outgoing::allowance;
+use outgoing::is_cut;
+use sending::let_out;
+use step::Outbox;
+ghost use mathlib.Core.Path.{_≡_};
+ghost use mathlib.Core.Bool.{true};
+ghost use Prim.Native.Nat.{_≤_};
+ghost use lib.ListN.{length};
+ghost use Rattle.octets.specs.Test.{pick};
+ghost use Rattle.view.specs.Size.{nodes};
+ghost use Rattle.region.specs.Record.{recordSize, recordOf, recordBytes};
+ghost use Rattle.block.specs.Block.{takeOff};
+ghost use Rattle.layout.specs.Layout.{clusterSize, onBlock};
+ghost use Rattle.outgoing.specs.Entries.{entries};
+ghost use Rattle.outgoing.specs.Outgoing.{within, isCut, mayStop, haltIf, letOut, hasRoom, released};
+ghost use Rattle.outgoing.specs.Room.{goneIn};
+
+// Whether one node more may stop, where one is to (refusal 10).
+pub fn may_cut(b: &[u8], n: usize, cut: bool) -> bool
+    requires { ⌜ (n ≤ nodes) × (length (now b) ≡ clusterSize n) ⌝ }
+    ensures { λ r. ⌜ r ≡ pick cut (mayStop n (now (b .entry))) true ⌝ }
+{
+    if cut {
+        return stopped_nodes(b, n) < faults_in(b);
+    }
+    true
+}
+
+// How many messages leave the channel from c to itself, where one from a is taken off.
+fn gone(a: usize, c: usize) -> usize
+    ensures { λ r. ⌜ r ≡ goneIn true a c ⌝ }
+{
+    if a == c { 1 } else { 0 }
+}
+
+fn halt_if(b: &mut [u8], n: usize, c: usize, cut: bool)
+    requires { ⌜ (n ≤ nodes) × (1 ≤ c) × (clusterSize c ≤ length (now b)) ⌝ }
+    ensures { λ _. ⌜ now (b .exit) ≡ haltIf cut n c (now (b .entry)) ⌝ }
+{
+    if cut {
+        halt_at(b, n, c);
+    }
+}
+
+// What node c sends goes out, after it stopped in a cut.
+fn release(b: &mut [u8], n: usize, a: usize, c: usize, o: Outbox, x: Extent)
+    requires { ⌜ (n ≤ nodes) × (1 ≤ a) × (a ≤ n) × (1 ≤ c) × (c ≤ n) × (length (now b) ≡ clusterSize n) ⌝ }
+    ensures { λ _. ⌜ now (b .exit)
+        ≡ letOut n c (within x (entries n a o)) (haltIf (isCut x) n c (now (b .entry))) ⌝ }
+{
+    halt_if(b, n, c, is_cut(x));
+    let_out(b, n, a, c, o, allowance(x));
+}
+
+// Node c begins an operation, after which `r` is its record and o goes out, or nothing is changed where a channel would
+// be full (refusal 11).
+pub fn settle(b: &mut [u8], n: usize, c: usize, r: &[u8], o: Outbox, x: Extent) -> bool
+    requires { ⌜ (n ≤ nodes) × (1 ≤ c) × (c ≤ n) × (length (now b) ≡ clusterSize n)
+        × (length (now r) ≡ recordSize) × (now r ≡ recordBytes (recordOf (now r))) ⌝ }
+    ensures { λ t. ⌜ (t ≡ hasRoom n c c x (recordOf (now (r .entry))) o (now (b .entry)))
+        × (now (b .exit) ≡ pick t (released n c c x (recordOf (now (r .entry))) o (now (b .entry)))
+        (now (b .entry))) ⌝ }
+{
+    if !has_room(b, n, c, c, is_cut(x), 0, o, allowance(x)) {
+        return false;
+    }
+    keep_record_at(b, c, r);
+    release(b, n, c, c, o, x);
+    true
+}
+
+// The same where c has handled the oldest message from a, which is taken off.
+pub fn settle_delivery(
+    b: &mut [u8],
+    n: usize,
+    a: usize,
+    c: usize,
+    r: &[u8],
+    o: Outbox,
+    x: Extent,
+) -> bool
+    requires { ⌜ (n ≤ nodes) × (1 ≤ a) × (a ≤ n) × (1 ≤ c) × (c ≤ n) × (length (now b) ≡ clusterSize n)
+        × (length (now r) ≡ recordSize) × (now r ≡ recordBytes (recordOf (now r))) ⌝ }
+    ensures { λ t. ⌜ (t ≡ hasRoom n a c x (recordOf (now (r .entry))) o (onBlock c (takeOff a) (now (b .entry))))
+        × (now (b .exit) ≡ pick t (released n a c x (recordOf (now (r .entry))) o (onBlock c (takeOff a)
+        (now (b .entry)))) (now (b .entry))) ⌝ }
+{
+    if !has_room(b, n, a, c, is_cut(x), gone(a, c), o, allowance(x)) {
+        return false;
+    }
+    take_off_at(b, a, c);
+    keep_record_at(b, c, r);
+    release(b, n, a, c, o, x);
+    true
+}
