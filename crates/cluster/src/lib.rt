@@ -30,7 +30,7 @@ use step_bytes::is_open_in;
 use view::NODES;
 use view::View;
 use wire::Found;
-use wire::parse_prefix;
+use wire_parse::parse_prefix;
 ghost use mathlib.Core.Path.{_≡_};
 ghost use Prim.Native.Nat.{_+_, _≤_};
 ghost use lib.ListN.{length};

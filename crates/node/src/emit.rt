@@ -6,7 +6,7 @@ use view::VIEW;
 use view::write_view;
 use wire::Message;
 use wire::Written;
-use wire::write;
+use wire_write::write;
 ghost use mathlib.Core.Path.{_≡_};
 ghost use mathlib.Core.Bool.{true};
 ghost use Prim.Native.Nat.{_+_, _≤_};

@@ -21,7 +21,7 @@ use view::absent;
 use view::read_view;
 use wire::Message;
 use wire::Parsed;
-use wire::views::parsed_view;
+use wire_parse::views::parsed_view;
 ghost use mathlib.Core.Path.{_≡_};
 ghost use mathlib.Core.Bool.{true};
 ghost use mathlib.Core.List.{List, []};
@@ -192,7 +192,7 @@ pub fn message(c: Node, s: usize, b: &[u8], out: &mut [u8]) -> Reply
     }
     if is_usable(c) {
         if and(1 <= s, s <= c.n) {
-            let p = wire::parse(c.n, b);
+            let p = wire_parse::parse(c.n, b);
             return match p {
                 Parsed::Got(m) => taken_message(c, s, parsed_view(b, p), m, out),
                 Parsed::Refused(_) => refused_reply(7, c),

@@ -27,7 +27,7 @@ fn write_slot<'a>(n: usize, m: Message, v: View, w: &'a mut [u8], s: &'a mut [u8
 {
     view::write_view(n, v, w);
     let end = ENTRY * n;
-    wire::write(n, m, &w[..end], s);
+    wire_write::write(n, m, &w[..end], s);
 }
 
 // The slot of a message.

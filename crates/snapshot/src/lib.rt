@@ -130,7 +130,7 @@ pub extern "C" fn snapshot_read(
         × (now (numbers .exit) ≡ lent numbersOf (decode n (now (b .entry))) (now (numbers .entry)))
         × (now (report .exit) ≡ lent reportIn (decode n (now (b .entry))) (now (report .entry))) ⌝ }
 {
-    match wire::parse(n, b) {
+    match wire_parse::parse(n, b) {
         Parsed::Got(m) => {
             *numbers = message_numbers(m);
             *report = message_report(m);
@@ -162,7 +162,7 @@ pub extern "C" fn snapshot_write(
         numbers[3],
         read_report(report),
     );
-    match wire::write(n, m, view, out) {
+    match wire_write::write(n, m, view, out) {
         Written::Length(k) => {
             *length = k;
             0

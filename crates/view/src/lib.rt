@@ -1,10 +1,11 @@
 // A node's report, and a view: a tag and a report for each of up to sixteen nodes. Both by value and in bytes.
 use octets::WORD;
 ghost use mathlib.Core.Path.{_≡_};
-ghost use Prim.Native.Nat.{_≤_};
+ghost use Prim.Native.Nat.{_+_, _≤_};
 ghost use lib.ListN.{length};
 ghost use Rattle.octets.specs.Bytes.{put};
-ghost use Rattle.view.specs.Size.{nodes, reportSize, viewSize};
+ghost use Rattle.octets.specs.Word.{word};
+ghost use Rattle.view.specs.Size.{nodes, tagSize, reportSize, entrySize, viewSize};
 ghost use Rattle.view.specs.Report.{noReport, isNone, reportBytes, reportNumber, reportOf, reportFrom};
 ghost use Rattle.view.specs.View.{noView, viewBytes, viewOf, firstOf, entryOk, viewOk};
 
@@ -101,15 +102,20 @@ pub fn report_bytes(p: Report) -> [u8; REPORT]
     octets::digits8(report_number(p))
 }
 
-// Whether an entry may stand in a view whose tags are at most `top`; `report` is the number of its report's bytes.
-fn entry_ok(top: u64, tag: u64, report: u64) -> bool
-    ensures { λ r. ⌜ r ≡ entryOk top tag report ⌝ }
+// Whether the entry at a place may stand in a view whose tags are at most `top`. The report counts beside tag 0 alone,
+// and is not read elsewhere.
+fn entry_ok(top: u64, b: &[u8], at: usize) -> bool
+    requires { ⌜ at + entrySize ≤ length (now b) ⌝ }
+    ensures { λ r. ⌜ r ≡ entryOk top (word (now (b .entry)) at) (word (now (b .entry)) (at + tagSize)) ⌝ }
 {
-    if tag <= top {
-        if tag == 0 { report == 0 } else { true }
-    } else {
-        false
+    let tag = octets::get_word(b, at);
+    if octets::and(1 <= tag, tag <= top) {
+        return true;
     }
+    if tag == 0 {
+        return octets::get_word(b, at + TAG) == 0;
+    }
+    false
 }
 
 // Whether each of n entries may stand in a view whose tags are at most `top`.
@@ -119,8 +125,7 @@ pub fn view_ok(n: usize, top: u64, b: &[u8]) -> bool
 {
     let mut i = 0;
     while i < n {
-        let at = ENTRY * i;
-        if entry_ok(top, octets::get_word(b, at), octets::get_word(b, at + TAG)) {
+        if entry_ok(top, b, ENTRY * i) {
             i += 1;
         } else {
             return false;

@@ -1,12 +1,12 @@
 -- `view::view_ok` meets its contract.
 use borrow.Author.Needs.{needs}
 use Prim.Native.Nat.{ℕ, _-_, _≤_}
-use mathlib.Core.Path.{_≡_, sym, ap, ap₂, _∙_}
+use mathlib.Core.Path.{_≡_, sym, ap, _∙_}
 use mathlib.Core.Bool.{true}
 use native.Mathlib.Omega.{arith}
 use Rattle.octets.specs.Loop.{allTo}
 use Rattle.octets.proofs.Loop.{allTo-none, allTo-more, allTo-false}
-use Rattle.view.specs.View.{viewOk, entryOk, entryOkAt}
+use Rattle.view.specs.View.{viewOk, entryOkAt}
 use Rattle.view.proofs.view_ok.Statement.{statement}
 use Rattle.view.proofs.view_ok.Tie as tie
 
@@ -21,26 +21,20 @@ loop-holds c = (search needs, allTo-none (entryOkAt (c .before .args .top) (c .b
 
 loop-again : tie.Need-loop-again Inv-loop μ-loop
 loop-again c =
-    let a = c .before .before .before .before .before .before .before .args in
-    let i = c .before .before .before .before .before .loop .i in
-    let ok : c .before .entry-ok .result ≡ entryOkAt (a .top) (a .b .now) i =
-    c .before .entry-ok .ensures ∙ ap₂ (λ (x y : ℕ). entryOk (a .top) x y)
-    (c .before .before .before .get-word .ensures) (c .before .before .get-word2 .ensures) in (
+    let c3 = c .before .before .before in
+    let a = c3 .before .before .args in (
       search needs,
-      allTo-more i (entryOkAt (a .top) (a .b .now))
-          (c .before .before .before .before .before .loop .inv .1) (sym ok ∙ c .if1 .taken),
+      allTo-more (c3 .loop .i) (entryOkAt (a .top) (a .b .now)) (c3 .loop .inv .1)
+          (sym (c .before .entry-ok .ensures) ∙ c .if1 .taken),
     )
 
 returns : tie.Need-returns Inv-loop μ-loop
 unfolding viewOk
 returns c =
-    let a = c .before .before .before .before .before .before .before .args in
-    let i = c .before .before .before .before .before .loop .i in
-    let ok : c .before .entry-ok .result ≡ entryOkAt (a .top) (a .b .now) i =
-    c .before .entry-ok .ensures ∙ ap₂ (λ (x y : ℕ). entryOk (a .top) x y)
-    (c .before .before .before .get-word .ensures) (c .before .before .get-word2 .ensures) in
-    sym (allTo-false (a .n) (entryOkAt (a .top) (a .b .now)) i (c .before .before .before .before .loop-test .taken)
-    (sym ok ∙ c .if1 .left))
+    let c3 = c .before .before .before in
+    let a = c3 .before .before .args in
+    sym (allTo-false (a .n) (entryOkAt (a .top) (a .b .now)) (c3 .loop .i) (c .before .before .loop-test .taken)
+    (sym (c .before .entry-ok .ensures) ∙ c .if1 .left))
 
 returns-2 : tie.Need-returns-2 Inv-loop μ-loop
 unfolding viewOk
@@ -57,9 +51,6 @@ view-ok-spec =
     μ-loop
     loop-holds
     (λ c. search needs)
-    (λ c κs. search needs)
-    (λ c. search needs)
-    (λ c κs. search needs)
     (λ c κs. search needs)
     (λ c. search needs)
     (λ c. search needs)

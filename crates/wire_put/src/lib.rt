@@ -1,0 +1,110 @@
+// Writing the fields of a message at the front of a buffer: its length, or 12 where there is no room.
+use view::Report;
+use wire::FIRST;
+use wire::GOOD_HEAD;
+use wire::READ;
+use wire::READ_ANSWER;
+use wire::SECOND;
+use wire::SECOND_HEAD;
+use wire::THIRD;
+use wire::VALUE;
+use wire::Written;
+ghost use mathlib.Core.Path.{_≡_};
+ghost use mathlib.Core.List.{[], _∷_, _++_};
+ghost use Prim.Native.Nat.{_+_, _≤_};
+ghost use lib.ListN.{length};
+ghost use lib.Dec.{leb};
+ghost use Rattle.octets.specs.Answer.{result, refused};
+ghost use Rattle.octets.specs.Test.{pick};
+ghost use Rattle.octets.specs.Bytes.{be, put};
+ghost use Rattle.view.specs.Size.{nodes, viewSize};
+ghost use Rattle.wire.specs.Layout.{field, kind, tag, request, writer, report, view, numberSize, firstAt};
+ghost use Rattle.wire.specs.Codec.{after};
+ghost use Rattle.wire.specs.Outcome.{written};
+
+// The head of a tag as a word: the bytes 3, 0, 8, and five for what follows.
+const TAG_HEAD: u64 = 216181578206806016;
+
+// A field of one byte and the head of one of eight, as a word: seven bytes, and one for what follows.
+fn head_word(first: u8, x: u8, mark: u8) -> u64
+    ensures { λ r. ⌜ be 8 r ≡ first ∷ 0 ∷ 1 ∷ x ∷ mark ∷ 0 ∷ 8 ∷ 0 ∷ [] ⌝ }
+{
+    octets::wide(first) * 72057594037927936
+        + 1099511627776
+        + octets::wide(x) * 4294967296
+        + octets::wide(mark) * 16777216
+        + 2048
+}
+
+// Writes a message of two fields: its kind and a number.
+fn put_one(out: &mut [u8], k: u8, mark: u8, x: u64)
+    requires { ⌜ firstAt + numberSize ≤ length (now out) ⌝ }
+    ensures { λ _. ⌜ now (out .exit) ≡ put (now (out .entry)) 0 (kind k ++ field mark (be numberSize x)) ⌝ }
+{
+    octets::put_word(out, 0, head_word(1, k, mark));
+    octets::put_word(out, FIRST, x);
+}
+
+pub fn one(out: &mut [u8], k: u8, mark: u8, x: u64) -> Written
+    ensures { λ r. ⌜ (written r ≡ pick (leb (length (kind k ++ field mark (be numberSize x)))
+        (length (now (out .entry)))) (result (length (kind k ++ field mark (be numberSize x)))) (refused 12))
+        × (now (out .exit) ≡ after (written r) (kind k ++ field mark (be numberSize x)) (now (out .entry))) ⌝ }
+{
+    if READ <= out.len() {
+        put_one(out, k, mark, x);
+        Written::Length(READ)
+    } else {
+        Written::Refused(12)
+    }
+}
+
+pub fn two(out: &mut [u8], k: u8, r: u64, t: u64) -> Written
+    ensures { λ w. ⌜ (written w ≡ pick (leb (length (kind k ++ request r ++ tag t)) (length (now (out .entry))))
+        (result (length (kind k ++ request r ++ tag t))) (refused 12))
+        × (now (out .exit) ≡ after (written w) (kind k ++ request r ++ tag t) (now (out .entry))) ⌝ }
+{
+    if READ_ANSWER <= out.len() {
+        put_one(out, k, 2, r);
+        octets::put_word(out, SECOND_HEAD, TAG_HEAD);
+        octets::put_word(out, SECOND, t);
+        Written::Length(READ_ANSWER)
+    } else {
+        Written::Refused(12)
+    }
+}
+
+pub fn value(out: &mut [u8], t: u64, w: u8, p: Report) -> Written
+    ensures { λ r. ⌜ (written r
+        ≡ pick (leb (length (kind 6 ++ tag t ++ writer w ++ report p)) (length (now (out .entry))))
+        (result (length (kind 6 ++ tag t ++ writer w ++ report p))) (refused 12))
+        × (now (out .exit) ≡ after (written r) (kind 6 ++ tag t ++ writer w ++ report p) (now (out .entry))) ⌝ }
+{
+    if VALUE <= out.len() {
+        put_one(out, 6, 3, t);
+        octets::put_word(out, SECOND_HEAD, head_word(4, w, 5));
+        let d = view::report_bytes(p);
+        octets::put_bytes(out, THIRD, &d);
+        Written::Length(VALUE)
+    } else {
+        Written::Refused(12)
+    }
+}
+
+pub fn good(out: &mut [u8], t: u64, v: &[u8]) -> Written
+    requires { ⌜ length (now v) ≤ viewSize nodes ⌝ }
+    ensures { λ r. ⌜ (written r
+        ≡ pick (leb (length (kind 7 ++ tag t ++ view (now (v .entry)))) (length (now (out .entry))))
+        (result (length (kind 7 ++ tag t ++ view (now (v .entry))))) (refused 12))
+        × (now (out .exit) ≡ after (written r) (kind 7 ++ tag t ++ view (now (v .entry))) (now (out .entry))) ⌝ }
+{
+    let len = v.len();
+    if GOOD_HEAD + len <= out.len() {
+        put_one(out, 7, 3, t);
+        let h = [6u8, (len / 256) as u8, (len % 256) as u8];
+        octets::put_bytes(out, SECOND_HEAD, &h);
+        octets::put_bytes(out, GOOD_HEAD, v);
+        Written::Length(GOOD_HEAD + len)
+    } else {
+        Written::Refused(12)
+    }
+}
