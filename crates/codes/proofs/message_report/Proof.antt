@@ -1,4 +1,4 @@
--- `snapshot::codes::message_report` meets its contract.
+-- `codes::message_report` meets its contract.
 use borrow.Author.Needs.{needs}
 use mathlib.Core.Path.{_≡_, refl}
 use mathlib.Core.List.{[], _∷_}
@@ -9,9 +9,9 @@ use Rattle.view.specs.Size.{reportSize}
 use Rattle.wire.specs.declared.Message.{Message}
 use Rattle.wire.specs.declared.Message.the-variants.{Read, ReadAnswer, Write, WriteAnswer, Echo, Value, Good}
 use Rattle.wire.proofs.Message as message
-use Rattle.snapshot.specs.Code.{reportIn}
-use Rattle.snapshot.proofs.codes.message_report.Statement.{statement}
-use Rattle.snapshot.proofs.codes.message_report.Tie as tie
+use Rattle.codes.specs.Code.{reportIn}
+use Rattle.codes.proofs.message_report.Statement.{statement}
+use Rattle.codes.proofs.message_report.Tie as tie
 
 -- by the number of its kind, a message that is no value
 no-report : (m : Message) → OneOf (0 ∷ 1 ∷ 2 ∷ 3 ∷ 4 ∷ 6 ∷ []) (tagOf message.the-type m)

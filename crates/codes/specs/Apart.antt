@@ -17,7 +17,7 @@ use Rattle.outgoing.specs.declared.Extent.{Extent}
 use Rattle.cluster.specs.Event.{Result, fresh, begin, deliver}
 use Rattle.cluster.specs.Outcome.{toldOf}
 use Rattle.cluster.specs.Stop.{stop}
-use Rattle.snapshot.specs.Code.{lastRefusal, doneFrom, scanFrom, eventCode, ruleIn, codeOf}
+use Rattle.codes.specs.Code.{lastRefusal, doneFrom, scanFrom, eventCode, ruleIn, codeOf}
 
 -- What a code means, v the view beside it, and the rule in it. It names no refusal, so that it stands where others
 -- come.

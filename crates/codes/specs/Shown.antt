@@ -12,7 +12,7 @@ use Rattle.layout.specs.Layout.{stated}
 use Rattle.outgoing.specs.declared.Extent.{Extent}
 use Rattle.cluster.specs.Event.{deliver}
 use Rattle.cluster.specs.Outcome.{toldOf}
-use Rattle.snapshot.specs.Code.{eventView}
+use Rattle.codes.specs.Code.{eventView}
 
 abbrev pub ZeroPast : Type 0
 ZeroPast = (a c : ℕ) (x : Extent) (b view : List ℕ) (r : Rule) → length view ≡ entrySize * nodes

@@ -1,8 +1,8 @@
--- `snapshot::codes::rule_code` meets its contract.
+-- `codes::rule_code` meets its contract.
 use borrow.Author.Needs.{needs}
 use native.Mathlib.Omega.{arith}
-use Rattle.snapshot.proofs.codes.rule_code.Statement.{statement}
-use Rattle.snapshot.proofs.codes.rule_code.Tie as tie
+use Rattle.codes.proofs.rule_code.Statement.{statement}
+use Rattle.codes.proofs.rule_code.Tie as tie
 
 returns : tie.Need-returns
 returns c = rw (c .before .before .r .given .1) (search needs, c .if1 .taken)

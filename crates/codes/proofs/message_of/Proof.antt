@@ -1,9 +1,9 @@
--- `snapshot::codes::message_of` meets its contract.
+-- `codes::message_of` meets its contract.
 use borrow.Author.Needs.{needs}
 use mathlib.Core.Path.{refl}
 use borrow.Author.Tests.{ne-eqb}
-use Rattle.snapshot.proofs.codes.message_of.Statement.{statement}
-use Rattle.snapshot.proofs.codes.message_of.Tie as tie
+use Rattle.codes.proofs.message_of.Statement.{statement}
+use Rattle.codes.proofs.message_of.Tie as tie
 
 returns : tie.Need-returns
 returns c = rw (c .match .keys1) refl

@@ -1,7 +1,7 @@
--- `snapshot::codes::show` meets its contract.
+-- `codes::show` meets its contract.
 use borrow.Author.Needs.{needs}
-use Rattle.snapshot.proofs.codes.show.Statement.{statement}
-use Rattle.snapshot.proofs.codes.show.Tie as tie
+use Rattle.codes.proofs.show.Statement.{statement}
+use Rattle.codes.proofs.show.Tie as tie
 
 returns-4 : tie.Need-returns-4
 returns-4 c =

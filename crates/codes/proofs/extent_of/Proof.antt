@@ -1,7 +1,7 @@
--- `snapshot::codes::extent_of` meets its contract.
+-- `codes::extent_of` meets its contract.
 use mathlib.Core.Path.{refl}
-use Rattle.snapshot.proofs.codes.extent_of.Statement.{statement}
-use Rattle.snapshot.proofs.codes.extent_of.Tie as tie
+use Rattle.codes.proofs.extent_of.Statement.{statement}
+use Rattle.codes.proofs.extent_of.Tie as tie
 
 returns : tie.Need-returns
 returns c = rw (c .if1 .taken) refl

@@ -1,8 +1,8 @@
--- `snapshot::codes::message_numbers` meets its contract.
+-- `codes::message_numbers` meets its contract.
 use borrow.Author.Needs.{needs}
 use mathlib.Core.Path.{refl}
-use Rattle.snapshot.proofs.codes.message_numbers.Statement.{statement}
-use Rattle.snapshot.proofs.codes.message_numbers.Tie as tie
+use Rattle.codes.proofs.message_numbers.Statement.{statement}
+use Rattle.codes.proofs.message_numbers.Tie as tie
 
 returns : tie.Need-returns
 returns c = rw (c .before .m .given .1) refl

@@ -1,10 +1,10 @@
--- `snapshot::codes::ending_code` meets its contract.
+-- `codes::ending_code` meets its contract.
 use borrow.Author.Needs.{needs}
 use mathlib.Core.Path.{refl, ap}
 use Prim.Native.Nat.{ℕ, _+_}
-use Rattle.snapshot.specs.Code.{doneFrom, scanFrom}
-use Rattle.snapshot.proofs.codes.ending_code.Statement.{statement}
-use Rattle.snapshot.proofs.codes.ending_code.Tie as tie
+use Rattle.codes.specs.Code.{doneFrom, scanFrom}
+use Rattle.codes.proofs.ending_code.Statement.{statement}
+use Rattle.codes.proofs.ending_code.Tie as tie
 
 returns : tie.Need-returns
 returns c = rw (c .enum-told .given .1) (λ v. refl)

@@ -1,7 +1,7 @@
--- `snapshot::codes::event_code` meets its contract.
+-- `codes::event_code` meets its contract.
 use borrow.Author.Needs.{needs}
-use Rattle.snapshot.proofs.codes.event_code.Statement.{statement}
-use Rattle.snapshot.proofs.codes.event_code.Tie as tie
+use Rattle.codes.proofs.event_code.Statement.{statement}
+use Rattle.codes.proofs.event_code.Tie as tie
 
 returns-2 : tie.Need-returns-2
 returns-2 c = rw (c .before .before .outcome2 .given .1) (c .ending-code .ensures _)

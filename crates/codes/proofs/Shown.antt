@@ -16,8 +16,8 @@ use Rattle.step.specs.Told.{told}
 use Rattle.layout.specs.Layout.{stated}
 use Rattle.cluster.specs.Event.{deliver}
 use Rattle.cluster.proofs.Shown.{deliver-absent}
-use Rattle.snapshot.specs.Code.{eventView}
-use Rattle.snapshot.specs.Shown as claim
+use Rattle.codes.specs.Code.{eventView}
+use Rattle.codes.specs.Shown as claim
 
 pub zero-past : claim.ZeroPast
 zero-past a c x b view r l e =

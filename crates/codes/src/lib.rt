@@ -1,14 +1,15 @@
-// The numbers that stand for enums at the border to C.
+// The numbers that stand for enums at the border to C: codes of answers, the numbers and the report of a message, the
+// extent of a cut; and the view of a scan that ended, written into lent memory.
 use cluster::Answer;
 use cluster::Outcome;
 use outgoing::Extent;
 use step::Ending;
 use step::Rule;
 use step::SPENT;
-use view::ENTRY;
 use view::NODES;
 use view::REPORT;
 use view::Report;
+use view::VIEW;
 use wire::Message;
 ghost use mathlib.Core.Path.{_≡_};
 ghost use Prim.Native.Nat.{_≤_};
@@ -16,8 +17,8 @@ ghost use Rattle.octets.specs.Answer.{result};
 ghost use Rattle.view.specs.declared.View.{View};
 ghost use Rattle.step.specs.Told.{told};
 ghost use Rattle.cluster.specs.Outcome.{said, toldBy};
-ghost use Rattle.snapshot.specs.Code.{numbers, reportIn, messageOf};
-ghost use Rattle.snapshot.specs.Code.{extentOf, ruleCode, ruleIn, eventCode, eventView};
+ghost use Rattle.codes.specs.Code.{numbers, reportIn, messageOf};
+ghost use Rattle.codes.specs.Code.{extentOf, ruleCode, ruleIn, eventCode, eventView};
 
 // The first code of an update done and of a scan ended, to which the rule is added. Below them stand 0, where nothing
 // ended, the refusals and spent.
@@ -25,10 +26,7 @@ const DONE: u8 = 100;
 
 const SCAN: u8 = 110;
 
-// The bytes that are lent for a view: an entry for each of the most nodes.
-pub(crate) const VIEW: usize = NODES * ENTRY;
-
-pub(crate) fn extent_of(cut: bool, m: usize) -> Extent
+pub fn extent_of(cut: bool, m: usize) -> Extent
     ensures { λ r. ⌜ r ≡ extentOf cut m ⌝ }
 {
     if cut { Extent::Cut(m) } else { Extent::Whole }
@@ -55,7 +53,7 @@ fn ending_code(e: Ending) -> u8
 }
 
 // The code of an event's answer.
-pub(crate) fn event_code(r: Answer) -> u8
+pub fn event_code(r: Answer) -> u8
     ensures { λ k. ⌜ k ≡ eventCode (toldBy r) (ruleIn (said (r .outcome))) ⌝ }
 {
     let outcome = r.outcome;
@@ -66,7 +64,7 @@ pub(crate) fn event_code(r: Answer) -> u8
 }
 
 // Writes the view of a scan that ended.
-pub(crate) fn show(r: Answer, out: &mut [u8; VIEW])
+pub fn show(r: Answer, out: &mut [u8; VIEW])
     ensures { λ _. ⌜ now (out .exit) ≡ eventView (toldBy r) (now (out .entry)) ⌝ }
 {
     let outcome = r.outcome;
@@ -81,7 +79,7 @@ pub(crate) fn show(r: Answer, out: &mut [u8; VIEW])
     }
 }
 
-pub(crate) fn message_numbers(m: Message) -> [u64; 4]
+pub fn message_numbers(m: Message) -> [u64; 4]
     ensures { λ r. ⌜ r ≡ numbers m ⌝ }
 {
     match m {
@@ -99,7 +97,7 @@ pub(crate) fn message_numbers(m: Message) -> [u64; 4]
     }
 }
 
-pub(crate) fn message_report(m: Message) -> [u8; REPORT]
+pub fn message_report(m: Message) -> [u8; REPORT]
     ensures { λ r. ⌜ r ≡ reportIn m ⌝ }
 {
     match m {
@@ -112,13 +110,7 @@ pub(crate) fn message_report(m: Message) -> [u8; REPORT]
     }
 }
 
-pub(crate) fn message_of(
-    kind: u64,
-    request: u64,
-    writer: usize,
-    tag: u64,
-    report: Report,
-) -> Message
+pub fn message_of(kind: u64, request: u64, writer: usize, tag: u64, report: Report) -> Message
     ensures { λ r. ⌜ r ≡ messageOf kind request writer tag report ⌝ }
 {
     match kind {

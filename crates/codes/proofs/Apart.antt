@@ -35,9 +35,9 @@ use Rattle.outgoing.specs.Outgoing.{mayStop, mayCut, hasRoom}
 use Rattle.cluster.specs.Event.{Result, demand, admitted, settle, deliverMessage, fresh, begin, deliver}
 use Rattle.cluster.specs.Stop.{stop}
 use Rattle.cluster.proofs.Admitted.{admitted-is}
-use Rattle.snapshot.specs.Code.{lastRefusal, doneFrom, scanFrom, ruleCode, eventCode, ruleIn, codeOf}
-use Rattle.snapshot.specs.Apart.{meant, ruleMeant, Called, by-fresh, by-begin, by-deliver, by-stop}
-use Rattle.snapshot.specs.Apart.{Numbered, Apart}
+use Rattle.codes.specs.Code.{lastRefusal, doneFrom, scanFrom, ruleCode, eventCode, ruleIn, codeOf}
+use Rattle.codes.specs.Apart.{meant, ruleMeant, Called, by-fresh, by-begin, by-deliver, by-stop}
+use Rattle.codes.specs.Apart.{Numbered, Apart}
 
 -- ---- the codes
 
