@@ -1,25 +1,17 @@
--- Messages with their view by value and in bytes: what is lawful there is allowed here, and back. Assumes nothing.
+-- A message that is allowed with its view in bytes is lawful with its view by value. Assumes nothing.
 use mathlib.Core.Path.{_≡_}
 use mathlib.Core.Bool.{true}
-use mathlib.Core.List.{List, [], _∷_}
+use mathlib.Core.List.{List}
 use Prim.Native.Nat.{ℕ, _≤_}
-use Rattle.view.specs.View.{viewBytes, viewOf}
-use Rattle.view.specs.declared.View.{View}
+use Rattle.view.specs.View.{viewOf}
 use Rattle.wire.specs.Layout.{allowed}
 use Rattle.wire.specs.declared.Message.{Message}
 use Rattle.wire.specs.declared.Message.the-variants.{Read, ReadAnswer, Write, WriteAnswer, Echo, Value, Good}
 use Rattle.step.specs.Allowed.{lawful}
-use Rattle.step.specs.Claims.{AllLawful}
 use Rattle.step.specs.Stale.{writerWithin}
-use Rattle.step.proofs.Allowed.{lawful-allowed, allowed-lawful, lawful-writer}
-use Rattle.node.specs.Entry.{beside}
-use Rattle.node.specs.Room.{AllAllowed}
+use Rattle.step.proofs.Allowed.{allowed-lawful, lawful-writer}
+use Rattle.calls.specs.Entry.{beside}
 use Rattle.view.specs.Size.{nodes}
-
-pub all-allowed : (n : ℕ) (v : View) (ms : List Message) → n ≤ nodes → AllLawful n v ms
-    → AllAllowed n (viewBytes n v) ms
-all-allowed n v [] l h = tt
-all-allowed n v (m ∷ ms) l h = (lawful-allowed n m v l (h .0), all-allowed n v ms l (h .1))
 
 -- only a good message looks at the view
 beside-lawful : (n : ℕ) (v : List ℕ) (m : Message) → lawful n m (viewOf n v) ≡ true → lawful n m (beside n v m) ≡ true

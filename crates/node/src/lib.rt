@@ -1,8 +1,5 @@
 // The calls at one node, on any input: fresh, begin and message. Bytes are read before the step and written after it; a
 // refusal is judged before anything is written.
-mod emit;
-
-use emit::emit_all;
 use octets::and;
 use record::Node;
 use record::Operation;
@@ -10,8 +7,10 @@ use record::blank_node;
 use record::usable::has_open;
 use record::usable::is_full;
 use record::usable::is_usable;
-use step::Ending;
-use step::Step;
+use reply::Reply;
+use reply::Said;
+use reply::let_out;
+use reply::refused_reply;
 use step_value::begin_step;
 use step_value::is_stale_message;
 use step_value::message_step;
@@ -24,74 +23,18 @@ use wire::Parsed;
 use wire_parse::views::parsed_view;
 ghost use mathlib.Core.Path.{_≡_};
 ghost use mathlib.Core.Bool.{true};
-ghost use mathlib.Core.List.{List, []};
-ghost use Prim.Native.Nat.{ℕ, _≤_};
+ghost use mathlib.Core.List.{[]};
+ghost use Prim.Native.Nat.{_≤_};
 ghost use lib.ListN.{length};
 ghost use Rattle.octets.specs.Answer.{result};
 ghost use Rattle.view.specs.Size.{nodes};
-ghost use Rattle.view.specs.declared.View.{View};
 ghost use Rattle.record.specs.Usable.{usable};
 ghost use Rattle.wire.specs.Layout.{allowed};
-ghost use Rattle.step.specs.Claims.{AllLawful, sizes};
-ghost use Rattle.step.specs.Step.{messages};
-ghost use Rattle.step.specs.Told.{told, shown};
-ghost use Rattle.node.specs.Outcome.{toldBy, tells};
-ghost use Rattle.node.specs.Entry.{leastOutput, refuse, letOut, fresh, begin, beside, taken, message};
+ghost use Rattle.calls.specs.Entry.{leastOutput, fresh, begin, beside, taken, message};
+ghost use Rattle.reply.specs.Tells.{tells};
 
 // The least length of an output buffer.
 pub const OUTPUT: usize = 512;
-
-// What a call says: a refusal's number, that nothing has ended, or how the operation ended (document 01: done, scan,
-// spent).
-pub enum Said {
-    Refused(u8),
-    Going,
-    Finished,
-    Shown,
-    Exhausted,
-}
-
-// What is said, the record after the call, the view of a scan that has ended, and how many bytes of messages stand at
-// the start of the output buffer.
-pub struct Reply {
-    pub said: Said,
-    pub node: Node,
-    pub view: View,
-    pub length: usize,
-}
-
-fn refused_reply(k: u8, c: Node) -> Reply
-    ensures { λ r. ⌜ ((out : List ℕ) → tells r out (refuse k c out)) ⌝ }
-{
-    Reply {
-        said: Said::Refused(k),
-        node: c,
-        view: absent(),
-        length: 0,
-    }
-}
-
-fn said_of(e: Ending) -> Said
-    ensures { λ r. ⌜ ((v : View) → toldBy r v ≡ told (result e) v) ⌝ }
-{
-    match e {
-        Ending::None => Said::Going,
-        Ending::Done(_) => Said::Finished,
-        Ending::Scan(_) => Said::Shown,
-        Ending::Spent => Said::Exhausted,
-    }
-}
-
-fn view_shown(e: Ending, v: View) -> View
-    ensures { λ r. ⌜ r ≡ shown (told (result e) v) ⌝ }
-{
-    match e {
-        Ending::None => absent(),
-        Ending::Done(_) => absent(),
-        Ending::Scan(_) => v,
-        Ending::Spent => absent(),
-    }
-}
 
 // A fresh record of node `own` of n.
 pub fn fresh(n: usize, own: usize) -> Reply
@@ -109,25 +52,6 @@ pub fn fresh(n: usize, own: usize) -> Reply
         return refused_reply(1, blank_node(0, 0));
     }
     refused_reply(1, blank_node(0, 0))
-}
-
-// Writes what a step sends and answers with the rest of it.
-fn let_out(s: Step, out: &mut [u8]) -> Reply
-    requires { ⌜ (1 ≤ s .node .n) × (s .node .n ≤ nodes)
-        × AllLawful (s .node .n) (s .outbox .view) (messages (s .outbox))
-        × (sizes (s .node .n) (messages (s .outbox)) ≤ length (now out)) ⌝ }
-    ensures { λ r. ⌜ tells r (now (out .exit)) (letOut s (now (out .entry))) ⌝ }
-{
-    let c = s.node;
-    let o = s.outbox;
-    let written = emit_all(c.n, o, out);
-    let e = s.ending;
-    Reply {
-        said: said_of(e),
-        node: c,
-        view: view_shown(e, s.view),
-        length: written,
-    }
 }
 
 // Begins an operation; the messages go to `out`.

@@ -40,9 +40,9 @@ use Rattle.step.specs.declared.Sent.the-variants.{Nothing, One, Two}
 use Rattle.step.specs.declared.Step.{Step}
 use Rattle.step.proofs.Turns.{reading-most}
 use Rattle.step.proofs.Waits.{no-quorum}
-use Rattle.node.specs.Bytes.{run}
-use Rattle.node.specs.Entry as N
-use Rattle.node.proofs.Refusals.{message-read, taken-goes}
+use Rattle.calls.specs.Bytes.{run}
+use Rattle.calls.specs.Entry as N
+use Rattle.calls.proofs.Refusals.{message-read, taken-goes}
 use Rattle.points.specs.Calls.{code}
 use Rattle.points.specs.LastTag.{LastAnswer, used, spentBy, goesOn, scanGoesOn, reader, MeetsAt, LastTag}
 

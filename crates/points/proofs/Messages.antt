@@ -23,7 +23,7 @@ use Rattle.wire.proofs.Numbers.{length-encode}
 use Rattle.wire.proofs.RoundTrip.{read-back, read-only, refuses-seven, refuses-one}
 use Rattle.figures.specs.Figures.{totals, figuresOf}
 use Rattle.table.proofs.Sets.{faults-largest}
-use Rattle.node.specs.Entry as N
+use Rattle.calls.specs.Entry as N
 use Rattle.layout.specs.Layout.{size as statedSize}
 use Rattle.cluster.proofs.Told.{fresh-none, fresh-is}
 use Rattle.history.specs.Order.{OneTo}

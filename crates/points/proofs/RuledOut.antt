@@ -26,8 +26,8 @@ use Rattle.figures.specs.declared.Totals.{Totals}
 use Rattle.table.specs.Quorum.{faults}
 use Rattle.step.specs.Told as K
 use Rattle.step.specs.declared.Ending.{Ending}
-use Rattle.node.specs.Entry as N
-use Rattle.node.specs.Outcome.{Outcome}
+use Rattle.calls.specs.Entry as N
+use Rattle.calls.specs.Outcome.{Outcome}
 use Rattle.layout.specs.Layout.{clusterSize}
 use Rattle.cluster.specs.Event as E
 use Rattle.history.specs.Order.{OneTo}

@@ -23,8 +23,8 @@ use Rattle.record.specs.declared.Wait.{Wait}
 use Rattle.record.specs.declared.Wait.the-variants.{Idle, Reading, Writing, Comparing, Borrowing}
 use Rattle.step.specs.Told as K
 use Rattle.step.specs.declared.Ending.the-variants.{None}
-use Rattle.node.specs.Entry as N
-use Rattle.node.specs.Outcome.{Outcome}
+use Rattle.calls.specs.Entry as N
+use Rattle.calls.specs.Outcome.{Outcome}
 use Rattle.block.specs.Block.{halt}
 use Rattle.layout.specs.Layout.{stated, stopped, onBlock}
 use Rattle.cluster.specs.Event as E

@@ -12,8 +12,8 @@ use Rattle.figures.specs.declared.Totals.{Totals}
 use Rattle.table.specs.Quorum.{faults}
 use Rattle.record.specs.declared.Node.{Node}
 use Rattle.record.specs.declared.Operation.{Operation}
-use Rattle.node.specs.Outcome.{Outcome}
-use Rattle.node.specs.Entry as N
+use Rattle.calls.specs.Outcome.{Outcome}
+use Rattle.calls.specs.Entry as N
 use Rattle.layout.specs.Layout.{size}
 use Rattle.cluster.specs.Event as E
 use Rattle.outgoing.specs.declared.Extent.{Extent}

@@ -23,7 +23,7 @@ use Rattle.record.specs.declared.Kind.the-variants.{Update as UpdateKind, Scan 
 use Rattle.record.specs.declared.Wait.the-variants.{Idle, Reading}
 use Rattle.step.specs.Move.{opened}
 use Rattle.step.specs.Told as K
-use Rattle.node.specs.Outcome.{Outcome}
+use Rattle.calls.specs.Outcome.{Outcome}
 use Rattle.history.specs.Order.{OneTo}
 use Rattle.points.specs.Calls.{Calls}
 

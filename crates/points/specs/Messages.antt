@@ -16,7 +16,7 @@ use Rattle.figures.specs.declared.Totals.{Totals}
 use Rattle.record.specs.Record.{blank}
 use Rattle.step.specs.declared.Ending.the-variants.{None}
 use Rattle.step.specs.Told.{nothing}
-use Rattle.node.specs.Entry as N
+use Rattle.calls.specs.Entry as N
 use Rattle.cluster.specs.Event.{refuse, freshBytes}
 use Rattle.history.specs.Order.{OneTo}
 use Rattle.points.specs.Calls.{Calls}

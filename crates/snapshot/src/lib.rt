@@ -17,9 +17,6 @@
 //
 // The last digit of 100 to 113 is the rule: 0 for a view borrowed from a good message, or the round, 1 to 3. Refusals
 // that come later stay below 100. A refusal leaves all that is lent as it was.
-mod codes;
-
-use codes::VIEW;
 use codes::event_code;
 use codes::extent_of;
 use codes::message_numbers;
@@ -29,6 +26,7 @@ use codes::show;
 use figures::Summed;
 use record::Operation;
 use view::REPORT;
+use view::VIEW;
 use view::read_report;
 use wire::Parsed;
 use wire::Written;
@@ -41,9 +39,9 @@ ghost use Rattle.layout.specs.Layout.{size as sizeOf};
 ghost use Rattle.cluster.specs.Event.{begin, deliver, fresh};
 ghost use Rattle.cluster.specs.Outcome.{toldOf};
 ghost use Rattle.cluster.specs.Stop.{stop};
-ghost use Rattle.snapshot.specs.Code.{extentOf, eventView, leaves};
-ghost use Rattle.snapshot.specs.Code.{numbers as numbersOf, reportIn, messageIn, sums as sumsOf};
-ghost use Rattle.snapshot.specs.Code.{answerCode, lent, wrote};
+ghost use Rattle.codes.specs.Code.{extentOf, eventView, leaves};
+ghost use Rattle.codes.specs.Code.{numbers as numbersOf, reportIn, messageIn, sums as sumsOf};
+ghost use Rattle.codes.specs.Code.{answerCode, lent, wrote};
 
 // The bytes to lend for a cluster of n nodes; 0 where there may be none.
 #[no_mangle]

@@ -5,9 +5,9 @@ use Prim.Native.Nat.{ℕ}
 use borrow.Author.Tests.{lt-ltb, le-ltb}
 use Rattle.step.specs.Move.{beginStep}
 use Rattle.step.specs.declared.Step.{Step}
-use Rattle.node.specs.Outcome.{tells}
-use Rattle.node.specs.Entry.{letOut}
-use Rattle.node.proofs.Refusals.{begin-12, begin-2, begin-5, begin-6, begin-goes}
+use Rattle.calls.specs.Entry.{letOut}
+use Rattle.calls.proofs.Refusals.{begin-12, begin-2, begin-5, begin-6, begin-goes}
+use Rattle.reply.specs.Tells.{tells}
 use Rattle.node.proofs.Rooms.{begin-fit}
 use Rattle.node.proofs.begin.Statement.{statement}
 use Rattle.node.proofs.begin.Tie as tie

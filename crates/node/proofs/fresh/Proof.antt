@@ -2,7 +2,7 @@
 use borrow.Author.Needs.{needs}
 use mathlib.Core.Path.{refl, sym, _∙_}
 use mathlib.Core.List.{[]}
-use Rattle.node.specs.Entry.{fresh}
+use Rattle.calls.specs.Entry.{fresh}
 use Rattle.node.proofs.fresh.Statement.{statement}
 use Rattle.node.proofs.fresh.Tie as tie
 

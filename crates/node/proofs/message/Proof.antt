@@ -11,9 +11,9 @@ use Rattle.wire.specs.Layout.{allowed}
 use Rattle.wire.specs.Outcome.{parsed}
 use Rattle.wire.proofs.Handed.{read-room, read-view}
 use Rattle.wire.proofs.RoundTrip.{read-only}
-use Rattle.node.specs.Entry.{taken}
-use Rattle.node.specs.Outcome.{tells}
-use Rattle.node.proofs.Refusals.{message-12, message-2, message-3, message-7, message-read}
+use Rattle.calls.specs.Entry.{taken}
+use Rattle.calls.proofs.Refusals.{message-12, message-2, message-3, message-7, message-read}
+use Rattle.reply.specs.Tells.{tells}
 use Rattle.node.proofs.message.Statement.{statement}
 use Rattle.node.proofs.message.Tie as tie
 

@@ -10,9 +10,9 @@ use Rattle.table.proofs.Laws.{length-mapped}
 use Rattle.step.specs.Claims.{Long}
 use Rattle.step.specs.Move.{messageStep}
 use Rattle.step.specs.declared.Step.{Step}
-use Rattle.node.specs.Outcome.{tells}
-use Rattle.node.specs.Entry.{letOut}
-use Rattle.node.proofs.Refusals.{taken-9, taken-goes}
+use Rattle.calls.specs.Entry.{letOut}
+use Rattle.calls.proofs.Refusals.{taken-9, taken-goes}
+use Rattle.reply.specs.Tells.{tells}
 use Rattle.node.proofs.Rim.{read-writer, read-lawful}
 use Rattle.node.proofs.Rooms.{message-fit}
 use Rattle.node.proofs.taken_message.Statement.{statement}

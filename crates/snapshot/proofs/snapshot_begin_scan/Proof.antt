@@ -1,7 +1,7 @@
 -- `snapshot::snapshot_begin_scan` meets its contract.
 use borrow.Author.Needs.{needs}
 use mathlib.Core.Path.{sym, ap, ap₂, _∙_}
-use Rattle.snapshot.specs.Code.{ruleIn, eventCode}
+use Rattle.codes.specs.Code.{ruleIn, eventCode}
 use Rattle.snapshot.proofs.snapshot_begin_scan.Statement.{statement}
 use Rattle.snapshot.proofs.snapshot_begin_scan.Tie as tie
 

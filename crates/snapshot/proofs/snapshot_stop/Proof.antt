@@ -1,7 +1,7 @@
 -- `snapshot::snapshot_stop` meets its contract.
 use borrow.Author.Needs.{needs}
 use mathlib.Core.Path.{ap, ap₂, _∙_}
-use Rattle.snapshot.specs.Code.{ruleIn, eventCode}
+use Rattle.codes.specs.Code.{ruleIn, eventCode}
 use Rattle.snapshot.proofs.snapshot_stop.Statement.{statement}
 use Rattle.snapshot.proofs.snapshot_stop.Tie as tie
 

@@ -1,0 +1,4 @@
+pub mod Bytes
+pub mod Entry
+pub mod Outcome
+pub mod Shown

@@ -1,0 +1,1 @@
+// No code: the calls at one node, defined for every input (specs/), and their theorems (proofs/).

@@ -1,0 +1,57 @@
+-- The codes at the border to C are told apart: a refusal's number is below those of done and never the code of an
+-- ending, and from a code, with the view beside it, is read back what the event told and by which rule.
+use Prim.Native.Nat.{ℕ, _-_, _≤_, _<_}
+use mathlib.Core.Path.{_≡_}
+use mathlib.Core.List.{List}
+use lib.Dec.{eqb, ltb}
+use Rattle.octets.specs.Answer.{Answer, result, refused}
+use Rattle.octets.specs.Test.{pick}
+use Rattle.view.specs.declared.View.{View}
+use Rattle.wire.specs.Codec.{decode, answer}
+use Rattle.wire.specs.declared.Message.{Message}
+use Rattle.figures.specs.Figures.{figuresOf}
+use Rattle.record.specs.declared.Operation.{Operation}
+use Rattle.step.specs.declared.Ending.{Ending}
+use Rattle.step.specs.Told.{Told, refusal, nothing, done, scan, spent, spentNumber, told}
+use Rattle.outgoing.specs.declared.Extent.{Extent}
+use Rattle.cluster.specs.Event.{Result, fresh, begin, deliver}
+use Rattle.cluster.specs.Outcome.{toldOf}
+use Rattle.cluster.specs.Stop.{stop}
+use Rattle.codes.specs.Code.{lastRefusal, doneFrom, scanFrom, eventCode, ruleIn, codeOf}
+
+-- What a code means, v the view beside it, and the rule in it. It names no refusal, so that it stands where others
+-- come.
+abbrev pub meant : ℕ → View → Told
+meant k v =
+    pick (eqb k 0) nothing
+    (pick (eqb k spentNumber) (spent k)
+    (pick (ltb k doneFrom) (refusal k)
+    (pick (ltb k scanFrom) done (scan v))))
+
+abbrev pub ruleMeant : ℕ → ℕ
+ruleMeant k = pick (ltb k scanFrom) (k - doneFrom) (k - scanFrom)
+
+-- The events of the calls, on any numbers and any bytes.
+pub data Called : Result → Type 0 where
+  by-fresh : (n : ℕ) (b : List ℕ) → Called (fresh n b)
+  by-begin : (c : ℕ) (o : Operation) (x : Extent) (b : List ℕ) → Called (begin c o x b)
+  by-deliver : (a c : ℕ) (x : Extent) (b : List ℕ) → Called (deliver a c x b)
+  by-stop : (c : ℕ) (b : List ℕ) → Called (stop c b)
+
+-- If an answer is a refusal, its number is 1 to 12, which is below the codes of done.
+pub record Numbered {A : Type 0} (a : Answer A) : Type 0 where
+  pub number : (k : ℕ) → a ≡ refused k → (1 ≤ k) × (k ≤ lastRefusal) × (k < doneFrom)
+
+pub record Apart : Type 0 where
+  -- The refusals of events, each its own code, and those of the other calls, of which 0 says that there is a result.
+  pub refusals : {e : Result} → Called e → Numbered (e .answer)
+  pub own-code : (e : Result) (k : ℕ) → e .answer ≡ refused k → codeOf e ≡ k
+  pub reading : (n : ℕ) (b : List ℕ) → Numbered (decode n b)
+  pub writing : (n : ℕ) (m : Message) (v : List ℕ) (room : ℕ) → Numbered (answer n m v room)
+  pub summing : (n : ℕ) (v : List ℕ) → Numbered (figuresOf n v)
+  -- No ending has a refusal's code, nor any other that is left for one: below those of done, and not spent's.
+  pub endings : (k : ℕ) → 1 ≤ k → k < doneFrom → (k ≡ spentNumber → ⊥) → (x : Ending) (v : View)
+      → eventCode (refusal k) 0 ≡ eventCode (told (result x) v) (ruleIn (result x)) → ⊥
+  -- What is told is read back, so that no two tellings have one code, but scans with two views, which are beside it.
+  pub read-back : {e : Result} → Called e → meant (codeOf e) (e .view) ≡ toldOf e
+  pub rule-back : {e : Result} → Called e → ruleMeant (codeOf e) ≡ ruleIn (e .answer)

@@ -1,0 +1,21 @@
+-- What is claimed of the lent view where a delivery ends a scan, on any bytes: past the entries of the n nodes that
+-- they state it is zeros, up to its sixteenth place.
+use Prim.Native.Nat.{ℕ, _-_, _*_}
+use mathlib.Core.Path.{_≡_}
+use mathlib.Core.List.{List}
+use lib.ListN.{length, drop, replicate}
+use Rattle.octets.specs.Answer.{result}
+use Rattle.view.specs.Size.{nodes, entrySize}
+use Rattle.step.specs.declared.Rule.{Rule}
+use Rattle.step.specs.declared.Ending.the-variants.{Scan}
+use Rattle.layout.specs.Layout.{stated}
+use Rattle.outgoing.specs.declared.Extent.{Extent}
+use Rattle.cluster.specs.Event.{deliver}
+use Rattle.cluster.specs.Outcome.{toldOf}
+use Rattle.codes.specs.Code.{eventView}
+
+abbrev pub ZeroPast : Type 0
+ZeroPast = (a c : ℕ) (x : Extent) (b view : List ℕ) (r : Rule) → length view ≡ entrySize * nodes
+    → deliver a c x b .answer ≡ result (Scan r)
+    → drop (entrySize * stated b) (eventView (toldOf (deliver a c x b)) view)
+    ≡ replicate (entrySize * (nodes - stated b)) 0

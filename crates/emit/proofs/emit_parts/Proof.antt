@@ -1,0 +1,56 @@
+-- `emit::emit_parts` meets its contract. Assumes nothing.
+use borrow.Author.Needs.{needs}
+use mathlib.Core.Path.{_∙_}
+use Rattle.step.specs.Step.{listed}
+use Rattle.emit.proofs.Runs.{room-as, room-first, room-second, room-third, three-long, three-put}
+use Rattle.emit.proofs.emit_parts.Statement.{statement}
+use Rattle.emit.proofs.emit_parts.Tie as tie
+
+emit-sent-requires : tie.Need-emit-sent-requires
+emit-sent-requires c κs =
+    let a = c .before .before .before .args in
+    let o = a .o in
+    room-first (a .n) (a .v .now) (listed (o .handler)) (listed (o .reading)) (listed (o .comparing)) _
+    (c .before .before .before .pre)
+
+emit-sent-requires-2 : tie.Need-emit-sent-requires-2
+emit-sent-requires-2 c κs =
+    let c7 = c .before .before .before .before .before .before .before in
+    let a = c7 .args in
+    let o = a .o in
+    let first = c .before .before .before .emit-sent in
+    room-as (a .n) (a .v .now) (listed (o .reading)) _ (first .kept .1 .1 .1 .0)
+    (room-second (a .n) (a .v .now) (listed (o .handler)) (listed (o .reading)) (listed (o .comparing)) _ (c7 .pre) _
+    (first .ensures .0))
+
+emit-sent-requires-3 : tie.Need-emit-sent-requires-3
+emit-sent-requires-3 c κs =
+    let c7 = c .before .before .before .before .before .before .before in
+    let a = c7 .before .before .before .before .args in
+    let o = a .o in
+    let first = c7 .emit-sent in
+    let second = c .before .before .before .emit-sent2 in
+    room-as (a .n) (a .v .now) (listed (o .comparing)) _ (second .kept .1 .1 .1 .0 ∙ first .kept .1 .1 .1 .0)
+    (room-third (a .n) (a .v .now) (listed (o .handler)) (listed (o .reading)) (listed (o .comparing)) _
+    (c7 .before .before .before .before .pre) _ (first .ensures .0) _ (second .ensures .0))
+
+returns : tie.Need-returns
+returns c =
+    let c6 = c .before .before .before .before .before .before in
+    let c14 = c6 .before .before .before .before .before .before .before .before in
+    let a = c14 .args in
+    let o = a .o in
+    let p = c14 .pre in
+    let first = c6 .before .before .before .before .emit-sent .ensures in
+    let second = c6 .emit-sent2 .ensures in
+    let third = c .before .before .emit-sent3 .ensures in (
+      three-long (a .n) (a .v .now) (listed (o .handler)) (listed (o .reading)) (listed (o .comparing)) _ p _ (first .0)
+          _ (second .0) _ (third .0),
+      three-put (a .n) (a .v .now) (listed (o .handler)) (listed (o .reading)) (listed (o .comparing)) _ p _ (first .0)
+          _ (second .0) (a .out .now) _ _ _ (first .1) (second .1) (third .1),
+    )
+
+pub emit-parts-spec : {M : Type 1} → statement M
+emit-parts-spec =
+    tie.close
+    (tie.spec emit-sent-requires emit-sent-requires-2 emit-sent-requires-3 (λ c. search needs) returns)

@@ -1,0 +1,76 @@
+// Writing what a step sends into an output buffer: each message once, in order, from the buffer's start.
+use step::Outbox;
+use step::Sent;
+use view::ENTRY;
+use view::VIEW;
+use view::write_view;
+use wire::Message;
+use wire::Written;
+use wire_write::write;
+ghost use mathlib.Core.Path.{_≡_};
+ghost use mathlib.Core.Bool.{true};
+ghost use Prim.Native.Nat.{_+_, _≤_};
+ghost use lib.ListN.{length};
+ghost use Rattle.octets.specs.Bytes.{put};
+ghost use Rattle.view.specs.Size.{nodes, isSize};
+ghost use Rattle.wire.specs.Layout.{encode, allowed};
+ghost use Rattle.step.specs.Claims.{AllLawful, sizes};
+ghost use Rattle.step.specs.Step.{listed, messages};
+ghost use Rattle.calls.specs.Bytes.{run, outBytes};
+ghost use Rattle.emit.specs.Room.{Room};
+
+// Writes one message at a place, and answers the place after it.
+fn emit_one(n: usize, m: Message, v: &[u8], out: &mut [u8], at: usize) -> usize
+    requires { ⌜ (isSize n ≡ true) × (allowed n m (now v) ≡ true)
+        × (at + length (encode m (now v)) ≤ length (now out)) ⌝ }
+    ensures { λ r. ⌜ (r ≡ at + length (encode m (now (v .entry))))
+        × (now (out .exit) ≡ put (now (out .entry)) at (encode m (now (v .entry)))) ⌝ }
+{
+    match write(n, m, v, &mut out[at..]) {
+        Written::Length(k) => at + k,
+        Written::Refused(_) => at,
+    }
+}
+
+// Writes what one part of a step sends.
+fn emit_sent(n: usize, m: Sent, v: &[u8], out: &mut [u8], at: usize) -> usize
+    requires { ⌜ Room n (now v) (listed m) at (length (now out)) ⌝ }
+    ensures { λ r. ⌜ (r ≡ at + length (run (now (v .entry)) (listed m)))
+        × (now (out .exit) ≡ put (now (out .entry)) at (run (now (v .entry)) (listed m))) ⌝ }
+{
+    match m {
+        Sent::Nothing => at,
+        Sent::One(a) => emit_one(n, a, v, out, at),
+        Sent::Two(a, b) => {
+            let next = emit_one(n, a, v, out, at);
+            emit_one(n, b, v, out, next)
+        }
+    }
+}
+
+// Writes the three parts of a step, one after the other, and answers how many bytes they have; v is the bytes of its
+// view.
+fn emit_parts(n: usize, o: Outbox, v: &[u8], out: &mut [u8]) -> usize
+    requires { ⌜ Room n (now v) (messages o) 0 (length (now out)) ⌝ }
+    ensures { λ r. ⌜ (r ≡ length (run (now (v .entry)) (messages o)))
+        × (now (out .exit) ≡ put (now (out .entry)) 0 (run (now (v .entry)) (messages o))) ⌝ }
+{
+    let handler = o.handler;
+    let reading = o.reading;
+    let comparing = o.comparing;
+    let first = emit_sent(n, handler, v, out, 0);
+    let second = emit_sent(n, reading, v, out, first);
+    emit_sent(n, comparing, v, out, second)
+}
+
+// Writes what a whole step sends, and answers how many bytes it has.
+pub fn emit_all(n: usize, o: Outbox, out: &mut [u8]) -> usize
+    requires { ⌜ (1 ≤ n) × (n ≤ nodes) × AllLawful n (o .view) (messages o)
+        × (sizes n (messages o) ≤ length (now out)) ⌝ }
+    ensures { λ r. ⌜ (r ≡ length (outBytes n o)) × (now (out .exit) ≡ put (now (out .entry)) 0 (outBytes n o)) ⌝ }
+{
+    let mut view = [0u8; VIEW];
+    let size = ENTRY * n;
+    write_view(n, o.view, &mut view[..size]);
+    emit_parts(n, o, &view[..size], out)
+}

@@ -1,5 +1,0 @@
-pub mod Bytes
-pub mod Entry
-pub mod Outcome
-pub mod Room
-pub mod Shown
