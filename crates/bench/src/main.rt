@@ -8,7 +8,7 @@ use session::PIECE;
 use session::TEXT;
 ghost use Prim.Native.Nat.{_≤_};
 ghost use lib.ListN.{length};
-ghost use Rattle.session.specs.Progress.{textSize};
+ghost use Rattle.session_progress.specs.Progress.{textSize};
 
 // Prints the front of a buffer.
 fn print_front(out: &[u8], end: usize)

@@ -1,4 +1,3 @@
-pub mod Act
-pub mod Progress
 pub mod Reading
 pub mod Text
+pub mod Turn

@@ -5,8 +5,10 @@ use Prim.Native.Nat.{ℕ}
 use mathlib.Core.Path.{_≡_}
 use mathlib.Core.List.{List, [], _++_}
 use lib.ListN.{length}
-use Rattle.session.specs.Progress.{memorySize, turned, begun}
-use Rattle.session.specs.declared.Progress.{Progress}
+use Rattle.session_memory.specs.Memory.{memorySize}
+use Rattle.session_progress.specs.Progress.{begun}
+use Rattle.session_progress.specs.declared.Progress.{Progress}
+use Rattle.session.specs.Turn.{turned}
 
 pub data Reading : (text : List ℕ) → Progress → (memory shown : List ℕ) → Type 0 where
   begins : {m : List ℕ} → length m ≡ memorySize → Reading [] begun m []

@@ -10,8 +10,8 @@ use Rattle.lines.specs.Grammar.{eventOf, nodesOf}
 use Rattle.lines.specs.declared.Line.{Line}
 use Rattle.lines.specs.declared.Line.the-variants.{Bad}
 use Rattle.input.specs.Input.{linesOf, restOf}
-use Rattle.session.specs.Act.{ran, printed}
-use Rattle.session.specs.Progress.{next, badLine}
+use Rattle.session_line.specs.Act.{ran, printed}
+use Rattle.session_progress.specs.Progress.{next, badLine}
 
 -- ---- what a text says
 

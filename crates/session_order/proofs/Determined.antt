@@ -8,7 +8,7 @@ use Rattle.lines.specs.declared.Line.{Line}
 use Rattle.history.specs.Event as H
 use Rattle.history.specs.Trace.{Trace}
 use Rattle.mirror.specs.Run.{Event}
-use Rattle.session.specs.Progress.{badLine}
+use Rattle.session_progress.specs.Progress.{badLine}
 use Rattle.session_order.specs.Lines.{Shows, silence, done, scan, spent, refusal, Lines, none, bad, event}
 use Rattle.session_order.specs.Lines.{Determined}
 

@@ -15,8 +15,8 @@ use Rattle.eqaso.specs.Cluster as K
 use Rattle.mirror.specs.Mirrors.{channelRoom, Mirrors}
 use Rattle.mirror.specs.Run.{after, meaning}
 use Rattle.mirror.proofs.Run.{fresh-taken, run-mirrors}
-use Rattle.session.specs.Act.{ran, printed}
-use Rattle.session.specs.Progress.{next}
+use Rattle.session_progress.specs.Progress.{next}
+use Rattle.session_line.specs.Act.{ran, printed}
 use Rattle.session.specs.Text.{leftBy, printedBy, freshOf}
 use Rattle.session_order.specs.Lines.{eventsOf}
 

@@ -13,8 +13,10 @@ use Rattle.input.specs.Input.{feed, linesFrom, restFrom, linesOf, restOf}
 use Rattle.input.specs.Carry.{carryOf, push}
 use Rattle.input.proofs.Kept.{push-carry}
 use Rattle.input.proofs.Pieces.{lines-line, rest-line, lines-byte, rest-byte}
-use Rattle.session.specs.Progress.{Turned, memorySize, ended, kept, stepped, turned, begun}
-use Rattle.session.specs.declared.Progress.{Progress}
+use Rattle.session_progress.specs.Progress.{begun}
+use Rattle.session_progress.specs.declared.Progress.{Progress}
+use Rattle.session_memory.specs.Memory.{memorySize}
+use Rattle.session.specs.Turn.{Turned, ended, kept, stepped, turned}
 use Rattle.session.specs.Reading.{Reading, begins, takes}
 use Rattle.session_order.proofs.Stands.{Stands, first, stands-more}
 

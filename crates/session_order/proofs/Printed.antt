@@ -19,8 +19,8 @@ use Rattle.eqaso.specs.Algorithm as A
 use Rattle.refine.specs.Meaning.{entryOf, ruleOf, viewOf}
 use Rattle.mirror.specs.SameResult.{answerOf}
 use Rattle.mirror.specs.Run.{traceFrom}
-use Rattle.session.specs.Act.{ran, handler, replyOf, printed}
-use Rattle.session.specs.Progress.{next}
+use Rattle.session_progress.specs.Progress.{next}
+use Rattle.session_line.specs.Act.{ran, handler, replyOf, printed}
 use Rattle.session.specs.Text.{leftBy, printedBy}
 use Rattle.session_order.specs.Lines.{eventsOf, printedOf, reports, Shows, silence, done, scan, spent, refusal}
 use Rattle.session_order.specs.Lines.{Lines, none, bad, event}

@@ -32,8 +32,9 @@ use Rattle.eqaso.specs.Cluster.{trace}
 use Rattle.mirror.specs.Mirrors.{channelRoom}
 use Rattle.mirror.specs.Run as R
 use Rattle.mirror.proofs.Demand2.{demand2}
-use Rattle.session.specs.Progress.{memorySize, cluster, badLine, begun, finished}
-use Rattle.session.specs.declared.Progress.{Progress}
+use Rattle.session_progress.specs.Progress.{badLine, begun, finished}
+use Rattle.session_progress.specs.declared.Progress.{Progress}
+use Rattle.session_memory.specs.Memory.{memorySize, cluster}
 use Rattle.session.specs.Text.{nodesIn, eventsIn, printedBy, freshOf, clusterAfter, output}
 use Rattle.session.specs.Reading.{Reading, begins, takes}
 use Rattle.session_order.specs.Lines.{Lines, bad, event}

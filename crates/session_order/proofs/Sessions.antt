@@ -20,10 +20,11 @@ use Rattle.answers.specs.Answer.{line}
 use Rattle.history.specs.Order.{SingleOrder, Quiet}
 use Rattle.mirror.specs.Run.{traceFrom}
 use Rattle.mirror.proofs.Demand3.{demand3}
-use Rattle.session.specs.Act.{printed}
-use Rattle.session.specs.Progress.{cluster, badLine, endedAt, finished, isOver}
-use Rattle.session.specs.declared.Stage.{Stage}
-use Rattle.session.specs.declared.Progress.{Progress}
+use Rattle.session_progress.specs.Progress.{badLine, endedAt, finished, isOver}
+use Rattle.session_progress.specs.declared.Stage.{Stage}
+use Rattle.session_progress.specs.declared.Progress.{Progress}
+use Rattle.session_line.specs.Act.{printed}
+use Rattle.session_memory.specs.Memory.{cluster}
 use Rattle.session.specs.Text.{nodesFirst, nodesIn, eventsAfter, unended, eventsIn, leftBy, printedBy, freshOf}
 use Rattle.session.specs.Text.{output}
 use Rattle.session.specs.Reading.{Reading}

@@ -5,7 +5,7 @@ use native.Mathlib.Nat.{add-zero}
 use borrow.Author.Tests.{eq-eqb, ne-eqb}
 use Rattle.octets.proofs.Put.{put-nil}
 use Rattle.input.specs.Input.{feed}
-use Rattle.session.specs.Progress.{stepped}
+use Rattle.session.specs.Turn.{stepped}
 use Rattle.session.proofs.step.Statement.{statement}
 use Rattle.session.proofs.step.Tie as tie
 

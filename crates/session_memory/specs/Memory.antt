@@ -1,0 +1,60 @@
+-- What a line of a session that has ended does. The cluster is at the front of lent memory that has room for the
+-- largest.
+use Prim.Native.Nat.{ℕ, min}
+use mathlib.Core.List.{List, []}
+use lib.Dec.{eqb}
+use Rattle.octets.specs.Test.{pick}
+use Rattle.octets.specs.Bytes.{part}
+use Rattle.block.specs.Block.{change}
+use Rattle.layout.specs.Layout.{clusterSize, size}
+use Rattle.cluster.specs.Event.{fresh}
+use Rattle.lines.specs.declared.Line.{Line}
+use Rattle.input.specs.Carry.{eventIn, nodesIn}
+use Rattle.input.specs.declared.Carry.{Carry}
+use Rattle.session_line.specs.Act.{ran, printed}
+use Rattle.session_progress.specs.Progress.{next, badLine}
+use Rattle.session_progress.specs.declared.Stage.{Stage}
+use Rattle.session_progress.specs.declared.Stage.the-variants.{First, Events, Over}
+
+-- The most nodes of a session, and its memory, which has room for them. What a cluster of n nodes has of it, what
+-- stands there, and the memory with that changed.
+abbrev pub sessionNodes : ℕ
+sessionNodes = 5
+
+abbrev pub memorySize : ℕ
+memorySize = clusterSize sessionNodes
+
+abbrev pub lent : ℕ → ℕ
+lent n = min (size n) memorySize
+
+unfoldable pub cluster : ℕ → List ℕ → List ℕ
+cluster n m = part m 0 (lent n)
+
+unfoldable pub onCluster : ℕ → (List ℕ → List ℕ) → List ℕ → List ℕ
+onCluster n f m = change 0 (lent n) f m
+
+-- What a line that has ended does: where the session is then, its memory, and what is printed.
+pub record Told : Type 0 where
+  pub stage : Stage
+  pub memory : List ℕ
+  pub text : List ℕ
+
+-- the first line, which says n, or 0 where it is bad
+abbrev pub opened : ℕ → List ℕ → Told
+opened n m =
+    pick (eqb n 0) (record { stage = Over; memory = m; text = badLine 0 })
+    (record { stage = Events n 1; memory = onCluster n (λ b. fresh n b .bytes) m; text = [] })
+
+-- the line of event e
+abbrev pub acted : (n e : ℕ) → Line → List ℕ → Told
+acted n e l m =
+    record {
+      stage = Events n (next e);
+      memory = onCluster n (λ b. ran l b .bytes) m;
+      text = printed e l (cluster n m);
+    }
+
+unfoldable pub told : Stage → Carry → List ℕ → Told
+told First c m = opened (nodesIn c) m
+told (Events n e) c m = acted n e (eventIn c) m
+told Over c m = record { stage = Over; memory = m; text = [] }
