@@ -1,6 +1,1 @@
-pub mod Event
-pub mod Stop
-pub mod Outcome
-pub mod Ready
 pub mod First
-pub mod Shown

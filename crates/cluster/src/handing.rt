@@ -1,8 +1,8 @@
 // A message handed to a node: the step is done on a copy of the bytes of its record, and written where nothing is
 // refused.
-use crate::Answer;
-use crate::answered;
-use crate::refused;
+use events::Answer;
+use events::answered;
+use events::refused;
 use layout::copy_record_at;
 use layout::faults_in;
 use layout::first_at;
@@ -30,10 +30,10 @@ ghost use Rattle.step.specs.Stale.{writerWithin};
 ghost use Rattle.region.specs.Channel.{first};
 ghost use Rattle.region.specs.Record.{recordSize, recordBytes};
 ghost use Rattle.layout.specs.Layout.{clusterSize, channel};
-ghost use Rattle.cluster.specs.Event.{handOver};
+ghost use Rattle.events.specs.Event.{handOver};
 ghost use Rattle.cluster.specs.First.{reactFirst};
-ghost use Rattle.cluster.specs.Outcome.{tells};
-ghost use Rattle.cluster.specs.Ready.{Ready};
+ghost use Rattle.events.specs.Outcome.{tells};
+ghost use Rattle.events.specs.Ready.{Ready};
 
 // The oldest message from a, which is m, is handled on a copy of the record of node c. What is sent is the answer.
 fn handle_first(b: &[u8], n: usize, a: usize, c: usize, m: Message, r: &mut [u8]) -> Sent

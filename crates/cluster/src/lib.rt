@@ -3,6 +3,10 @@
 mod handing;
 
 use block::BLOCK;
+use events::Answer;
+use events::answered;
+use events::given;
+use events::refused;
 use handing::hand_over;
 use layout::STATED_PLACE;
 use layout::copy_record_at;
@@ -28,77 +32,22 @@ use step_bytes::begin_in;
 use step_bytes::is_full_in;
 use step_bytes::is_open_in;
 use view::NODES;
-use view::View;
 use wire::Found;
 use wire_parse::parse_prefix;
 ghost use mathlib.Core.Path.{_≡_};
 ghost use Prim.Native.Nat.{_+_, _≤_};
 ghost use lib.ListN.{length};
-ghost use Rattle.octets.specs.Answer.{result, refused};
-ghost use Rattle.octets.specs.Test.{pick};
 ghost use Rattle.octets.specs.Loop.{upTo};
 ghost use Rattle.view.specs.Size.{nodes};
-ghost use Rattle.view.specs.View.{noView};
 ghost use Rattle.record.specs.Record.{blank};
-ghost use Rattle.step.specs.declared.Ending.the-variants.{None};
 ghost use Rattle.region.specs.Record.{recordSize};
 ghost use Rattle.block.specs.Block.{keep};
 ghost use Rattle.layout.specs.Layout.{clusterSize, onBlock};
-ghost use Rattle.cluster.specs.declared.Outcome.the-variants.{Refused};
-ghost use Rattle.cluster.specs.Event.{admission as admissionOf, openIn};
-ghost use Rattle.cluster.specs.Event.{fresh as freshEvent, begin as beginEvent, deliver as deliverEvent};
-ghost use Rattle.cluster.specs.Stop.{stop as stopEvent};
-ghost use Rattle.cluster.specs.Outcome.{said, tells};
-ghost use Rattle.cluster.specs.Ready.{Ready};
-
-// A refusal by its number in document 01, or the ending that an accepted event gives.
-pub enum Outcome {
-    Refused(u8),
-    Accepted(Ending),
-}
-
-// The answer of an event, with the view of the operation that it ended.
-pub struct Answer {
-    pub outcome: Outcome,
-    pub view: View,
-}
-
-pub fn refused(k: u8) -> Answer
-    ensures { λ r. ⌜ r ≡ record { outcome = Refused k; view = noView } ⌝ }
-{
-    Answer {
-        outcome: Outcome::Refused(k),
-        view: view::absent(),
-    }
-}
-
-// What an accepted event answers: a cut one does not give its ending.
-pub(crate) fn given(cut: bool, ending: Ending, view: View) -> Answer
-    ensures { λ r. ⌜ (said (r .outcome) ≡ result (pick cut None ending)) × (r .view ≡ pick cut noView view) ⌝ }
-{
-    if cut {
-        return Answer {
-            outcome: Outcome::Accepted(Ending::None),
-            view: view::absent(),
-        };
-    }
-    Answer {
-        outcome: Outcome::Accepted(ending),
-        view: view,
-    }
-}
-
-// What an event that steps a node answers: 11 where a channel had no room.
-pub(crate) fn answered(room: bool, cut: bool, ending: Ending, view: View) -> Answer
-    ensures { λ r. ⌜ (said (r .outcome) ≡ pick room (result (pick cut None ending)) (refused 11))
-        × (r .view ≡ pick room (pick cut noView view) noView) ⌝ }
-{
-    if room {
-        given(cut, ending, view)
-    } else {
-        refused(11)
-    }
-}
+ghost use Rattle.events.specs.Event.{admission as admissionOf, openIn};
+ghost use Rattle.events.specs.Event.{fresh as freshEvent, begin as beginEvent, deliver as deliverEvent};
+ghost use Rattle.events.specs.Stop.{stop as stopEvent};
+ghost use Rattle.events.specs.Outcome.{tells};
+ghost use Rattle.events.specs.Ready.{Ready};
 
 // A fresh record in every block.
 fn blank_blocks(b: &mut [u8], n: usize)

@@ -32,9 +32,9 @@ use Rattle.block.specs.Block.{takeOff}
 use Rattle.layout.specs.Layout.{clusterSize, stated, faultsIn, stopped, node, channel, onBlock, fits, sound, isNode}
 use Rattle.outgoing.specs.declared.Extent.{Extent}
 use Rattle.outgoing.specs.Outgoing.{mayStop, mayCut, hasRoom}
-use Rattle.cluster.specs.Event.{Result, demand, admitted, settle, deliverMessage, fresh, begin, deliver}
-use Rattle.cluster.specs.Stop.{stop}
-use Rattle.cluster.proofs.Admitted.{admitted-is}
+use Rattle.events.specs.Event.{Result, demand, admitted, settle, deliverMessage, fresh, begin, deliver}
+use Rattle.events.specs.Stop.{stop}
+use Rattle.events.proofs.Admitted.{admitted-is}
 use Rattle.codes.specs.Code.{lastRefusal, doneFrom, scanFrom, ruleCode, eventCode, ruleIn, codeOf}
 use Rattle.codes.specs.Apart.{meant, ruleMeant, Called, by-fresh, by-begin, by-deliver, by-stop}
 use Rattle.codes.specs.Apart.{Numbered, Apart}

@@ -14,8 +14,8 @@ use Rattle.view.proofs.ViewBytes.{length-viewBytes}
 use Rattle.step.specs.declared.Ending.{Ending}
 use Rattle.step.specs.Told.{told}
 use Rattle.layout.specs.Layout.{stated}
-use Rattle.cluster.specs.Event.{deliver}
-use Rattle.cluster.proofs.Shown.{deliver-absent}
+use Rattle.events.specs.Event.{deliver}
+use Rattle.events.proofs.Shown.{deliver-absent}
 use Rattle.codes.specs.Code.{eventView}
 use Rattle.codes.specs.Shown as claim
 

@@ -14,9 +14,9 @@ use Rattle.record.specs.declared.Operation.{Operation}
 use Rattle.step.specs.declared.Ending.{Ending}
 use Rattle.step.specs.Told.{Told, refusal, nothing, done, scan, spent, spentNumber, told}
 use Rattle.outgoing.specs.declared.Extent.{Extent}
-use Rattle.cluster.specs.Event.{Result, fresh, begin, deliver}
-use Rattle.cluster.specs.Outcome.{toldOf}
-use Rattle.cluster.specs.Stop.{stop}
+use Rattle.events.specs.Event.{Result, fresh, begin, deliver}
+use Rattle.events.specs.Outcome.{toldOf}
+use Rattle.events.specs.Stop.{stop}
 use Rattle.codes.specs.Code.{lastRefusal, doneFrom, scanFrom, eventCode, ruleIn, codeOf}
 
 -- What a code means, v the view beside it, and the rule in it. It names no refusal, so that it stands where others

@@ -24,8 +24,8 @@ use Rattle.step.specs.declared.Ending.the-variants.{None, Done, Scan, Spent}
 use Rattle.step.specs.Told.{Told, refusal, nothing, done, scan, spent}
 use Rattle.outgoing.specs.declared.Extent.{Extent}
 use Rattle.outgoing.specs.declared.Extent.the-variants.{Whole, Cut}
-use Rattle.cluster.specs.Event.{Result}
-use Rattle.cluster.specs.Outcome.{toldOf}
+use Rattle.events.specs.Event.{Result}
+use Rattle.events.specs.Outcome.{toldOf}
 
 -- How much an event lets out: all, or the first m entries of a cut.
 abbrev pub extentOf : (cut : Bool) (m : ℕ) → Extent

@@ -10,8 +10,8 @@ use Rattle.step.specs.declared.Rule.{Rule}
 use Rattle.step.specs.declared.Ending.the-variants.{Scan}
 use Rattle.layout.specs.Layout.{stated}
 use Rattle.outgoing.specs.declared.Extent.{Extent}
-use Rattle.cluster.specs.Event.{deliver}
-use Rattle.cluster.specs.Outcome.{toldOf}
+use Rattle.events.specs.Event.{deliver}
+use Rattle.events.specs.Outcome.{toldOf}
 use Rattle.codes.specs.Code.{eventView}
 
 abbrev pub ZeroPast : Type 0

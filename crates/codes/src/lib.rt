@@ -1,7 +1,7 @@
 // The numbers that stand for enums at the border to C: codes of answers, the numbers and the report of a message, the
 // extent of a cut; and the view of a scan that ended, written into lent memory.
-use cluster::Answer;
-use cluster::Outcome;
+use events::Answer;
+use events::Outcome;
 use outgoing::Extent;
 use step::Ending;
 use step::Rule;
@@ -16,7 +16,7 @@ ghost use Prim.Native.Nat.{_≤_};
 ghost use Rattle.octets.specs.Answer.{result};
 ghost use Rattle.view.specs.declared.View.{View};
 ghost use Rattle.step.specs.Told.{told};
-ghost use Rattle.cluster.specs.Outcome.{said, toldBy};
+ghost use Rattle.events.specs.Outcome.{said, toldBy};
 ghost use Rattle.codes.specs.Code.{numbers, reportIn, messageOf};
 ghost use Rattle.codes.specs.Code.{extentOf, ruleCode, ruleIn, eventCode, eventView};
 

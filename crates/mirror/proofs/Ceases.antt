@@ -8,7 +8,7 @@ use Rattle.view.specs.Size.{nodes}
 use Rattle.logs.specs.Count as C
 use Rattle.table.specs.Quorum.{faults}
 use Rattle.outgoing.specs.declared.Extent.the-variants.{Cut}
-use Rattle.cluster.specs.Stop.{stopIn, stop}
+use Rattle.events.specs.Stop.{stopIn, stop}
 use Rattle.eqaso.specs.Cluster as K
 use Rattle.mirror.specs.Mirrors.{Mirrors}
 use Rattle.mirror.specs.SameResult.{SameResult}

@@ -19,8 +19,8 @@ use Rattle.region.specs.Channel.{capacity}
 use Rattle.region.specs.Record.{codesKnown, recordOf}
 use Rattle.block.specs.Block.{waitingIn, recordIn, nodeIn, blockSound}
 use Rattle.layout.specs.Layout.{clusterSize, stated, block, stopped, fits, sound, isNode}
-use Rattle.cluster.specs.Event as E
-use Rattle.cluster.proofs.Admitted.{admitted-is}
+use Rattle.events.specs.Event as E
+use Rattle.events.proofs.Admitted.{admitted-is}
 use Rattle.history.specs.Order.{OneTo}
 use Rattle.eqaso.specs.Cluster as K
 use Rattle.refine.proofs.Quorums.{same-count}

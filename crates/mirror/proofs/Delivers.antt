@@ -28,7 +28,7 @@ use Rattle.step.specs.Stale.{staleMessage}
 use Rattle.step.proofs.Allowed.{allowed-lawful}
 use Rattle.region.specs.Channel.{capacity, countOf, first}
 use Rattle.layout.specs.Layout.{node, channel}
-use Rattle.cluster.specs.Event as E
+use Rattle.events.specs.Event as E
 use Rattle.outgoing.specs.declared.Extent.{Extent}
 use Rattle.history.specs.Message as M
 use Rattle.history.specs.Order.{OneTo}

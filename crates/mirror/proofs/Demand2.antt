@@ -10,8 +10,8 @@ use Rattle.view.specs.View.{AbsentPast}
 use Rattle.view.proofs.First.{none-absent}
 use Rattle.table.specs.Quorum.{faults}
 use Rattle.layout.specs.Layout.{clusterSize, stated, stopped}
-use Rattle.cluster.specs.Event as E
-use Rattle.cluster.proofs.Shown.{begin-absent, deliver-absent, stop-absent}
+use Rattle.events.specs.Event as E
+use Rattle.events.proofs.Shown.{begin-absent, deliver-absent, stop-absent}
 use Rattle.history.specs.Trace as T
 use Rattle.history.specs.Order.{OneTo}
 use Rattle.eqaso.specs.Cluster as K

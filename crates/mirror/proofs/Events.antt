@@ -19,7 +19,7 @@ use Rattle.record.specs.declared.Operation.{Operation}
 use Rattle.step.specs.Move.{beginStep}
 use Rattle.layout.specs.Layout.{stated, stopped, node, isNode}
 use Rattle.outgoing.specs.Outgoing as O
-use Rattle.cluster.specs.Event as E
+use Rattle.events.specs.Event as E
 use Rattle.outgoing.specs.declared.Extent.{Extent}
 use Rattle.outgoing.specs.declared.Extent.the-variants.{Whole, Cut}
 use Rattle.history.specs.Order.{OneTo}

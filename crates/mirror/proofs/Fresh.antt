@@ -19,7 +19,7 @@ use Rattle.record.proofs.Fresh.{fresh-usable}
 use Rattle.region.specs.Channel.{slotSize, channelSize, countOf, oldest, slotAt, waiting}
 use Rattle.block.specs.Block.{blockSize, channelPlace, hasStopped, channelIn, keep}
 use Rattle.layout.specs.Layout.{clusterSize, blockPlace, stated, block, onBlock}
-use Rattle.cluster.specs.Event as E
+use Rattle.events.specs.Event as E
 use Rattle.history.specs.Order.{OneTo}
 use Rattle.eqaso.specs.Algorithm as A
 use Rattle.eqaso.specs.Cluster as K

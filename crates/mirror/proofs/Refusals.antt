@@ -8,7 +8,7 @@ use Rattle.logs.specs.Update.{upd2}
 use Rattle.octets.specs.Answer.{Answer, result, refused}
 use Rattle.view.specs.declared.View.{View}
 use Rattle.step.specs.declared.Ending.{Ending}
-use Rattle.cluster.specs.Event.{Result}
+use Rattle.events.specs.Event.{Result}
 use Rattle.history.specs.Message as M
 use Rattle.history.specs.Event as H
 use Rattle.eqaso.specs.Algorithm as A

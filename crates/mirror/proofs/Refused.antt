@@ -20,8 +20,8 @@ use Rattle.layout.specs.Layout.{stated, faultsIn, node, channel, onBlock}
 use Rattle.outgoing.specs.Entries.{entries}
 use Rattle.outgoing.specs.Outgoing as O
 use Rattle.outgoing.specs.declared.Extent.{Extent}
-use Rattle.cluster.specs.Event as E
-use Rattle.cluster.specs.Stop as S
+use Rattle.events.specs.Event as E
+use Rattle.events.specs.Stop as S
 use Rattle.mirror.specs.Run.{Event, begin, deliver, stop, event, seen, traceFrom}
 use Rattle.mirror.specs.Refused.{RefusedDoesNothing}
 

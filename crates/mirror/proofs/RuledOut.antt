@@ -11,7 +11,7 @@ use Rattle.octets.specs.Answer.{refused}
 use Rattle.view.specs.Report.{noReport}
 use Rattle.view.specs.declared.View.{View}
 use Rattle.layout.specs.Layout.{clusterSize}
-use Rattle.cluster.specs.Event.{Result, refuse}
+use Rattle.events.specs.Event.{Result, refuse}
 use Rattle.outgoing.specs.declared.Extent.the-variants.{Whole}
 use Rattle.history.specs.Event as H
 use Rattle.history.specs.Trace.{Seen, at}

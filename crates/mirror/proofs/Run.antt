@@ -13,7 +13,7 @@ use Rattle.table.specs.Quorum.{faults}
 use Rattle.step.specs.declared.Ending.the-variants.{None}
 use Rattle.region.specs.Channel.{waiting}
 use Rattle.layout.specs.Layout.{clusterSize, channel}
-use Rattle.cluster.specs.Event as E
+use Rattle.events.specs.Event as E
 use Rattle.history.specs.Event as H
 use Rattle.history.specs.Order.{OneTo}
 use Rattle.eqaso.specs.Cluster as K

@@ -24,7 +24,7 @@ use Rattle.step.specs.declared.Step.{Step}
 use Rattle.region.specs.Channel.{capacity}
 use Rattle.outgoing.specs.Entries.{Entry, entries}
 use Rattle.outgoing.specs.Outgoing as O
-use Rattle.cluster.specs.Event as E
+use Rattle.events.specs.Event as E
 use Rattle.outgoing.specs.declared.Extent.{Extent}
 use Rattle.outgoing.specs.declared.Extent.the-variants.{Whole, Cut}
 use Rattle.history.specs.Message as M

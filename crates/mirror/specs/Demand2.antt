@@ -12,7 +12,7 @@ use Rattle.step.specs.declared.Ending.{Ending}
 use Rattle.step.specs.declared.Ending.the-variants.{None}
 use Rattle.region.specs.Channel.{waiting}
 use Rattle.layout.specs.Layout.{channel, stopped, node}
-use Rattle.cluster.specs.Event.{Result, fresh}
+use Rattle.events.specs.Event.{Result, fresh}
 use Rattle.history.specs.Trace as T
 use Rattle.history.specs.Trace.{Trace, waits}
 use Rattle.history.specs.Order.{OneTo}

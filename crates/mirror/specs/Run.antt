@@ -9,8 +9,8 @@ use Rattle.table.specs.Loop.{either}
 use Rattle.octets.specs.Answer.{Answer, result, refused}
 use Rattle.record.specs.declared.Operation.{Operation}
 use Rattle.step.specs.declared.Ending.{Ending}
-use Rattle.cluster.specs.Event as E
-use Rattle.cluster.specs.Stop as S
+use Rattle.events.specs.Event as E
+use Rattle.events.specs.Stop as S
 use Rattle.outgoing.specs.declared.Extent.{Extent}
 use Rattle.history.specs.Event as H
 use Rattle.history.specs.Trace.{Seen, Trace}

@@ -6,7 +6,7 @@ use mathlib.Core.List.{map}
 use Rattle.octets.specs.Answer.{Answer, result, refused}
 use Rattle.view.specs.declared.View.{View}
 use Rattle.step.specs.declared.Ending.{Ending}
-use Rattle.cluster.specs.Event.{Result}
+use Rattle.events.specs.Event.{Result}
 use Rattle.history.specs.Event as H
 use Rattle.eqaso.specs.Cluster as K
 use Rattle.refine.specs.Meaning.{endingOf}

@@ -12,7 +12,7 @@ use Rattle.view.specs.Size.{nodes}
 use Rattle.record.specs.declared.Operation.the-variants.{Scan}
 use Rattle.step.specs.declared.Ending.the-variants.{None}
 use Rattle.layout.specs.Layout.{clusterSize, stated, stopped, node}
-use Rattle.cluster.specs.Event as E
+use Rattle.events.specs.Event as E
 use Rattle.outgoing.specs.declared.Extent.the-variants.{Whole}
 use Rattle.history.specs.Message.{Entry, absent}
 use Rattle.history.specs.Event as H

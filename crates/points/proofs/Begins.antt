@@ -27,12 +27,12 @@ use Rattle.outgoing.specs.Entries.{addressed, entries, goTo}
 use Rattle.outgoing.proofs.Laws.{entries-one, goTo-once, others-reach}
 use Rattle.outgoing.proofs.Judged.{heard-read}
 use Rattle.layout.specs.Layout.{stated, block, stopped, node, channel, faultsIn}
-use Rattle.cluster.specs.Event.{Result, begin, settle}
+use Rattle.events.specs.Event.{Result, begin, settle}
 use Rattle.outgoing.specs.Outgoing.{mayCut}
 use Rattle.outgoing.specs.declared.Extent.{Extent}
 use Rattle.outgoing.specs.declared.Extent.the-variants.{Whole, Cut}
-use Rattle.cluster.proofs.Admitted.{sound-n, admits, begin-opens}
-use Rattle.cluster.proofs.Settled.{open-settles}
+use Rattle.events.proofs.Admitted.{sound-n, admits, begin-opens}
+use Rattle.events.proofs.Settled.{open-settles}
 use Rattle.history.specs.Order.{OneTo}
 use Rattle.mirror.specs.Run as R
 use Rattle.points.specs.Calls.{code}

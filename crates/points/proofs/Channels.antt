@@ -39,12 +39,12 @@ use Rattle.outgoing.proofs.Laws.{entries-two, goTo-append, goTo-once}
 use Rattle.react_bytes.proofs.Handling.{reacted}
 use Rattle.layout.specs.Layout.{stated, block, stopped, node, channel, onBlock, faultsIn}
 use Rattle.layout.proofs.Check.{is-size, sound-size, sound-channel}
-use Rattle.cluster.specs.Event.{Result, refuse, begin, deliver, settle}
+use Rattle.events.specs.Event.{Result, refuse, begin, deliver, settle}
 use Rattle.outgoing.specs.declared.Extent.{Extent}
 use Rattle.outgoing.specs.declared.Extent.the-variants.{Whole}
 use Rattle.outgoing.proofs.Judged.{heard-read}
-use Rattle.cluster.proofs.Admitted.{admits}
-use Rattle.cluster.proofs.Handed.{deliver-hands, hand-settles}
+use Rattle.events.proofs.Admitted.{admits}
+use Rattle.events.proofs.Handed.{deliver-hands, hand-settles}
 use Rattle.outgoing.specs.Room.{goneIn}
 use Rattle.history.specs.Order.{OneTo}
 use Rattle.mirror.specs.Run as R

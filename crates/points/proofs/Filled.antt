@@ -25,7 +25,7 @@ use Rattle.step.specs.Stale.{staleMessage}
 use Rattle.region.specs.Channel.{capacity, countOf, first}
 use Rattle.outgoing.specs.Entries.{Entry, entry, goTo}
 use Rattle.layout.specs.Layout.{clusterSize, stated, channel}
-use Rattle.cluster.specs.Event.{freshBytes}
+use Rattle.events.specs.Event.{freshBytes}
 use Rattle.outgoing.specs.Outgoing.{letOut}
 use Rattle.history.specs.Message as M
 use Rattle.history.specs.Event as H

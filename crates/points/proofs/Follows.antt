@@ -27,7 +27,7 @@ use Rattle.record.specs.declared.Operation.the-variants.{Update}
 use Rattle.region.specs.Channel.{countOf}
 use Rattle.outgoing.specs.Entries.{goTo}
 use Rattle.layout.specs.Layout.{stated, stopped, node, channel}
-use Rattle.cluster.specs.Event.{refuse}
+use Rattle.events.specs.Event.{refuse}
 use Rattle.outgoing.specs.declared.Extent.the-variants.{Whole}
 use Rattle.history.specs.Message.{absent}
 use Rattle.history.specs.Event as H

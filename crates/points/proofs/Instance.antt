@@ -11,7 +11,7 @@ use Rattle.view.specs.Size.{nodes}
 use Rattle.logs.specs.Count.{count}
 use Rattle.logs.specs.Update.{upd, upd2}
 use Rattle.layout.specs.Layout.{clusterSize}
-use Rattle.cluster.specs.Event.{Result, fresh}
+use Rattle.events.specs.Event.{Result, fresh}
 use Rattle.history.specs.Event.{sentTo}
 use Rattle.history.specs.Trace as T
 use Rattle.history.specs.Order.{OneTo, Finished}

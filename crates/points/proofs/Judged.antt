@@ -25,7 +25,7 @@ use Rattle.block.proofs.Changes.{takeOff-length, takeOff-flag, takeOff-same, ta
 use Rattle.outgoing.specs.Entries.{Entry, entries, goTo}
 use Rattle.layout.specs.Layout.{clusterSize, stated, block, stopped, channel, onBlock, fits, sound}
 use Rattle.layout.proofs.Check.{is-size, sound-size, sound-channel, fits-size}
-use Rattle.cluster.specs.Event.{Result, refuse, commit, settle}
+use Rattle.events.specs.Event.{Result, refuse, commit, settle}
 use Rattle.outgoing.specs.Outgoing.{within, isCut, stepped, roomy}
 use Rattle.outgoing.specs.Room.{roomBefore}
 use Rattle.outgoing.specs.declared.Extent.{Extent}
@@ -33,7 +33,7 @@ use Rattle.outgoing.specs.declared.Extent.the-variants.{Whole, Cut}
 use Rattle.outgoing.proofs.Room.{room-before}
 use Rattle.outgoing.specs.Room.{goneIn}
 use Rattle.outgoing.specs.Outgoing.{foundIn}
-use Rattle.cluster.proofs.Settled.{settle-full, settle-commits}
+use Rattle.events.proofs.Settled.{settle-full, settle-commits}
 use Rattle.history.specs.Order.{OneTo}
 use Rattle.mirror.specs.Run as R
 use Rattle.points.specs.Calls.{code, event}

@@ -25,7 +25,7 @@ use Rattle.figures.specs.Figures.{totals, figuresOf}
 use Rattle.table.proofs.Sets.{faults-largest}
 use Rattle.calls.specs.Entry as N
 use Rattle.layout.specs.Layout.{size as statedSize}
-use Rattle.cluster.proofs.Told.{fresh-none, fresh-is}
+use Rattle.events.proofs.Told.{fresh-none, fresh-is}
 use Rattle.history.specs.Order.{OneTo}
 use Rattle.points.specs.Calls.{code}
 use Rattle.points.specs.Messages.{Refused, Taken, Sizes, Faults, readOne, ReadOne, GoodBytes}

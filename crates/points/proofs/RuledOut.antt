@@ -29,7 +29,7 @@ use Rattle.step.specs.declared.Ending.{Ending}
 use Rattle.calls.specs.Entry as N
 use Rattle.calls.specs.Outcome.{Outcome}
 use Rattle.layout.specs.Layout.{clusterSize}
-use Rattle.cluster.specs.Event as E
+use Rattle.events.specs.Event as E
 use Rattle.history.specs.Order.{OneTo}
 use Rattle.points.specs.Calls.{Calls, code}
 use Rattle.points.specs.Messages.{Refused, Taken, zeros}

@@ -20,7 +20,7 @@ use Rattle.step.specs.declared.Ending.the-variants.{None, Spent}
 use Rattle.region.specs.Channel.{channelSize, countOf}
 use Rattle.block.specs.Block.{blockSize, channelPlace, channelIn}
 use Rattle.layout.specs.Layout.{clusterSize, blockPlace, stated, block, channel}
-use Rattle.cluster.specs.Event as E
+use Rattle.events.specs.Event as E
 use Rattle.outgoing.specs.declared.Extent.the-variants.{Whole, Cut}
 use Rattle.history.specs.Order.{OneTo}
 use Rattle.points.specs.Channels.{Filled}

@@ -27,8 +27,8 @@ use Rattle.calls.specs.Entry as N
 use Rattle.calls.specs.Outcome.{Outcome}
 use Rattle.block.specs.Block.{halt}
 use Rattle.layout.specs.Layout.{stated, stopped, onBlock}
-use Rattle.cluster.specs.Event as E
-use Rattle.cluster.specs.Stop.{stop}
+use Rattle.events.specs.Event as E
+use Rattle.events.specs.Stop.{stop}
 use Rattle.history.specs.Order.{OneTo}
 use Rattle.points.specs.LastTag.{LastAnswer, spentBy}
 use Rattle.points.specs.Stops.{OneStopped}

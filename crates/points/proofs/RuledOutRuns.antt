@@ -21,7 +21,7 @@ use Rattle.step.specs.declared.Ending.the-variants.{None, Scan as Scanned}
 use Rattle.step.specs.declared.Rule.the-variants.{Direct}
 use Rattle.region.specs.Channel.{countOf}
 use Rattle.layout.specs.Layout.{stated, channel}
-use Rattle.cluster.specs.Event as E
+use Rattle.events.specs.Event as E
 use Rattle.outgoing.specs.Outgoing.{isCut}
 use Rattle.outgoing.specs.declared.Extent.{Extent}
 use Rattle.outgoing.specs.declared.Extent.the-variants.{Whole, Cut}

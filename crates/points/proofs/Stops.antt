@@ -20,9 +20,9 @@ use Rattle.step.specs.declared.Ending.the-variants.{None}
 use Rattle.block.specs.Block.{halt}
 use Rattle.layout.specs.Layout.{clusterSize, faultsIn, stopped, onBlock, isNode}
 use Rattle.layout.proofs.Check.{sound-few}
-use Rattle.cluster.specs.Event.{Result, refuse, fresh}
-use Rattle.cluster.specs.Stop.{stopIn, stop}
-use Rattle.cluster.proofs.Admitted.{is-stopped, is-admitted, stop-refused, stop-is, stop-many, stop-halts}
+use Rattle.events.specs.Event.{Result, refuse, fresh}
+use Rattle.events.specs.Stop.{stopIn, stop}
+use Rattle.events.proofs.Admitted.{is-stopped, is-admitted, stop-refused, stop-is, stop-many, stop-halts}
 use Rattle.history.specs.Event as H
 use Rattle.history.specs.Order.{OneTo}
 use Rattle.eqaso.specs.Algorithm as A

@@ -7,7 +7,7 @@ use Rattle.figures.specs.declared.Totals.{Totals}
 use Rattle.record.specs.declared.Node.{Node}
 use Rattle.record.specs.declared.Operation.{Operation}
 use Rattle.calls.specs.Outcome.{Outcome}
-use Rattle.cluster.specs.Event.{Result}
+use Rattle.events.specs.Event.{Result}
 use Rattle.outgoing.specs.declared.Extent.{Extent}
 use Rattle.points.specs.Calls.{Calls, code}
 

@@ -19,7 +19,7 @@ use Rattle.step.specs.declared.Ending.{Ending}
 use Rattle.step.specs.declared.Ending.the-variants.{None, Spent}
 use Rattle.region.specs.Channel.{countOf}
 use Rattle.layout.specs.Layout.{stated, stopped, channel}
-use Rattle.cluster.specs.Event as E
+use Rattle.events.specs.Event as E
 use Rattle.outgoing.specs.Outgoing.{isCut}
 use Rattle.outgoing.specs.declared.Extent.{Extent}
 use Rattle.outgoing.specs.declared.Extent.the-variants.{Whole, Cut}

@@ -15,9 +15,9 @@ use Rattle.record.specs.declared.Operation.{Operation}
 use Rattle.calls.specs.Outcome.{Outcome}
 use Rattle.calls.specs.Entry as N
 use Rattle.layout.specs.Layout.{size}
-use Rattle.cluster.specs.Event as E
+use Rattle.events.specs.Event as E
 use Rattle.outgoing.specs.declared.Extent.{Extent}
-use Rattle.cluster.specs.Stop as S
+use Rattle.events.specs.Stop as S
 use Rattle.history.specs.Trace.{Trace}
 use Rattle.mirror.specs.Run as R
 

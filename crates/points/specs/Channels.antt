@@ -21,7 +21,7 @@ use Rattle.step.specs.declared.Ending.the-variants.{None}
 use Rattle.region.specs.Channel.{countOf, first}
 use Rattle.outgoing.specs.Entries.{Entry, entries, goTo}
 use Rattle.layout.specs.Layout.{stated, stopped, node, channel, fits, sound, faultsIn}
-use Rattle.cluster.specs.Event.{Result, refuse}
+use Rattle.events.specs.Event.{Result, refuse}
 use Rattle.outgoing.specs.Outgoing.{within, isCut}
 use Rattle.outgoing.specs.declared.Extent.{Extent}
 use Rattle.outgoing.specs.declared.Extent.the-variants.{Whole}

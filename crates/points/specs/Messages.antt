@@ -17,7 +17,7 @@ use Rattle.record.specs.Record.{blank}
 use Rattle.step.specs.declared.Ending.the-variants.{None}
 use Rattle.step.specs.Told.{nothing}
 use Rattle.calls.specs.Entry as N
-use Rattle.cluster.specs.Event.{refuse, freshBytes}
+use Rattle.events.specs.Event.{refuse, freshBytes}
 use Rattle.history.specs.Order.{OneTo}
 use Rattle.points.specs.Calls.{Calls}
 

@@ -7,7 +7,7 @@ use lib.ListN.{length}
 use Rattle.octets.specs.Answer.{result}
 use Rattle.step.specs.declared.Ending.the-variants.{None}
 use Rattle.layout.specs.Layout.{clusterSize, stated, stopped, fits, sound}
-use Rattle.cluster.specs.Event.{refuse}
+use Rattle.events.specs.Event.{refuse}
 use Rattle.history.specs.Order.{OneTo}
 use Rattle.points.specs.Calls.{Calls, code}
 

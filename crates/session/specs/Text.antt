@@ -5,7 +5,7 @@ use mathlib.Core.List.{List, [], _∷_, _++_, map}
 use lib.Dec.{eqb}
 use Rattle.octets.specs.Test.{pick}
 use Rattle.layout.specs.Layout.{clusterSize}
-use Rattle.cluster.specs.Event.{freshBytes}
+use Rattle.events.specs.Event.{freshBytes}
 use Rattle.lines.specs.Grammar.{eventOf, nodesOf}
 use Rattle.lines.specs.declared.Line.{Line}
 use Rattle.lines.specs.declared.Line.the-variants.{Bad}

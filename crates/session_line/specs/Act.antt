@@ -7,9 +7,9 @@ use Rattle.step.specs.Told.{Told, refusal, nothing, done, scan, spent, shown}
 use Rattle.layout.specs.Layout.{stated}
 use Rattle.outgoing.specs.declared.Extent.{Extent}
 use Rattle.outgoing.specs.declared.Extent.the-variants.{Whole, Cut}
-use Rattle.cluster.specs.Event.{Result, refuse, begin, deliver}
-use Rattle.cluster.specs.Outcome.{toldOf}
-use Rattle.cluster.specs.Stop.{stop}
+use Rattle.events.specs.Event.{Result, refuse, begin, deliver}
+use Rattle.events.specs.Outcome.{toldOf}
+use Rattle.events.specs.Stop.{stop}
 use Rattle.lines.specs.declared.Extent.{Extent as Written}
 use Rattle.lines.specs.declared.Extent.the-variants.{Whole as WrittenWhole, Cut as WrittenCut}
 use Rattle.lines.specs.declared.Line.{Line}

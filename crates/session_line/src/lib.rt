@@ -2,8 +2,8 @@
 use answers::ROOM;
 use answers::Reply;
 use answers::put_line;
-use cluster::Answer;
-use cluster::Outcome;
+use events::Answer;
+use events::Outcome;
 use layout::STATED_PLACE;
 use lines::Line;
 use record::Operation;
@@ -18,7 +18,7 @@ ghost use Rattle.octets.specs.Bytes.{put};
 ghost use Rattle.answers.specs.Answer.{room};
 ghost use Rattle.step.specs.Told.{told as tellsOf};
 ghost use Rattle.layout.specs.Layout.{stated};
-ghost use Rattle.cluster.specs.Outcome.{tells, toldBy};
+ghost use Rattle.events.specs.Outcome.{tells, toldBy};
 ghost use Rattle.session_line.specs.Act.{extentOf, ran, replyOf, printed};
 ghost use Rattle.session_line.specs.Act.{handler as handlerOf};
 
@@ -46,7 +46,7 @@ fn act(b: &mut [u8], l: Line) -> Answer
         }
         Line::Deliver { from, to, extent } => { cluster::deliver(b, from, to, extent_of(extent)) }
         Line::Stop { node } => cluster::stop(b, node),
-        Line::Bad => cluster::refused(1),
+        Line::Bad => events::refused(1),
     }
 }
 

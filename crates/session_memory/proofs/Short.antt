@@ -8,8 +8,8 @@ use lib.Dec.{eqb}
 use Rattle.octets.specs.Test.{pick}
 use Rattle.step.specs.Told.{shown}
 use Rattle.layout.specs.Layout.{stated}
-use Rattle.cluster.specs.Event.{fresh}
-use Rattle.cluster.specs.Outcome.{toldOf}
+use Rattle.events.specs.Event.{fresh}
+use Rattle.events.specs.Outcome.{toldOf}
 use Rattle.answers.specs.Answer.{room}
 use Rattle.answers.proofs.Short.{line-short}
 use Rattle.input.specs.Carry.{eventIn, nodesIn}

@@ -7,7 +7,7 @@ use Rattle.octets.specs.Test.{pick}
 use Rattle.octets.specs.Bytes.{part}
 use Rattle.block.specs.Block.{change}
 use Rattle.layout.specs.Layout.{clusterSize, size}
-use Rattle.cluster.specs.Event.{fresh}
+use Rattle.events.specs.Event.{fresh}
 use Rattle.lines.specs.declared.Line.{Line}
 use Rattle.input.specs.Carry.{eventIn, nodesIn}
 use Rattle.input.specs.declared.Carry.{Carry}

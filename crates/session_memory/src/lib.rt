@@ -14,7 +14,7 @@ ghost use Prim.Native.Nat.{_+_, _≤_};
 ghost use lib.ListN.{length};
 ghost use Rattle.octets.specs.Bytes.{put};
 ghost use Rattle.answers.specs.Answer.{room};
-ghost use Rattle.cluster.specs.Event.{fresh};
+ghost use Rattle.events.specs.Event.{fresh};
 ghost use Rattle.session_line.specs.Act.{ran, printed};
 ghost use Rattle.session_memory.specs.Memory.{memorySize, lent, cluster, onCluster, opened, told};
 

@@ -8,7 +8,7 @@ use lib.ListN.{length, replicate, length-replicate}
 use Rattle.view.specs.Size.{nodes}
 use Rattle.table.specs.Quorum.{faults}
 use Rattle.layout.specs.Layout.{clusterSize, stated}
-use Rattle.cluster.specs.Event.{Result, fresh, freshBytes}
+use Rattle.events.specs.Event.{Result, fresh, freshBytes}
 use Rattle.lines.specs.declared.Line.{Line}
 use Rattle.lines.specs.declared.Line.the-variants.{Update, Scan, Deliver, Stop, Bad}
 use Rattle.eqaso.specs.Cluster as K

@@ -14,7 +14,7 @@ use Rattle.logs.specs.Count.{count}
 use Rattle.logs.specs.Update.{upd, upd2}
 use Rattle.record.specs.declared.Operation.the-variants.{Scan as ScanOf}
 use Rattle.layout.specs.Layout.{clusterSize, node}
-use Rattle.cluster.specs.Event.{fresh}
+use Rattle.events.specs.Event.{fresh}
 use Rattle.outgoing.specs.declared.Extent.the-variants.{Whole}
 use Rattle.digits.specs.Decimal.{allDigits, value}
 use Rattle.lines.specs.Grammar.{numberOf, placeOf, fieldLength, word, after, tailOf, eventOf, nodesOf}

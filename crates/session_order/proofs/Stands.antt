@@ -10,7 +10,7 @@ use lib.Dec.{leb}
 use borrow.Author.Tests.{eq-eqb, ne-eqb, leb-true}
 use Rattle.octets.specs.Test.{pick}
 use Rattle.layout.specs.Layout.{clusterSize}
-use Rattle.cluster.specs.Event.{fresh}
+use Rattle.events.specs.Event.{fresh}
 use Rattle.lines.specs.Grammar.{numberOf, eventOf, nodesBy, nodesOf}
 use Rattle.lines.specs.declared.Number.{Number}
 use Rattle.lines.specs.declared.Number.the-variants.{Value, NoNumber}

@@ -6,7 +6,7 @@ use borrow.Author.Tests.{not-true, not-false}
 use Rattle.octets.specs.Test.{both}
 use Rattle.layout.specs.Layout.{isNode}
 use Rattle.layout.proofs.Check.{fits-some}
-use Rattle.cluster.proofs.Admitted.{is-unfit, is-unsound, is-nowhere, has-block, is-stopped, is-admitted}
+use Rattle.events.proofs.Admitted.{is-unfit, is-unsound, is-nowhere, has-block, is-stopped, is-admitted}
 use Rattle.cluster.proofs.admission.Statement.{statement}
 use Rattle.cluster.proofs.admission.Tie as tie
 

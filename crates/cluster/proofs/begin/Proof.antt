@@ -1,8 +1,8 @@
 -- `cluster::begin` meets its contract.
 use borrow.Author.Needs.{needs}
 use mathlib.Core.Path.{sym, _∙_}
-use Rattle.cluster.proofs.Told.{becomes, refuses}
-use Rattle.cluster.proofs.Admitted.{ready, some-bytes, begin-refused, begin-opens}
+use Rattle.events.proofs.Told.{becomes, refuses}
+use Rattle.events.proofs.Admitted.{ready, some-bytes, begin-refused, begin-opens}
 use Rattle.cluster.proofs.begin.Statement.{statement}
 use Rattle.cluster.proofs.begin.Tie as tie
 

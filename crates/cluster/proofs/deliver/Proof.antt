@@ -7,9 +7,9 @@ use Rattle.wire.specs.Codec.{front}
 use Rattle.wire.specs.Outcome.{found}
 use Rattle.region.specs.Channel.{first}
 use Rattle.layout.specs.Layout.{channel}
-use Rattle.cluster.proofs.Told.{becomes, refuses}
-use Rattle.cluster.proofs.Admitted.{ready, some-bytes, deliver-refused}
-use Rattle.cluster.proofs.Handed.{front-lawful, some-waits, deliver-empty, deliver-unread, deliver-hands}
+use Rattle.events.proofs.Told.{becomes, refuses}
+use Rattle.events.proofs.Admitted.{ready, some-bytes, deliver-refused}
+use Rattle.events.proofs.Handed.{front-lawful, some-waits, deliver-empty, deliver-unread, deliver-hands}
 use Rattle.cluster.proofs.deliver.Statement.{statement}
 use Rattle.cluster.proofs.deliver.Tie as tie
 

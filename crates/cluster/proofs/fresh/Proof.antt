@@ -4,7 +4,7 @@ use lib.ListN.{length-set}
 use mathlib.Core.Path.{sym, _∙_}
 use borrow.Author.Tests.{not-true, not-false}
 use Rattle.layout.proofs.Check.{is-size}
-use Rattle.cluster.proofs.Told.{gives, refuses, fresh-none, fresh-unfit, fresh-is, fresh-bytes}
+use Rattle.events.proofs.Told.{gives, refuses, fresh-none, fresh-unfit, fresh-is, fresh-bytes}
 use Rattle.cluster.proofs.fresh.Statement.{statement}
 use Rattle.cluster.proofs.fresh.Tie as tie
 

@@ -14,9 +14,9 @@ use Rattle.react_bytes.proofs.Handling.{sized-of}
 use Rattle.layout.specs.Layout.{node}
 use Rattle.step_bytes.specs.Moved.{stepOf}
 use Rattle.outgoing.proofs.Judged.{cut-judged}
-use Rattle.cluster.proofs.Told.{becomes, refuses}
+use Rattle.events.proofs.Told.{becomes, refuses}
 use Rattle.cluster.proofs.Moved.{sized-begun, step-bytes, step-back}
-use Rattle.cluster.proofs.Settled.{settle-told, open-busy, open-full, open-uncut, open-settles}
+use Rattle.events.proofs.Settled.{settle-told, open-busy, open-full, open-uncut, open-settles}
 use Rattle.cluster.proofs.open_on.Statement.{statement}
 use Rattle.cluster.proofs.open_on.Tie as tie
 

@@ -3,8 +3,8 @@ use borrow.Author.Needs.{needs}
 use native.Mathlib.Omega.{arith}
 use mathlib.Core.Path.{sym, _∙_}
 use borrow.Author.Tests.{not-true, not-false}
-use Rattle.cluster.proofs.Told.{gives, refuses}
-use Rattle.cluster.proofs.Admitted.{ready, some-bytes, stop-refused, stop-is, stop-many, stop-halts}
+use Rattle.events.proofs.Told.{gives, refuses}
+use Rattle.events.proofs.Admitted.{ready, some-bytes, stop-refused, stop-is, stop-many, stop-halts}
 use Rattle.cluster.proofs.stop.Statement.{statement}
 use Rattle.cluster.proofs.stop.Tie as tie
 

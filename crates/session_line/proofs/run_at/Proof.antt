@@ -10,8 +10,8 @@ use Rattle.step.specs.declared.Ending.{Ending}
 use Rattle.step.specs.declared.Ending.the-variants.{None, Done, Scan, Spent}
 use Rattle.step.specs.Told.{Told, told, shown}
 use Rattle.layout.specs.Layout.{stated}
-use Rattle.cluster.specs.declared.Answer.{Answer}
-use Rattle.cluster.specs.Outcome.{said, tells, toldBy, toldOf}
+use Rattle.events.specs.declared.Answer.{Answer}
+use Rattle.events.specs.Outcome.{said, tells, toldBy, toldOf}
 use Rattle.lines.specs.declared.Line.{Line}
 use Rattle.answers.specs.declared.Reply.{Reply}
 use Rattle.answers.specs.Answer.{line}

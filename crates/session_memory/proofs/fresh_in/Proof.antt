@@ -4,7 +4,7 @@ use mathlib.Core.Path.{sym, _∙_}
 use native.Mathlib.Nat.{zero-add}
 use native.Mathlib.Omega.{arith}
 use Rattle.octets.proofs.Lent.{lent-back}
-use Rattle.cluster.specs.Event.{fresh}
+use Rattle.events.specs.Event.{fresh}
 use Rattle.session_memory.specs.Memory.{lent, onCluster}
 use Rattle.session_memory.proofs.fresh_in.Statement.{statement}
 use Rattle.session_memory.proofs.fresh_in.Tie as tie

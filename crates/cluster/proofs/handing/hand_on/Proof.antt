@@ -17,9 +17,9 @@ use Rattle.block.specs.Block.{takeOff}
 use Rattle.layout.specs.Layout.{node, channel, onBlock}
 use Rattle.step_bytes.specs.Moved.{stepOf}
 use Rattle.outgoing.proofs.Judged.{cut-judged}
-use Rattle.cluster.proofs.Told.{refuses, becomes}
-use Rattle.cluster.proofs.Settled.{settle-told}
-use Rattle.cluster.proofs.Handed.{hand-stale, hand-uncut, hand-settles}
+use Rattle.events.proofs.Told.{refuses, becomes}
+use Rattle.events.proofs.Settled.{settle-told}
+use Rattle.events.proofs.Handed.{hand-stale, hand-uncut, hand-settles}
 use Rattle.cluster.proofs.Moved.{sized-moved, step-bytes, step-back}
 use Rattle.cluster.proofs.Reacted.{react-usable}
 use Rattle.cluster.proofs.handing.hand_on.Statement.{statement}

@@ -14,10 +14,10 @@ use Rattle.step.specs.Told.{told}
 use Rattle.step.specs.declared.Ending.the-variants.{None}
 use Rattle.block.specs.Block.{keep}
 use Rattle.layout.specs.Layout.{clusterSize, onBlock}
-use Rattle.cluster.specs.declared.Answer.{Answer}
-use Rattle.cluster.specs.declared.Outcome.the-variants.{Refused}
-use Rattle.cluster.specs.Event.{Result, refuse, freshBytes, fresh}
-use Rattle.cluster.specs.Outcome.{said, tells}
+use Rattle.events.specs.declared.Answer.{Answer}
+use Rattle.events.specs.declared.Outcome.the-variants.{Refused}
+use Rattle.events.specs.Event.{Result, refuse, freshBytes, fresh}
+use Rattle.events.specs.Outcome.{said, tells}
 
 -- the same event in another form
 pub becomes : (r : Answer) (b : List ℕ) {e f : Result} → e ≡ f → tells r b f → tells r b e

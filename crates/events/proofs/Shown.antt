@@ -24,11 +24,11 @@ use Rattle.block.specs.Block.{takeOff}
 use Rattle.layout.specs.Layout.{stated, faultsIn, stopped, node, channel, onBlock, fits, sound, isNode}
 use Rattle.outgoing.specs.Outgoing.{isCut, mayStop, mayCut, hasRoom}
 use Rattle.outgoing.specs.declared.Extent.{Extent}
-use Rattle.cluster.specs.Event.{Result, refuse, demand, admission, admitted, settle}
-use Rattle.cluster.specs.Event.{openIn, begin, deliverMessage, deliverIn, deliver}
-use Rattle.cluster.specs.Stop.{stop}
-use Rattle.cluster.specs.Shown as claim
-use Rattle.cluster.proofs.Admitted.{sound-n, admitted-is}
+use Rattle.events.specs.Event.{Result, refuse, demand, admission, admitted, settle}
+use Rattle.events.specs.Event.{openIn, begin, deliverMessage, deliverIn, deliver}
+use Rattle.events.specs.Stop.{stop}
+use Rattle.events.specs.Shown as claim
+use Rattle.events.proofs.Admitted.{sound-n, admitted-is}
 
 module _ (n : ℕ) (h : n ≤ nodes) where
   abbrev Shows : Result → Type 0

@@ -18,10 +18,10 @@ use Rattle.layout.specs.Layout.{stated, faultsIn, node}
 use Rattle.outgoing.specs.Entries.{entries}
 use Rattle.outgoing.specs.Outgoing.{within, isCut, mayCut, hasRoom, released}
 use Rattle.outgoing.specs.declared.Extent.{Extent}
-use Rattle.cluster.specs.declared.Answer.{Answer}
-use Rattle.cluster.specs.Event.{refuse, demand, commit, settle, openIn}
-use Rattle.cluster.specs.Outcome.{said, tells}
-use Rattle.cluster.proofs.Told.{gives}
+use Rattle.events.specs.declared.Answer.{Answer}
+use Rattle.events.specs.Event.{refuse, demand, commit, settle, openIn}
+use Rattle.events.specs.Outcome.{said, tells}
+use Rattle.events.proofs.Told.{gives}
 
 module _ (n a c : ℕ) (x : Extent) (s : Step) (found b : List ℕ) where
   pub settle-full : hasRoom n a c x (s .node) (s .outbox) found ≡ false → settle n a c x s found b ≡ refuse 11 b

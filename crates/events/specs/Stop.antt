@@ -8,7 +8,7 @@ use Rattle.step.specs.declared.Ending.the-variants.{None}
 use Rattle.block.specs.Block.{halt}
 use Rattle.layout.specs.Layout.{stated, onBlock}
 use Rattle.outgoing.specs.Outgoing.{mayStop}
-use Rattle.cluster.specs.Event.{Result, demand, admitted}
+use Rattle.events.specs.Event.{Result, demand, admitted}
 
 abbrev pub stopIn : (n c : ℕ) → List ℕ → Result
 stopIn n c b =

@@ -21,10 +21,10 @@ use Rattle.layout.specs.Layout.{clusterSize, stated, block, stopped, node, onBl
 use Rattle.layout.proofs.Check.{is-size, is-node, fits-length, sound-size, sound-block, sound-usable}
 use Rattle.outgoing.specs.Outgoing.{mayStop}
 use Rattle.outgoing.specs.declared.Extent.{Extent}
-use Rattle.cluster.specs.Event.{Result, refuse, demand, unless, admission, admitted}
-use Rattle.cluster.specs.Event.{openIn, begin, deliverIn, deliver}
-use Rattle.cluster.specs.Ready.{Ready}
-use Rattle.cluster.specs.Stop.{stopIn, stop}
+use Rattle.events.specs.Event.{Result, refuse, demand, unless, admission, admitted}
+use Rattle.events.specs.Event.{openIn, begin, deliverIn, deliver}
+use Rattle.events.specs.Ready.{Ready}
+use Rattle.events.specs.Stop.{stopIn, stop}
 
 -- a record of sound bytes is one of their n nodes
 pub sound-n : (b : List ℕ) → sound b ≡ true → (n c : ℕ) → n ≡ stated b → isNode n c ≡ true → node b c .n ≡ n

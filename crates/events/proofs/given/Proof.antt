@@ -1,8 +1,8 @@
--- `cluster::given` meets its contract.
+-- `events::given` meets its contract.
 use borrow.Author.Needs.{needs}
 use mathlib.Core.Path.{refl}
-use Rattle.cluster.proofs.given.Statement.{statement}
-use Rattle.cluster.proofs.given.Tie as tie
+use Rattle.events.proofs.given.Statement.{statement}
+use Rattle.events.proofs.given.Tie as tie
 
 absent-requires : tie.Need-absent-requires
 absent-requires c κs = search needs

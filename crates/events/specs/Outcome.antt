@@ -6,10 +6,10 @@ use mathlib.Core.List.{List}
 use Rattle.octets.specs.Answer.{Answer, result, refused}
 use Rattle.step.specs.declared.Ending.{Ending}
 use Rattle.step.specs.Told.{Told, told}
-use Rattle.cluster.specs.Event.{Result}
-use Rattle.cluster.specs.declared.Answer.{Answer as Reply}
-use Rattle.cluster.specs.declared.Outcome.{Outcome}
-use Rattle.cluster.specs.declared.Outcome.the-variants.{Refused, Accepted}
+use Rattle.events.specs.Event.{Result}
+use Rattle.events.specs.declared.Answer.{Answer as Reply}
+use Rattle.events.specs.declared.Outcome.{Outcome}
+use Rattle.events.specs.declared.Outcome.the-variants.{Refused, Accepted}
 
 abbrev pub said : Outcome → Answer Ending
 said (Refused k) = refused k

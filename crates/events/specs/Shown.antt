@@ -8,8 +8,8 @@ use Rattle.view.specs.View.{noView, AbsentPast}
 use Rattle.record.specs.declared.Operation.{Operation}
 use Rattle.layout.specs.Layout.{stated}
 use Rattle.outgoing.specs.declared.Extent.{Extent}
-use Rattle.cluster.specs.Event.{begin, deliver}
-use Rattle.cluster.specs.Stop.{stop}
+use Rattle.events.specs.Event.{begin, deliver}
+use Rattle.events.specs.Stop.{stop}
 
 abbrev pub BeginAbsent : Type 0
 BeginAbsent = (c : ℕ) (o : Operation) (x : Extent) (b : List ℕ) → stated b ≤ nodes

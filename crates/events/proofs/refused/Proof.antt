@@ -1,7 +1,7 @@
--- `cluster::refused` meets its contract.
+-- `events::refused` meets its contract.
 use borrow.Author.Needs.{needs}
-use Rattle.cluster.proofs.refused.Statement.{statement}
-use Rattle.cluster.proofs.refused.Tie as tie
+use Rattle.events.proofs.refused.Statement.{statement}
+use Rattle.events.proofs.refused.Tie as tie
 
 absent-requires : tie.Need-absent-requires
 absent-requires c κs = search needs

@@ -24,8 +24,8 @@ use Rattle.block.specs.Block.{takeOff}
 use Rattle.layout.specs.Layout.{stated, faultsIn, node, channel, onBlock}
 use Rattle.outgoing.specs.Outgoing.{mayCut}
 use Rattle.outgoing.specs.declared.Extent.{Extent}
-use Rattle.cluster.specs.Event.{refuse, admission, settle, handOver, deliverMessage, deliver}
-use Rattle.cluster.proofs.Admitted.{deliver-is}
+use Rattle.events.specs.Event.{refuse, admission, settle, handOver, deliverMessage, deliver}
+use Rattle.events.proofs.Admitted.{deliver-is}
 
 -- a message that is read is lawful with the view beside it
 pub front-lawful : (n : ℕ) (s : List ℕ) (m : Message) (k : ℕ) → front n s ≡ result (m, k)

@@ -1,10 +1,10 @@
--- `cluster::answered` meets its contract.
+-- `events::answered` meets its contract.
 use borrow.Author.Needs.{needs}
 use mathlib.Core.Path.{ap, _∙_}
-use Rattle.cluster.specs.Outcome.{said}
-use Rattle.cluster.specs.declared.Answer.{Answer}
-use Rattle.cluster.proofs.answered.Statement.{statement}
-use Rattle.cluster.proofs.answered.Tie as tie
+use Rattle.events.specs.Outcome.{said}
+use Rattle.events.specs.declared.Answer.{Answer}
+use Rattle.events.proofs.answered.Statement.{statement}
+use Rattle.events.proofs.answered.Tie as tie
 
 returns : tie.Need-returns
 returns c = rw (c .before .if1 .taken) (c .given .ensures)
