@@ -8,6 +8,7 @@ use events::answered;
 use events::given;
 use events::refused;
 use handing::hand_over;
+use layout::BLOCKS_PLACE;
 use layout::STATED_PLACE;
 use layout::copy_record_at;
 use layout::first_at;
@@ -68,7 +69,7 @@ pub fn fresh(n: usize, b: &mut [u8]) -> Answer
     if !and(1 <= n, n <= NODES) {
         return refused(1);
     }
-    if b.len() != 1 + BLOCK * n {
+    if b.len() != BLOCKS_PLACE + BLOCK * n {
         return refused(12);
     }
     octets::fill(b, 0);

@@ -15,8 +15,7 @@ use Rattle.step.specs.declared.Step.{Step}
 use Rattle.step.specs.declared.Ending.the-variants.{None}
 use Rattle.step.proofs.Waits.{begin-asks}
 use Rattle.layout.specs.Layout.{stated, faultsIn, node}
-use Rattle.outgoing.specs.Entries.{entries}
-use Rattle.outgoing.specs.Outgoing.{within, isCut, mayCut, hasRoom, released}
+use Rattle.outgoing.specs.Outgoing.{isCut, mayCut, hasRoom, released}
 use Rattle.outgoing.specs.declared.Extent.{Extent}
 use Rattle.events.specs.declared.Answer.{Answer}
 use Rattle.events.specs.Event.{refuse, demand, commit, settle, openIn}
@@ -29,7 +28,7 @@ module _ (n a c : ℕ) (x : Extent) (s : Step) (found b : List ℕ) where
   settle-full h = rw h refl
 
   pub settle-commits : hasRoom n a c x (s .node) (s .outbox) found ≡ true
-      → settle n a c x s found b ≡ commit n c x s (within x (entries n a (s .outbox))) found
+      → settle n a c x s found b ≡ commit n a c x s found
   unfolding settle
   settle-commits h = rw h refl
 
@@ -44,9 +43,9 @@ module _ (n a c : ℕ) (x : Extent) (s : Step) (found b : List ℕ) where
       go : (u : Bool) → z ≡ pick u (released n a c x (s .node) (s .outbox) found) b
           → said (r .outcome) ≡ pick u (result (pick cut None (s .ending))) (refused 11)
           → r .view ≡ pick u (pick cut noView (s .view)) noView
-          → tells r z (demand u 11 b (commit n c x s (within x (entries n a (s .outbox))) found))
+          → tells r z (demand u 11 b (commit n a c x s found))
       go true q h v =
-          gives r z {e = commit n c x s (within x (entries n a (s .outbox))) found} refl
+          gives r z {e = commit n a c x s found} refl
           (h ∙ ap (λ (y : Bool). result (pick y None (s .ending))) e)
           (v ∙ ap (λ (y : Bool). pick y noView (s .view)) e) q
       go false q h v = gives r z {e = refuse 11 b} refl h v q

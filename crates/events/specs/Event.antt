@@ -23,9 +23,10 @@ use Rattle.step.specs.declared.Ending.{Ending}
 use Rattle.step.specs.declared.Ending.the-variants.{None}
 use Rattle.region.specs.Channel.{countOf, first}
 use Rattle.block.specs.Block.{keep, takeOff}
-use Rattle.layout.specs.Layout.{clusterSize, stated, faultsIn, stopped, node, channel, onBlock, fits, sound, isNode}
+use Rattle.layout.specs.Layout.{clusterSize, statedPlace, stated, faultsIn, stopped, node, channel, onBlock}
+use Rattle.layout.specs.Layout.{fits, sound, isNode}
 use Rattle.outgoing.specs.Entries.{Entry, entries}
-use Rattle.outgoing.specs.Outgoing.{within, isCut, mayCut, stepped, letOut, hasRoom}
+use Rattle.outgoing.specs.Outgoing.{within, isCut, mayCut, hasRoom, released}
 use Rattle.outgoing.specs.declared.Extent.{Extent}
 
 -- What an event does. The view is that of the operation that it ends.
@@ -58,21 +59,21 @@ admission a c b =
 abbrev pub admitted : (a c : ℕ) → List ℕ → Result → Result
 admitted a c b next = demand (eqb (admission a c b) 0) (admission a c b) b next
 
--- Node c takes step s and lets l out. `found` is the cluster as the step found it, for a delivery without the message.
-abbrev pub commit : (n c : ℕ) → Extent → Step → List Entry → (found : List ℕ) → Result
-commit n c x s l found =
+-- Node c takes step s, an answer going to node a. `found` is the cluster as the step found it, for a delivery without
+-- the message.
+abbrev pub commit : (n a c : ℕ) → Extent → Step → (found : List ℕ) → Result
+commit n a c x s found =
     record {
-      bytes = letOut n c l (stepped n c x (s .node) found);
+      bytes = released n a c x (s .node) (s .outbox) found;
       answer = result (pick (isCut x) None (s .ending));
       view = pick (isCut x) noView (s .view);
-      sent = l;
+      sent = within x (entries n a (s .outbox));
     }
 
 -- 11 is judged on the channels as the event would leave them.
 unfoldable pub settle : (n a c : ℕ) → Extent → Step → (found b : List ℕ) → Result
 settle n a c x s found b =
-    demand (hasRoom n a c x (s .node) (s .outbox) found) 11 b
-    (commit n c x s (within x (entries n a (s .outbox))) found)
+    demand (hasRoom n a c x (s .node) (s .outbox) found) 11 b (commit n a c x s found)
 
 -- The begin of an operation at node c.
 abbrev pub openIn : (n c : ℕ) → Operation → Extent → List ℕ → Result
@@ -107,7 +108,7 @@ deliver a c x b = admitted a c b (deliverIn (stated b) a c x b)
 
 -- A fresh cluster of n nodes in lent bytes: nobody has stopped, nothing waits, and every record is fresh.
 unfoldable pub freshBytes : (n length : ℕ) → List ℕ
-freshBytes n length = upTo n (λ i. onBlock (i + 1) (keep (blank n (i + 1)))) (set (replicate length 0) 0 n)
+freshBytes n length = upTo n (λ i. onBlock (i + 1) (keep (blank n (i + 1)))) (set (replicate length 0) statedPlace n)
 
 unfoldable pub fresh : ℕ → List ℕ → Result
 fresh n b =

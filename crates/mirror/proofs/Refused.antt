@@ -17,7 +17,6 @@ use Rattle.step.specs.declared.Ending.the-variants.{None}
 use Rattle.region.specs.Channel.{countOf, first}
 use Rattle.block.specs.Block.{takeOff, halt}
 use Rattle.layout.specs.Layout.{stated, faultsIn, node, channel, onBlock}
-use Rattle.outgoing.specs.Entries.{entries}
 use Rattle.outgoing.specs.Outgoing as O
 use Rattle.outgoing.specs.declared.Extent.{Extent}
 use Rattle.events.specs.Event as E
@@ -53,7 +52,7 @@ module _ (b : List ℕ) where
   unfolding E.settle
   settles n a c x s found =
       demands (O.hasRoom n a c x (s .node) (s .outbox) found) 11
-      (accepts (E.commit n c x s (O.within x (entries n a (s .outbox))) found) tt)
+      (accepts (E.commit n a c x s found) tt)
 
   abbrev n : ℕ
   n = stated b

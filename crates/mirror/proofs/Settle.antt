@@ -100,7 +100,7 @@ module _ {n : ℕ} (small : n ≤ nodes) (sized : isSize n ≡ true) (a c : ℕ)
   after-step = shows-step small S c node x (same .node) (safe .node) gone
 
   -- The event is accepted.
-  accepts : K.roomy channelRoom c n end ≡ true → SameResult n (E.commit n c x s out found)
+  accepts : K.roomy channelRoom c n end ≡ true → SameResult n (E.commit n a c x s found)
       (K.commit c (extentOf x) t (K.letOut (extentOf x) (K.entries n (t .sent))) q σ)
   accepts e = record {
     answer = answers x;

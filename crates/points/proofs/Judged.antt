@@ -230,7 +230,7 @@ module _ (b : List ℕ) (fit : fits b ≡ true) (usable : sound b ≡ true) (too
   -- ---- the event
 
   module _ (e : R.Event) (settles : event code e b ≡ settle n a c x s found b) where
-    pub commits : Room b c x waits l → event code e b ≡ commit n c x s l found
+    pub commits : Room b c x waits l → event code e b ≡ commit n a c x s found
     commits h = settles ∙ settle-commits n a c x s found b (sym judges ∙ says-room h)
 
     refuses : (Room b c x waits l → ⊥) → event code e b ≡ refuse 11 b
