@@ -71,11 +71,16 @@ bad-some : (e : ℕ) → 1 ≤ length (badLine e)
 unfolding line
 bad-some e = simp length-append (omega arith)
 
-abbrev memory : List ℕ
+-- lent memory, by name: so long a list is not computed
+memory : List ℕ
 memory = replicate memorySize 0
 
+long-memory : length memory ≡ memorySize
+unfolding memory
+long-memory = length-replicate {A = ℕ} memorySize 0
+
 reading : Reading [] begun memory []
-reading = begins (length-replicate {A = ℕ} memorySize 0)
+reading = begins long-memory
 
 -- It prints a line feed before all else.
 abbrev early : Program
