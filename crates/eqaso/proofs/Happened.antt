@@ -10,12 +10,12 @@ use Rattle.history.specs.Message.{Message}
 use Rattle.history.specs.Event.{Operation, Extent, whole, cut, Event, begin, deliver, stop}
 use Rattle.history.specs.Trace.{Trace}
 use Rattle.history.specs.Order.{OneTo}
-use Rattle.eqaso.specs.Algorithm.{limit, Wait, idle, reading, writing, comparing, borrowing, Step, still}
-use Rattle.eqaso.specs.Algorithm.{beginStep, messageStep}
+use Rattle.algorithm.specs.Algorithm.{limit, Wait, idle, reading, writing, comparing, borrowing, Step, still}
+use Rattle.algorithm.specs.Algorithm.{beginStep, messageStep}
+use Rattle.algorithm.proofs.Sets.{and-both, not-true}
 use Rattle.eqaso.specs.Cluster.{Cluster, start, Result, refuse, seen, traceFrom, trace, entries, letOut, commit}
 use Rattle.eqaso.specs.Cluster.{demand, holds, roomy, settle, isNode, stands, isIdle, mayCut, mayStop}
 use Rattle.eqaso.specs.Cluster.{deliverFirst, event, after}
-use Rattle.eqaso.proofs.Sets.{and-both, not-true}
 
 -- One more node may stop, where the event stops one.
 abbrev pub MayStop : (n f : ℕ) → Extent → Cluster → Type 0

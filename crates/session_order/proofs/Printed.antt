@@ -15,7 +15,7 @@ use Rattle.lines.specs.declared.Line.{Line}
 use Rattle.lines.specs.declared.Line.the-variants.{Update, Scan, Deliver, Stop, Bad}
 use Rattle.answers.specs.Answer.{entryAt, entries, line}
 use Rattle.history.specs.Message as M
-use Rattle.eqaso.specs.Algorithm as A
+use Rattle.algorithm.specs.Algorithm as A
 use Rattle.refine.specs.Meaning.{entryOf, ruleOf, viewOf}
 use Rattle.mirror.specs.SameResult.{answerOf}
 use Rattle.mirror.specs.Run.{traceFrom}

@@ -26,7 +26,7 @@ use Rattle.input.specs.Input.{linesFrom, restFrom, joined}
 use Rattle.answers.specs.Answer.{line}
 use Rattle.history.specs.Event as H
 use Rattle.history.specs.Trace.{Trace}
-use Rattle.eqaso.specs.Algorithm.{limit, table, moveOn}
+use Rattle.algorithm.specs.Algorithm.{limit, table, moveOn}
 use Rattle.eqaso.specs.Cluster as K
 use Rattle.eqaso.specs.Cluster.{trace}
 use Rattle.mirror.specs.Mirrors.{channelRoom}

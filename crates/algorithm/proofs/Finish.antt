@@ -12,16 +12,16 @@ use Rattle.logs.specs.Log.{here, more}
 use Rattle.history.specs.Message.{of, value, good}
 use Rattle.history.specs.Event.{Operation, update, scan, Round, round0, round1, round2, round3, done, shown, Rule}
 use Rattle.history.specs.Event.{direct}
-use Rattle.eqaso.specs.Algorithm.{Wait, idle, reading, writing, comparing, borrowing, Node, still, ended, waiting}
-use Rattle.eqaso.specs.Algorithm.{afterGood, afterFailed, agrees, quorum?, viewUpto, comparePass}
-use Rattle.eqaso.proofs.Cert.{Log, Logs}
-use Rattle.eqaso.proofs.Local.{Past, Settled, Local}
-use Rattle.eqaso.proofs.Grow.{upd-longer, settled-up}
-use Rattle.eqaso.proofs.Change.{stage-post}
-use Rattle.eqaso.proofs.Turn.{have-turned, moved}
-use Rattle.eqaso.proofs.Outcome.{Fine, fine-still}
-use Rattle.eqaso.proofs.Open.{onward, opened}
-use Rattle.eqaso.proofs.Compare.{cmp, known, final, posted, own-spread, spread-settled, rested}
+use Rattle.algorithm.specs.Algorithm.{Wait, idle, reading, writing, comparing, borrowing, Node, still, ended, waiting}
+use Rattle.algorithm.specs.Algorithm.{afterGood, afterFailed, agrees, quorum?, viewUpto, comparePass}
+use Rattle.algorithm.proofs.Cert.{Log, Logs}
+use Rattle.algorithm.proofs.Local.{Past, Settled, Local}
+use Rattle.algorithm.proofs.Grow.{upd-longer, settled-up}
+use Rattle.algorithm.proofs.Change.{stage-post}
+use Rattle.algorithm.proofs.Turn.{have-turned, moved}
+use Rattle.algorithm.proofs.Outcome.{Fine, fine-still}
+use Rattle.algorithm.proofs.Open.{onward, opened}
+use Rattle.algorithm.proofs.Compare.{cmp, known, final, posted, own-spread, spread-settled, rested}
 
 module _ (n f : ℕ) (half : f + f < n) {out : Logs} {γ : Past} {i r : ℕ} {l : Log} (ν : Node) {o : Operation} where
   module _ {rnd : Round} {t : ℕ} (many : n - f ≤ count (agrees i ν t) n) (top : ν .maxtag ≤ t) (rule : Rule) where

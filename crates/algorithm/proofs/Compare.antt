@@ -16,15 +16,15 @@ use Rattle.logs.specs.Log.{_∈_, _⊑_, here}
 use Rattle.logs.proofs.Log.{⊑-trans, mem-up}
 use Rattle.history.specs.Message.{Value, of, echo, value, good}
 use Rattle.history.specs.Event.{Operation, update, Round}
-use Rattle.eqaso.specs.Algorithm.{Wait, idle, comparing, Node, waiting, agrees, viewUpto}
-use Rattle.eqaso.proofs.Cert.{Log, Logs, echoed-up, Inside, Cert, carry}
-use Rattle.eqaso.proofs.Local.{Past, Own, Held, Settled, Spread, Stage, Wrote, Compares, Local}
-use Rattle.eqaso.proofs.Grow.{≼-refl, upd-up, upd-longer}
-use Rattle.eqaso.proofs.Change.{post}
-use Rattle.eqaso.proofs.Turn.{have-turned, moved}
-use Rattle.eqaso.proofs.Sets.{within-to, agrees-to}
-use Rattle.eqaso.proofs.Outcome.{Final}
-use Rattle.eqaso.proofs.Open.{rise-le}
+use Rattle.algorithm.specs.Algorithm.{Wait, idle, comparing, Node, waiting, agrees, viewUpto}
+use Rattle.algorithm.proofs.Cert.{Log, Logs, echoed-up, Inside, Cert, carry}
+use Rattle.algorithm.proofs.Local.{Past, Own, Held, Settled, Spread, Stage, Wrote, Compares, Local}
+use Rattle.algorithm.proofs.Grow.{≼-refl, upd-up, upd-longer}
+use Rattle.algorithm.proofs.Change.{post}
+use Rattle.algorithm.proofs.Turn.{have-turned, moved}
+use Rattle.algorithm.proofs.Sets.{within-to, agrees-to}
+use Rattle.algorithm.proofs.Outcome.{Final}
+use Rattle.algorithm.proofs.Open.{rise-le}
 
 module _ (n f : ℕ) (half : f + f < n) where
   -- A tag of a certificate that was there at the begin has been read.

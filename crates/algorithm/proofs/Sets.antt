@@ -8,7 +8,7 @@ use mathlib.Core.Bool.{Bool, true, false, false≢true, not, cond, decide, decid
 use mathlib.Core.List.{List, [], _∷_, List·Memᴰ·head, List·Memᴰ·tail}
 use Rattle.logs.specs.Log.{_∈_}
 use Rattle.history.specs.Message.{Value}
-use Rattle.eqaso.specs.Algorithm.{same, Good, Node, has, within, agrees, kept}
+use Rattle.algorithm.specs.Algorithm.{same, Good, Node, has, within, agrees, kept}
 
 pub or-cases : (a b : Bool) → (a || b) ≡ true → (a ≡ true) ⊎ (b ≡ true)
 or-cases true b e = inl refl

@@ -9,9 +9,9 @@ use Rattle.logs.specs.Log.{_∈_, _⊑_, here, Each}
 use Rattle.logs.proofs.Log.{⊑-trans, mem-up, each-map}
 use Rattle.history.specs.Message.{Value, Message, read, readAnswer, write, writeAnswer, echo, value, good}
 use Rattle.history.specs.Event.{Operation, update, scan, Round, round0, round1, round2, round3}
-use Rattle.eqaso.specs.Algorithm.{Wait, idle, reading, writing, comparing, borrowing, Node}
-use Rattle.eqaso.proofs.Cert.{Log, Logs, _≼_, echoed-up, carry}
-use Rattle.eqaso.proofs.Local.{Past, Own, Held, Settled, Due, Olds, Have, Spread, Before, Stage, Phase, Local}
+use Rattle.algorithm.specs.Algorithm.{Wait, idle, reading, writing, comparing, borrowing, Node}
+use Rattle.algorithm.proofs.Cert.{Log, Logs, _≼_, echoed-up, carry}
+use Rattle.algorithm.proofs.Local.{Past, Own, Held, Settled, Due, Olds, Have, Spread, Before, Stage, Phase, Local}
 
 pub ≼-refl : (a : Logs) → a ≼ a
 ≼-refl a k = here

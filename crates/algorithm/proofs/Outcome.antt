@@ -7,9 +7,9 @@ use Rattle.logs.specs.Log.{_∈_, push}
 use Rattle.logs.proofs.Log.{push-append}
 use Rattle.history.specs.Message.{Value, of, View}
 use Rattle.history.specs.Event.{Operation, update, scan, Ending, none, done, shown, spent}
-use Rattle.eqaso.specs.Algorithm.{Node, Step, still, then-by, _then_, viewUpto}
-use Rattle.eqaso.proofs.Cert.{Log, Logs, Inside, Cert}
-use Rattle.eqaso.proofs.Local.{Past, Settled, Local}
+use Rattle.algorithm.specs.Algorithm.{Node, Step, still, then-by, _then_, viewUpto}
+use Rattle.algorithm.proofs.Cert.{Log, Logs, Inside, Cert}
+use Rattle.algorithm.proofs.Local.{Past, Settled, Local}
 
 module _ (n f : ℕ) where
   -- A view at an ending: that of a certificate which covers every certificate of before the begin.

@@ -10,12 +10,12 @@ use Rattle.logs.specs.Log.{_∈_, _⊑_, here, Each}
 use Rattle.logs.proofs.Log.{⊑-trans, mem-up}
 use Rattle.history.specs.Message.{Value, Message, read, readAnswer, write, writeAnswer, echo, value, good}
 use Rattle.history.specs.Event.{Operation, Round}
-use Rattle.eqaso.specs.Algorithm.{Wait, idle, reading, writing, comparing, borrowing, Node}
-use Rattle.eqaso.proofs.Cert.{Log, Logs, _≼_}
-use Rattle.eqaso.proofs.Meant.{Others}
-use Rattle.eqaso.proofs.Local.{Past, Under, Took, Due, Have, Stage, WroteBy, Phase, Local}
-use Rattle.eqaso.specs.Node.{turned, holding}
-use Rattle.eqaso.proofs.Change.{handing, handed-by, handed-more, took-up, have-more}
+use Rattle.algorithm.specs.Algorithm.{Wait, idle, reading, writing, comparing, borrowing, Node}
+use Rattle.algorithm.proofs.Cert.{Log, Logs, _≼_}
+use Rattle.algorithm.proofs.Meant.{Others}
+use Rattle.algorithm.proofs.Local.{Past, Under, Took, Due, Have, Stage, WroteBy, Phase, Local}
+use Rattle.algorithm.specs.Node.{turned, holding}
+use Rattle.algorithm.proofs.Change.{handing, handed-by, handed-more, took-up, have-more}
 
 wrote-handed : {γ : Past} {i r : ℕ} {op : Operation} {t k : ℕ} (got : Logs) → γ .got ≼ got
     → WroteBy γ i r op t k → WroteBy (handing got γ) i r op t k

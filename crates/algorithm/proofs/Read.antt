@@ -13,15 +13,15 @@ use Rattle.logs.specs.Log.{_∈_, _⊑_, here, more}
 use Rattle.logs.proofs.Log.{⊑-trans, mem-up, placed, cons-or}
 use Rattle.history.specs.Message.{Value, of, Message, write, echo, value}
 use Rattle.history.specs.Event.{Operation, update, scan, round0, round1, spent}
-use Rattle.eqaso.specs.Algorithm.{limit, Nodes, nobody, Wait, idle, reading, writing, comparing, borrowing, Node}
-use Rattle.eqaso.specs.Algorithm.{still, ended, waiting, sending, _then_, opening, afterRead, quorum?, readPass}
-use Rattle.eqaso.proofs.Cert.{Log, Logs, value≢write}
-use Rattle.eqaso.proofs.Local.{Past, Under, ValueDue, Settled, Have, ReadBy, Local}
-use Rattle.eqaso.proofs.Grow.{settled-up}
-use Rattle.eqaso.specs.Node.{turned}
-use Rattle.eqaso.proofs.Change.{known-value}
-use Rattle.eqaso.proofs.Turn.{have-turned, unused, moved}
-use Rattle.eqaso.proofs.Outcome.{Fine, fine-still}
+use Rattle.algorithm.specs.Algorithm.{limit, Nodes, nobody, Wait, idle, reading, writing, comparing, borrowing, Node}
+use Rattle.algorithm.specs.Algorithm.{still, ended, waiting, sending, _then_, opening, afterRead, quorum?, readPass}
+use Rattle.algorithm.proofs.Cert.{Log, Logs, value≢write}
+use Rattle.algorithm.proofs.Local.{Past, Under, ValueDue, Settled, Have, ReadBy, Local}
+use Rattle.algorithm.proofs.Grow.{settled-up}
+use Rattle.algorithm.specs.Node.{turned}
+use Rattle.algorithm.proofs.Change.{known-value}
+use Rattle.algorithm.proofs.Turn.{have-turned, unused, moved}
+use Rattle.algorithm.proofs.Outcome.{Fine, fine-still}
 
 -- The tag that the operation has read once the read answers have been looked at.
 abbrev pub readTag : (n f r : ℕ) → Node → Wait → ℕ

@@ -8,13 +8,13 @@ use mathlib.Core.List.{_∷_, List·Memᴰ·head, List·Memᴰ·tail}
 use Rattle.logs.specs.Log.{_∈_, here, more}
 use Rattle.history.specs.Message.{Value, Message, write, value}
 use Rattle.history.specs.Event.{Operation, update, scan, Round, round0, round1, round2, round3}
-use Rattle.eqaso.specs.Algorithm.{nobody, Wait, writing, comparing, Node, waiting, opening}
-use Rattle.eqaso.proofs.Cert.{Log, Logs}
-use Rattle.eqaso.proofs.Local.{Past, Held, Rise, Have, Before, Stage, Local}
-use Rattle.eqaso.specs.Node.{turned}
-use Rattle.eqaso.proofs.Change.{stage-post}
-use Rattle.eqaso.proofs.Turn.{have-turned, unused, moved}
-use Rattle.eqaso.proofs.Outcome.{Fine}
+use Rattle.algorithm.specs.Algorithm.{nobody, Wait, writing, comparing, Node, waiting, opening}
+use Rattle.algorithm.proofs.Cert.{Log, Logs}
+use Rattle.algorithm.proofs.Local.{Past, Held, Rise, Have, Before, Stage, Local}
+use Rattle.algorithm.specs.Node.{turned}
+use Rattle.algorithm.proofs.Change.{stage-post}
+use Rattle.algorithm.proofs.Turn.{have-turned, unused, moved}
+use Rattle.algorithm.proofs.Outcome.{Fine}
 
 pub rise-le : (op : Operation) (rnd : Round) {r t : ℕ} → Rise op rnd r t → r ≤ t
 rise-le (update p) round0 h = omega arith

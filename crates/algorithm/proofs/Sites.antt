@@ -6,13 +6,13 @@ use Rattle.logs.specs.Update.{upd}
 use Rattle.logs.specs.Log.{_∈_, _⊑_, push}
 use Rattle.history.specs.Message.{Message}
 use Rattle.history.specs.Event.{Operation, scan}
-use Rattle.eqaso.specs.Algorithm.{nobody, reading, Node, fresh, asking, react, messageStep, beginStep}
-use Rattle.eqaso.proofs.Cert.{Log, Logs}
-use Rattle.eqaso.proofs.Local.{Past}
-use Rattle.eqaso.proofs.Meant.{Meant, Others}
-use Rattle.eqaso.proofs.Change.{handing}
-use Rattle.eqaso.proofs.Turn
-use Rattle.eqaso.proofs.Read.{readTag}
+use Rattle.algorithm.specs.Algorithm.{nobody, reading, Node, fresh, asking, react, messageStep, beginStep}
+use Rattle.algorithm.proofs.Cert.{Log, Logs}
+use Rattle.algorithm.proofs.Local.{Past}
+use Rattle.algorithm.proofs.Meant.{Meant, Others}
+use Rattle.algorithm.proofs.Change.{handing}
+use Rattle.algorithm.proofs.Turn
+use Rattle.algorithm.proofs.Read.{readTag}
 
 -- A node with all that the proof remembers of it: what it has sent, what it was handed, its last operation, and the tag
 -- that this has read.

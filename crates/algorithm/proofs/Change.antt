@@ -13,11 +13,11 @@ use Rattle.logs.specs.Log.{_∈_, _⊑_, here, more}
 use Rattle.logs.proofs.Log.{mem-up, cons-or}
 use Rattle.history.specs.Message.{Value, View, Message, read, readAnswer, write, writeAnswer, echo, value, good}
 use Rattle.history.specs.Event.{Operation, Round}
-use Rattle.eqaso.specs.Algorithm.{Wait, idle, reading, writing, comparing, borrowing, Node, topping, holding}
-use Rattle.eqaso.specs.Algorithm.{waiting, keep}
-use Rattle.eqaso.proofs.Cert.{Log, Logs, _≼_}
-use Rattle.eqaso.proofs.Local.{Past, Took, Pending, Settled, Known, Due, Olds, Have, Stage, Phase, Local}
-use Rattle.eqaso.proofs.Grow.{held-up}
+use Rattle.algorithm.specs.Algorithm.{Wait, idle, reading, writing, comparing, borrowing, Node, topping, holding}
+use Rattle.algorithm.specs.Algorithm.{waiting, keep}
+use Rattle.algorithm.proofs.Cert.{Log, Logs, _≼_}
+use Rattle.algorithm.proofs.Local.{Past, Took, Pending, Settled, Known, Due, Olds, Have, Stage, Phase, Local}
+use Rattle.algorithm.proofs.Grow.{held-up}
 
 -- The past of a node that has been handed more.
 abbrev pub handing : Logs → Past → Past

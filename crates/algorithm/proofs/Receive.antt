@@ -10,16 +10,16 @@ use Rattle.logs.specs.Log.{_∈_, _⊑_, Each}
 use Rattle.logs.proofs.Log.{⊑-cons, mem-up, placed, push-append, each-at}
 use Rattle.history.specs.Message.{Value, Message, read, readAnswer, write, writeAnswer, echo, value, good}
 use Rattle.history.specs.Event.{Operation, update, scan, round0}
-use Rattle.eqaso.specs.Algorithm.{Wait, writing, Node, Step, sending, then-by, _then_, raise, receive, react}
-use Rattle.eqaso.proofs.Cert.{Log, Logs, carry}
-use Rattle.eqaso.proofs.Meant.{Meant}
-use Rattle.eqaso.proofs.Local.{Past, ValueDue, Pending, Due, Olds, Local}
-use Rattle.eqaso.proofs.Grow.{upd-shorter}
-use Rattle.eqaso.specs.Node.{holding}
-use Rattle.eqaso.proofs.Change.{handing, handed-by, handed-more, learnt, kept-on}
-use Rattle.eqaso.proofs.Turn.{taken-with, taken}
-use Rattle.eqaso.proofs.Cases.{from-by, receive-by}
-use Rattle.eqaso.proofs.React.{Keeps, read-counted, write-counted, raise-keeps, write-answered, read-answered}
+use Rattle.algorithm.specs.Algorithm.{Wait, writing, Node, Step, sending, then-by, _then_, raise, receive, react}
+use Rattle.algorithm.proofs.Cert.{Log, Logs, carry}
+use Rattle.algorithm.proofs.Meant.{Meant}
+use Rattle.algorithm.proofs.Local.{Past, ValueDue, Pending, Due, Olds, Local}
+use Rattle.algorithm.proofs.Grow.{upd-shorter}
+use Rattle.algorithm.specs.Node.{holding}
+use Rattle.algorithm.proofs.Change.{handing, handed-by, handed-more, learnt, kept-on}
+use Rattle.algorithm.proofs.Turn.{taken-with, taken}
+use Rattle.algorithm.proofs.Cases.{from-by, receive-by}
+use Rattle.algorithm.proofs.React.{Keeps, read-counted, write-counted, raise-keeps, write-answered, read-answered}
 
 module _ (n f : ℕ) (half : f + f < n) where
   -- The pending value is the newest of its writer.

@@ -6,10 +6,10 @@ use Rattle.logs.specs.Log.{push}
 use Rattle.logs.proofs.Log.{push-append}
 use Rattle.history.specs.Message.{View, Message, read, readAnswer, write, writeAnswer, echo, value, good}
 use Rattle.history.specs.Event.{Operation, update, scan, Rule, Ending, none, done, shown, spent}
-use Rattle.eqaso.specs.Algorithm.{Wait, Node, Step, sending, then-by, _then_, waiting, finish, react, readPass}
-use Rattle.eqaso.specs.Algorithm.{writePass, comparePass, borrowPass, moveOn}
-use Rattle.eqaso.proofs.Cert.{Log}
-use Rattle.eqaso.proofs.Cases.{raise-cases, receive-cases}
+use Rattle.algorithm.specs.Algorithm.{Wait, Node, Step, sending, then-by, _then_, waiting, finish, react, readPass}
+use Rattle.algorithm.specs.Algorithm.{writePass, comparePass, borrowPass, moveOn}
+use Rattle.algorithm.proofs.Cert.{Log}
+use Rattle.algorithm.proofs.Cases.{raise-cases, receive-cases}
 
 -- What holds of a node and its log; the same by the ending.
 abbrev pub Claim : Type 1

@@ -10,10 +10,10 @@ use Rattle.logs.specs.Update.{upd}
 use Rattle.logs.specs.Log.{_∈_}
 use Rattle.history.specs.Message.{Value, echo, value}
 use Rattle.history.specs.Event.{Operation, Round}
-use Rattle.eqaso.specs.Algorithm.{Nodes, Wait, idle, reading, writing, comparing, borrowing, Node, Step, still}
-use Rattle.eqaso.specs.Algorithm.{sending, waiting, has, receive, raise, readAnswered, writeAnswered}
-use Rattle.eqaso.specs.Node.{topping, holding}
-use Rattle.eqaso.proofs.Sets.{has-to, has-of}
+use Rattle.algorithm.specs.Algorithm.{Nodes, Wait, idle, reading, writing, comparing, borrowing, Node, Step, still}
+use Rattle.algorithm.specs.Algorithm.{sending, waiting, has, receive, raise, readAnswered, writeAnswered}
+use Rattle.algorithm.specs.Node.{topping, holding}
+use Rattle.algorithm.proofs.Sets.{has-to, has-of}
 
 -- The tag is above maxtag, or it is not.
 pub raise-by : (Q : Step → Type 0) (t : ℕ) (ν : Node) → (ν .maxtag < t → Q (sending (echo t ∷ []) (topping t ν)))

@@ -13,14 +13,14 @@ use Rattle.logs.specs.Log.{_∈_, _⊑_}
 use Rattle.logs.proofs.Log.{comparable, mem-up}
 use Rattle.history.specs.Message.{Value, View, value}
 use Rattle.history.specs.Event.{Operation, update, scan, round3, borrowed}
-use Rattle.eqaso.specs.Algorithm.{Wait, idle, reading, writing, comparing, borrowing, Good, Node, still, ended}
-use Rattle.eqaso.specs.Algorithm.{waiting, finish, kept, borrowPass}
-use Rattle.eqaso.proofs.Cert.{Log, Logs, Cert, carry, below}
-use Rattle.eqaso.proofs.Local.{Past, Own, Settled, Known, Spread, Stage, Local}
-use Rattle.eqaso.proofs.Grow.{upd-longer, settled-up}
-use Rattle.eqaso.proofs.Sets.{kept-in}
-use Rattle.eqaso.proofs.Outcome.{Final, Fine, fine-still}
-use Rattle.eqaso.proofs.Compare.{read-covers, spread-settled, rested}
+use Rattle.algorithm.specs.Algorithm.{Wait, idle, reading, writing, comparing, borrowing, Good, Node, still, ended}
+use Rattle.algorithm.specs.Algorithm.{waiting, finish, kept, borrowPass}
+use Rattle.algorithm.proofs.Cert.{Log, Logs, Cert, carry, below}
+use Rattle.algorithm.proofs.Local.{Past, Own, Settled, Known, Spread, Stage, Local}
+use Rattle.algorithm.proofs.Grow.{upd-longer, settled-up}
+use Rattle.algorithm.proofs.Sets.{kept-in}
+use Rattle.algorithm.proofs.Outcome.{Final, Fine, fine-still}
+use Rattle.algorithm.proofs.Compare.{read-covers, spread-settled, rested}
 
 module _ (n f : ℕ) (half : f + f < n) where
   -- A value that a quorum had before any echo above u is in every certificate above u.

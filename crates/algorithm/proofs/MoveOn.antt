@@ -9,12 +9,12 @@ use Rattle.logs.specs.Count.{count}
 use Rattle.logs.specs.Log.{push}
 use Rattle.history.specs.Message.{of, Message, read, write, value, good}
 use Rattle.history.specs.Event.{Operation, update, scan, direct, borrowed, Round, round0, round1, round2, round3, spent}
-use Rattle.eqaso.specs.Algorithm.{limit, Nodes, nobody, Wait, idle, reading, writing, comparing, borrowing, Node}
-use Rattle.eqaso.specs.Algorithm.{Step, ended, still, sending, _then_, waiting, asking, agrees, quorum?, kept}
-use Rattle.eqaso.specs.Algorithm.{viewUpto, opening, finish, afterRead, afterGood, afterFailed, readPass}
-use Rattle.eqaso.specs.Algorithm.{writePass, comparePass, borrowPass, moveOn, react, messageStep, beginStep}
-use Rattle.eqaso.proofs.Cert.{Log}
-use Rattle.eqaso.proofs.Passes.{Claim, Final, Leaves, move-leaves, finished, reacted}
+use Rattle.algorithm.specs.Algorithm.{limit, Nodes, nobody, Wait, idle, reading, writing, comparing, borrowing, Node}
+use Rattle.algorithm.specs.Algorithm.{Step, ended, still, sending, _then_, waiting, asking, agrees, quorum?, kept}
+use Rattle.algorithm.specs.Algorithm.{viewUpto, opening, finish, afterRead, afterGood, afterFailed, readPass}
+use Rattle.algorithm.specs.Algorithm.{writePass, comparePass, borrowPass, moveOn, react, messageStep, beginStep}
+use Rattle.algorithm.proofs.Cert.{Log}
+use Rattle.algorithm.proofs.Passes.{Claim, Final, Leaves, move-leaves, finished, reacted}
 
 -- The node that asks for a write of tag t, in round r.
 abbrev pub writes : Operation → Round → ℕ → Node → Node

@@ -6,7 +6,7 @@ use mathlib.Core.Logic.{_⊎_, inl, inr, _≢_}
 use mathlib.Core.List.{List, [], _∷_, _++_, List·Memᴰ·head, List·Memᴰ·tail}
 use Rattle.logs.specs.Log.{_∈_}
 use Rattle.history.specs.Message.{Message}
-use Rattle.eqaso.specs.Cluster.{Address, one, all, address}
+use Rattle.algorithm.specs.Address.{Address, one, all, address}
 
 abbrev pub MeantBy : ℕ → Address → Type 0
 MeantBy b (one to) = to ≡ b

@@ -10,13 +10,13 @@ use Rattle.logs.specs.Log.{_∈_, here}
 use Rattle.logs.proofs.Log.{mem-up, ⊑-cons}
 use Rattle.history.specs.Message.{Value, value}
 use Rattle.history.specs.Event.{Operation, update, Round, round0}
-use Rattle.eqaso.specs.Algorithm.{Nodes, Wait, idle, reading, writing, comparing, borrowing, Node, still, waiting}
-use Rattle.eqaso.specs.Algorithm.{quorum?, writePass}
-use Rattle.eqaso.proofs.Cert.{Log, Logs}
-use Rattle.eqaso.proofs.Local.{Past, Own, Held, Pending, Writes, Local}
-use Rattle.eqaso.proofs.Grow.{held-up}
-use Rattle.eqaso.proofs.Turn.{have-turned, moved}
-use Rattle.eqaso.proofs.Outcome.{Fine, fine-still}
+use Rattle.algorithm.specs.Algorithm.{Nodes, Wait, idle, reading, writing, comparing, borrowing, Node, still, waiting}
+use Rattle.algorithm.specs.Algorithm.{quorum?, writePass}
+use Rattle.algorithm.proofs.Cert.{Log, Logs}
+use Rattle.algorithm.proofs.Local.{Past, Own, Held, Pending, Writes, Local}
+use Rattle.algorithm.proofs.Grow.{held-up}
+use Rattle.algorithm.proofs.Turn.{have-turned, moved}
+use Rattle.algorithm.proofs.Outcome.{Fine, fine-still}
 
 module _ (n f : ℕ) (half : f + f < n) where
   module _ (out : Logs) (γ : Past) (i r : ℕ) (op : Operation) (l : Log) (ν : Node) (o : Operation) (t : ℕ) (s : Nodes)

@@ -10,23 +10,23 @@ use Rattle.logs.specs.Log.{_∈_, _⊑_, here, more, push}
 use Rattle.logs.proofs.Log.{⊑-cons, place, placed, push-append, push-up, each-at}
 use Rattle.history.specs.Message.{Message, read, readAnswer, write, writeAnswer, echo, value, good}
 use Rattle.history.specs.Event.{Operation, update, scan, Ending, none, done, shown, spent}
-use Rattle.eqaso.specs.Algorithm.{nobody, Wait, idle, reading, Node, Step, sending, then-by, _then_, waiting}
-use Rattle.eqaso.specs.Algorithm.{asking, readPass, writePass, comparePass, borrowPass, react, moveOn}
-use Rattle.eqaso.specs.Algorithm.{messageStep, beginStep}
-use Rattle.eqaso.proofs.Cert.{Log, Logs, _≼_, carry}
-use Rattle.eqaso.proofs.Local.{Past, Due, Have, Local}
-use Rattle.eqaso.proofs.Grow.{settled-up, local-up}
-use Rattle.eqaso.proofs.Change.{handing, handed-by, took-up}
-use Rattle.eqaso.proofs.Turn
-use Rattle.eqaso.proofs.Turn.{unused}
-use Rattle.eqaso.proofs.React.{Keeps}
-use Rattle.eqaso.proofs.Receive.{react-keeps}
-use Rattle.eqaso.proofs.Outcome.{Ended, Fine, chain}
-use Rattle.eqaso.proofs.Read.{readTag, read-pass}
-use Rattle.eqaso.proofs.Write.{write-pass}
-use Rattle.eqaso.proofs.Finish.{compare-pass}
-use Rattle.eqaso.proofs.Borrow.{borrow-pass}
-use Rattle.eqaso.proofs.Sites.{Site, Sites, logs, new, handed, begun, Comes}
+use Rattle.algorithm.specs.Algorithm.{nobody, Wait, idle, reading, Node, Step, sending, then-by, _then_, waiting}
+use Rattle.algorithm.specs.Algorithm.{asking, readPass, writePass, comparePass, borrowPass, react, moveOn}
+use Rattle.algorithm.specs.Algorithm.{messageStep, beginStep}
+use Rattle.algorithm.proofs.Cert.{Log, Logs, _≼_, carry}
+use Rattle.algorithm.proofs.Local.{Past, Due, Have, Local}
+use Rattle.algorithm.proofs.Grow.{settled-up, local-up}
+use Rattle.algorithm.proofs.Change.{handing, handed-by, took-up}
+use Rattle.algorithm.proofs.Turn
+use Rattle.algorithm.proofs.Turn.{unused}
+use Rattle.algorithm.proofs.React.{Keeps}
+use Rattle.algorithm.proofs.Receive.{react-keeps}
+use Rattle.algorithm.proofs.Outcome.{Ended, Fine, chain}
+use Rattle.algorithm.proofs.Read.{readTag, read-pass}
+use Rattle.algorithm.proofs.Write.{write-pass}
+use Rattle.algorithm.proofs.Finish.{compare-pass}
+use Rattle.algorithm.proofs.Borrow.{borrow-pass}
+use Rattle.algorithm.proofs.Sites.{Site, Sites, logs, new, handed, begun, Comes}
 
 module _ (n f : ℕ) where
   abbrev pub Inv : Sites → Type 0
