@@ -13,8 +13,8 @@ use Rattle.logs.specs.Log.{_∈_, _⊑_}
 use Rattle.logs.proofs.Log.{comparable, mem-up}
 use Rattle.history.specs.Message.{Value, View, value}
 use Rattle.history.specs.Event.{Operation, update, scan, round3, borrowed}
-use Rattle.algorithm.specs.Algorithm.{Wait, idle, reading, writing, comparing, borrowing, Good, Node, still, ended}
-use Rattle.algorithm.specs.Algorithm.{waiting, finish, kept, borrowPass}
+use Rattle.algorithm.specs.Algorithm.{Wait, idle, reading, writing, comparing, borrowing, Good, Node, still}
+use Rattle.algorithm.specs.Algorithm.{ended, waiting, finish, kept, borrowPass}
 use Rattle.algorithm.proofs.Cert.{Log, Logs, Cert, carry, below}
 use Rattle.algorithm.proofs.Local.{Past, Own, Settled, Known, Spread, Stage, Local}
 use Rattle.algorithm.proofs.Grow.{upd-longer, settled-up}

@@ -10,8 +10,8 @@ use Rattle.logs.specs.Update.{upd}
 use Rattle.logs.specs.Log.{_∈_}
 use Rattle.history.specs.Message.{Value, echo, value}
 use Rattle.history.specs.Event.{Operation, Round}
-use Rattle.algorithm.specs.Algorithm.{Nodes, Wait, idle, reading, writing, comparing, borrowing, Node, Step, still}
-use Rattle.algorithm.specs.Algorithm.{sending, waiting, has, receive, raise, readAnswered, writeAnswered}
+use Rattle.algorithm.specs.Algorithm.{Nodes, Wait, idle, reading, writing, comparing, borrowing, Node, Step}
+use Rattle.algorithm.specs.Algorithm.{still, sending, waiting, has, receive, raise, readAnswered, writeAnswered}
 use Rattle.algorithm.specs.Node.{topping, holding}
 use Rattle.algorithm.proofs.Sets.{has-to, has-of}
 

@@ -12,8 +12,8 @@ use Rattle.logs.specs.Log.{here, more}
 use Rattle.history.specs.Message.{of, value, good}
 use Rattle.history.specs.Event.{Operation, update, scan, Round, round0, round1, round2, round3, done, shown, Rule}
 use Rattle.history.specs.Event.{direct}
-use Rattle.algorithm.specs.Algorithm.{Wait, idle, reading, writing, comparing, borrowing, Node, still, ended, waiting}
-use Rattle.algorithm.specs.Algorithm.{afterGood, afterFailed, agrees, quorum?, viewUpto, comparePass}
+use Rattle.algorithm.specs.Algorithm.{Wait, idle, reading, writing, comparing, borrowing, Node, still, ended}
+use Rattle.algorithm.specs.Algorithm.{waiting, afterGood, afterFailed, agrees, quorum?, viewUpto, comparePass}
 use Rattle.algorithm.proofs.Cert.{Log, Logs}
 use Rattle.algorithm.proofs.Local.{Past, Settled, Local}
 use Rattle.algorithm.proofs.Grow.{upd-longer, settled-up}

@@ -11,7 +11,8 @@ use Rattle.history.specs.Message.{Value, Message, read, readAnswer, write, writ
 use Rattle.history.specs.Event.{Operation, update, scan, Round, round0, round1, round2, round3}
 use Rattle.algorithm.specs.Algorithm.{Wait, idle, reading, writing, comparing, borrowing, Node}
 use Rattle.algorithm.proofs.Cert.{Log, Logs, _≼_, echoed-up, carry}
-use Rattle.algorithm.proofs.Local.{Past, Own, Held, Settled, Due, Olds, Have, Spread, Before, Stage, Phase, Local}
+use Rattle.algorithm.proofs.Local.{Past, Own, Held, Settled, Due, Olds, Have, Spread, Before, Stage, Phase}
+use Rattle.algorithm.proofs.Local.{Local}
 
 pub ≼-refl : (a : Logs) → a ≼ a
 ≼-refl a k = here

@@ -11,7 +11,8 @@ use Rattle.logs.specs.Update.{upd}
 use Rattle.logs.specs.Log.{_∈_, _⊑_, Each}
 use Rattle.history.specs.Message.{Value, of, View, Message, read, readAnswer, write, writeAnswer, echo, value, good}
 use Rattle.history.specs.Event.{Operation, update, scan, Round, round0, round1, round2, round3}
-use Rattle.algorithm.specs.Algorithm.{Nodes, Wait, idle, reading, writing, comparing, borrowing, Good, Node, viewUpto}
+use Rattle.algorithm.specs.Algorithm.{Nodes, Wait, idle, reading, writing, comparing, borrowing, Good, Node}
+use Rattle.algorithm.specs.Algorithm.{viewUpto}
 use Rattle.algorithm.proofs.Cert.{Log, Logs, _≼_, Echoed, Cert}
 
 -- What the proof remembers of the open operation of a node, beside its state.

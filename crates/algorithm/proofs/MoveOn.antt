@@ -9,10 +9,11 @@ use Rattle.logs.specs.Count.{count}
 use Rattle.logs.specs.Log.{push}
 use Rattle.history.specs.Message.{of, Message, read, write, value, good}
 use Rattle.history.specs.Event.{Operation, update, scan, direct, borrowed, Round, round0, round1, round2, round3, spent}
-use Rattle.algorithm.specs.Algorithm.{limit, Nodes, nobody, Wait, idle, reading, writing, comparing, borrowing, Node}
-use Rattle.algorithm.specs.Algorithm.{Step, ended, still, sending, _then_, waiting, asking, agrees, quorum?, kept}
-use Rattle.algorithm.specs.Algorithm.{viewUpto, opening, finish, afterRead, afterGood, afterFailed, readPass}
-use Rattle.algorithm.specs.Algorithm.{writePass, comparePass, borrowPass, moveOn, react, messageStep, beginStep}
+use Rattle.algorithm.specs.Algorithm.{limit, Nodes, nobody, Wait, idle, reading, writing, comparing, borrowing}
+use Rattle.algorithm.specs.Algorithm.{Node, Step, ended, still, sending, _then_, waiting, asking, agrees, quorum?}
+use Rattle.algorithm.specs.Algorithm.{kept, viewUpto, opening, finish, afterRead, afterGood, afterFailed}
+use Rattle.algorithm.specs.Algorithm.{readPass, writePass, comparePass, borrowPass, moveOn, react, messageStep}
+use Rattle.algorithm.specs.Algorithm.{beginStep}
 use Rattle.algorithm.proofs.Cert.{Log}
 use Rattle.algorithm.proofs.Passes.{Claim, Final, Leaves, move-leaves, finished, reacted}
 

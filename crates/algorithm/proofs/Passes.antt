@@ -6,8 +6,8 @@ use Rattle.logs.specs.Log.{push}
 use Rattle.logs.proofs.Log.{push-append}
 use Rattle.history.specs.Message.{View, Message, read, readAnswer, write, writeAnswer, echo, value, good}
 use Rattle.history.specs.Event.{Operation, update, scan, Rule, Ending, none, done, shown, spent}
-use Rattle.algorithm.specs.Algorithm.{Wait, Node, Step, sending, then-by, _then_, waiting, finish, react, readPass}
-use Rattle.algorithm.specs.Algorithm.{writePass, comparePass, borrowPass, moveOn}
+use Rattle.algorithm.specs.Algorithm.{Wait, Node, Step, sending, then-by, _then_, waiting, finish, react}
+use Rattle.algorithm.specs.Algorithm.{readPass, writePass, comparePass, borrowPass, moveOn}
 use Rattle.algorithm.proofs.Cert.{Log}
 use Rattle.algorithm.proofs.Cases.{raise-cases, receive-cases}
 

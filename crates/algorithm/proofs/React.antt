@@ -11,8 +11,8 @@ use Rattle.logs.specs.Log.{_∈_, _⊑_, here, push, Each}
 use Rattle.logs.proofs.Log.{⊑-trans, placed, comparable, cons-or, before-it, each-at}
 use Rattle.history.specs.Message.{Value, of, read, readAnswer, write, writeAnswer, echo, value}
 use Rattle.history.specs.Event.{Operation, update, scan, Round, round0, round1, round2, round3, none}
-use Rattle.algorithm.specs.Algorithm.{Nodes, Wait, reading, writing, Node, Step, waiting, has, raise, readAnswered}
-use Rattle.algorithm.specs.Algorithm.{writeAnswered}
+use Rattle.algorithm.specs.Algorithm.{Nodes, Wait, reading, writing, Node, Step, waiting, has, raise}
+use Rattle.algorithm.specs.Algorithm.{readAnswered, writeAnswered}
 use Rattle.algorithm.proofs.Cert.{Log, Logs}
 use Rattle.algorithm.proofs.Local.{Past, Held, WriteDue, Due, Have, ReadBy, WroteBy, Writes, Local}
 use Rattle.algorithm.proofs.Change.{handing, handed-by, post, raised}

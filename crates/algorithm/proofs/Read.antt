@@ -13,8 +13,9 @@ use Rattle.logs.specs.Log.{_∈_, _⊑_, here, more}
 use Rattle.logs.proofs.Log.{⊑-trans, mem-up, placed, cons-or}
 use Rattle.history.specs.Message.{Value, of, Message, write, echo, value}
 use Rattle.history.specs.Event.{Operation, update, scan, round0, round1, spent}
-use Rattle.algorithm.specs.Algorithm.{limit, Nodes, nobody, Wait, idle, reading, writing, comparing, borrowing, Node}
-use Rattle.algorithm.specs.Algorithm.{still, ended, waiting, sending, _then_, opening, afterRead, quorum?, readPass}
+use Rattle.algorithm.specs.Algorithm.{limit, Nodes, nobody, Wait, idle, reading, writing, comparing, borrowing}
+use Rattle.algorithm.specs.Algorithm.{Node, still, ended, waiting, sending, _then_, opening, afterRead, quorum?}
+use Rattle.algorithm.specs.Algorithm.{readPass}
 use Rattle.algorithm.proofs.Cert.{Log, Logs, value≢write}
 use Rattle.algorithm.proofs.Local.{Past, Under, ValueDue, Settled, Have, ReadBy, Local}
 use Rattle.algorithm.proofs.Grow.{settled-up}

@@ -19,7 +19,8 @@ use Rattle.algorithm.specs.Node.{holding}
 use Rattle.algorithm.proofs.Change.{handing, handed-by, handed-more, learnt, kept-on}
 use Rattle.algorithm.proofs.Turn.{taken-with, taken}
 use Rattle.algorithm.proofs.Cases.{from-by, receive-by}
-use Rattle.algorithm.proofs.React.{Keeps, read-counted, write-counted, raise-keeps, write-answered, read-answered}
+use Rattle.algorithm.proofs.React.{Keeps, read-counted, write-counted, raise-keeps, write-answered}
+use Rattle.algorithm.proofs.React.{read-answered}
 
 module _ (n f : ℕ) (half : f + f < n) where
   -- The pending value is the newest of its writer.

@@ -10,8 +10,8 @@ use Rattle.logs.specs.Log.{_∈_, here}
 use Rattle.logs.proofs.Log.{mem-up, ⊑-cons}
 use Rattle.history.specs.Message.{Value, value}
 use Rattle.history.specs.Event.{Operation, update, Round, round0}
-use Rattle.algorithm.specs.Algorithm.{Nodes, Wait, idle, reading, writing, comparing, borrowing, Node, still, waiting}
-use Rattle.algorithm.specs.Algorithm.{quorum?, writePass}
+use Rattle.algorithm.specs.Algorithm.{Nodes, Wait, idle, reading, writing, comparing, borrowing, Node, still}
+use Rattle.algorithm.specs.Algorithm.{waiting, quorum?, writePass}
 use Rattle.algorithm.proofs.Cert.{Log, Logs}
 use Rattle.algorithm.proofs.Local.{Past, Own, Held, Pending, Writes, Local}
 use Rattle.algorithm.proofs.Grow.{held-up}

@@ -10,9 +10,9 @@ use Rattle.logs.specs.Update.{upd}
 use Rattle.history.specs.Message.{Value, View, Message, read, readAnswer, write, writeAnswer, echo, value, good}
 use Rattle.history.specs.Event.{Operation, update, scan, Round, round0, round1, round2, round3, Rule, direct, borrowed}
 use Rattle.history.specs.Event.{Ending, none, done, shown, spent}
-pub use Rattle.algorithm.specs.Node.{Nodes, nobody, Wait, idle, reading, writing, comparing, borrowing, Good, Node}
-pub use Rattle.algorithm.specs.Node.{fresh, turned, topping, holding, keep, waiting, asking, latest, viewUpto, agrees}
-pub use Rattle.algorithm.specs.Node.{quorum?}
+pub use Rattle.algorithm.specs.Node.{Nodes, nobody, Wait, idle, reading, writing, comparing, borrowing, Good}
+pub use Rattle.algorithm.specs.Node.{Node, fresh, turned, topping, holding, keep, waiting, asking, latest}
+pub use Rattle.algorithm.specs.Node.{viewUpto, agrees, quorum?}
 unfoldable pub use Rattle.algorithm.specs.Node.{same, has, within, newest, highest, table, kept}
 
 -- The largest tag, and the largest request number.
