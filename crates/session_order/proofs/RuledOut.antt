@@ -34,7 +34,7 @@ use Rattle.mirror.specs.Run as R
 use Rattle.mirror.proofs.Demand2.{demand2}
 use Rattle.session_progress.specs.Progress.{badLine, begun, finished}
 use Rattle.session_progress.specs.declared.Progress.{Progress}
-use Rattle.session_memory.specs.Memory.{memorySize, cluster}
+use Rattle.session_byte.specs.Memory.{memorySize, cluster}
 use Rattle.session.specs.Text.{nodesIn, eventsIn, printedBy, freshOf, clusterAfter, output}
 use Rattle.session.specs.Reading.{Reading, begins, takes}
 use Rattle.session_order.specs.Lines.{Lines, bad, event}

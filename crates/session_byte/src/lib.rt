@@ -1,12 +1,15 @@
-// A line of a session that has ended, on the cluster in the session's memory: the first makes a fresh cluster, each
-// other one runs on it. The definitions are in specs/.
+// One byte of a session's text. A line feed ends the line: the first line makes a fresh cluster in the session's memory,
+// and each other one runs on it. The definitions are in specs/.
 use block::BLOCK;
 use input::Carry;
 use layout::BLOCKS_PLACE;
 use lines::Line;
 use octets::least;
 use session_line::run_at;
+use session_progress::Progress;
 use session_progress::Stage;
+use session_progress::TEXT;
+use session_progress::Turn;
 use session_progress::next;
 use session_progress::put_bad;
 ghost use mathlib.Core.Path.{_≡_};
@@ -15,8 +18,10 @@ ghost use lib.ListN.{length};
 ghost use Rattle.octets.specs.Bytes.{put};
 ghost use Rattle.answers.specs.Answer.{room};
 ghost use Rattle.cluster.specs.Event.{fresh};
+ghost use Rattle.session_progress.specs.Progress.{textSize};
 ghost use Rattle.session_line.specs.Act.{ran, printed};
-ghost use Rattle.session_memory.specs.Memory.{memorySize, lent, cluster, onCluster, opened, told};
+ghost use Rattle.session_byte.specs.Memory.{memorySize, lent, cluster, onCluster, opened, told};
+ghost use Rattle.session_byte.specs.Byte.{stepped};
 
 // The most nodes of a session, and its memory: the bytes of their cluster.
 const SESSION_NODES: usize = 5;
@@ -24,9 +29,9 @@ const SESSION_NODES: usize = 5;
 pub const MEMORY: usize = BLOCKS_PLACE + BLOCK * SESSION_NODES;
 
 // What a line that ended did: where the session is then, and the place after what is printed.
-pub struct Passed {
-    pub stage: Stage,
-    pub end: usize,
+struct Passed {
+    stage: Stage,
+    end: usize,
 }
 
 // The bytes that a cluster of n nodes has in the memory.
@@ -77,7 +82,7 @@ fn first_line(m: &mut [u8], n: usize, out: &mut [u8], at: usize) -> Passed
 }
 
 // A line that has ended.
-pub fn pass(m: &mut [u8], s: Stage, c: Carry, out: &mut [u8], at: usize) -> Passed
+fn pass(m: &mut [u8], s: Stage, c: Carry, out: &mut [u8], at: usize) -> Passed
     requires { ⌜ (length (now m) ≡ memorySize) × (at + room ≤ length (now out)) ⌝ }
     ensures { λ r. ⌜ (r .stage ≡ told s c (now (m .entry)) .stage) × (now (m .exit) ≡ told s c (now (m .entry)) .memory)
         × (now (out .exit) ≡ put (now (out .entry)) at (told s c (now (m .entry)) .text))
@@ -96,5 +101,34 @@ pub fn pass(m: &mut [u8], s: Stage, c: Carry, out: &mut [u8], at: usize) -> Pass
             stage: Stage::Over,
             end: at,
         },
+    }
+}
+
+// One byte of the text.
+pub fn step(m: &mut [u8; MEMORY], p: Progress, x: u8, out: &mut [u8; TEXT], at: usize) -> Turn
+    requires { ⌜ at + room ≤ textSize ⌝ }
+    ensures { λ r. ⌜ (r .progress ≡ stepped p x (now (m .entry)) .progress)
+        × (now (m .exit) ≡ stepped p x (now (m .entry)) .memory)
+        × (now (out .exit) ≡ put (now (out .entry)) at (stepped p x (now (m .entry)) .text))
+        × (r .end ≡ at + length (stepped p x (now (m .entry)) .text)) ⌝ }
+{
+    let stage = p.stage;
+    if x == 10 {
+        let t = pass(m, stage, p.carry, out, at);
+        let then = t.stage;
+        return Turn {
+            progress: Progress {
+                carry: input::none(),
+                stage: then,
+            },
+            end: t.end,
+        };
+    }
+    Turn {
+        progress: Progress {
+            carry: input::push(p.carry, x),
+            stage: stage,
+        },
+        end: at,
     }
 }

@@ -1,13 +1,13 @@
--- `session_memory::fresh_in` meets its contract.
+-- `session_byte::fresh_in` meets its contract.
 use borrow.Author.Needs.{needs}
 use mathlib.Core.Path.{sym, _∙_}
 use native.Mathlib.Nat.{zero-add}
 use native.Mathlib.Omega.{arith}
 use Rattle.octets.proofs.Lent.{lent-back}
 use Rattle.cluster.specs.Event.{fresh}
-use Rattle.session_memory.specs.Memory.{lent, onCluster}
-use Rattle.session_memory.proofs.fresh_in.Statement.{statement}
-use Rattle.session_memory.proofs.fresh_in.Tie as tie
+use Rattle.session_byte.specs.Memory.{lent, onCluster}
+use Rattle.session_byte.proofs.fresh_in.Statement.{statement}
+use Rattle.session_byte.proofs.fresh_in.Tie as tie
 
 lent-for-requires : tie.Need-lent-for-requires
 lent-for-requires c κs = search needs

@@ -1,12 +1,12 @@
--- `session_memory::pass` meets its contract.
+-- `session_byte::pass` meets its contract.
 use borrow.Author.Needs.{needs}
 use mathlib.Core.Path.{refl, sym, ap}
 use native.Mathlib.Nat.{add-zero}
 use Rattle.octets.proofs.Put.{put-nil}
-use Rattle.session_memory.specs.Memory.{told}
+use Rattle.session_byte.specs.Memory.{told}
 use Rattle.session_progress.specs.declared.Stage.the-variants.{Events}
-use Rattle.session_memory.proofs.pass.Statement.{statement}
-use Rattle.session_memory.proofs.pass.Tie as tie
+use Rattle.session_byte.proofs.pass.Statement.{statement}
+use Rattle.session_byte.proofs.pass.Tie as tie
 
 enum-told : tie.Need-enum-told
 enum-told c = search needs

@@ -1,11 +1,11 @@
--- `session_memory::first_line` meets its contract.
+-- `session_byte::first_line` meets its contract.
 use borrow.Author.Needs.{needs}
 use mathlib.Core.Path.{refl, sym}
 use native.Mathlib.Nat.{add-zero}
 use borrow.Author.Tests.{eq-eqb, ne-eqb}
 use Rattle.octets.proofs.Put.{put-nil}
-use Rattle.session_memory.proofs.first_line.Statement.{statement}
-use Rattle.session_memory.proofs.first_line.Tie as tie
+use Rattle.session_byte.proofs.first_line.Statement.{statement}
+use Rattle.session_byte.proofs.first_line.Tie as tie
 
 put-bad-requires : tie.Need-put-bad-requires
 put-bad-requires c κs = search needs

@@ -1,13 +1,13 @@
--- `session_memory::run_in` meets its contract.
+-- `session_byte::run_in` meets its contract.
 use borrow.Author.Needs.{needs}
 use mathlib.Core.Path.{sym, _∙_}
 use native.Mathlib.Nat.{zero-add}
 use native.Mathlib.Omega.{arith}
 use Rattle.octets.proofs.Lent.{lent as part-of, lent-back}
 use Rattle.session_line.specs.Act.{ran}
-use Rattle.session_memory.specs.Memory.{lent, cluster, onCluster}
-use Rattle.session_memory.proofs.run_in.Statement.{statement}
-use Rattle.session_memory.proofs.run_in.Tie as tie
+use Rattle.session_byte.specs.Memory.{lent, cluster, onCluster}
+use Rattle.session_byte.proofs.run_in.Statement.{statement}
+use Rattle.session_byte.proofs.run_in.Tie as tie
 
 lent-for-requires : tie.Need-lent-for-requires
 lent-for-requires c κs = search needs

@@ -1,13 +1,13 @@
--- `session::step` meets its contract.
+-- `session_byte::step` meets its contract.
 use borrow.Author.Needs.{needs}
 use mathlib.Core.Path.{refl, sym}
 use native.Mathlib.Nat.{add-zero}
 use borrow.Author.Tests.{eq-eqb, ne-eqb}
 use Rattle.octets.proofs.Put.{put-nil}
 use Rattle.input.specs.Input.{feed}
-use Rattle.session.specs.Turn.{stepped}
-use Rattle.session.proofs.step.Statement.{statement}
-use Rattle.session.proofs.step.Tie as tie
+use Rattle.session_byte.specs.Byte.{stepped}
+use Rattle.session_byte.proofs.step.Statement.{statement}
+use Rattle.session_byte.proofs.step.Tie as tie
 
 pass-requires : tie.Need-pass-requires
 pass-requires c κs = search needs
