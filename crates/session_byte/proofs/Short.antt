@@ -15,7 +15,8 @@ use Rattle.answers.proofs.Short.{line-short}
 use Rattle.input.specs.Input.{feed}
 use Rattle.input.specs.Carry.{eventIn, nodesIn}
 use Rattle.input.specs.declared.Carry.{Carry}
-use Rattle.session_line.specs.Act.{ran, handler, replyOf, printed}
+use Rattle.session_reply.specs.Reply.{handler, replyOf}
+use Rattle.session_line.specs.Act.{ran, printed}
 use Rattle.session_progress.specs.Progress.{badLine}
 use Rattle.session_progress.specs.declared.Progress.{Progress}
 use Rattle.session_progress.specs.declared.Stage.{Stage}

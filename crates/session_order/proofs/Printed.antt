@@ -20,7 +20,8 @@ use Rattle.refine.specs.Meaning.{entryOf, ruleOf, viewOf}
 use Rattle.mirror.specs.SameResult.{answerOf}
 use Rattle.mirror.specs.Run.{traceFrom}
 use Rattle.session_progress.specs.Progress.{next}
-use Rattle.session_line.specs.Act.{ran, handler, replyOf, printed}
+use Rattle.session_reply.specs.Reply.{handler, replyOf}
+use Rattle.session_line.specs.Act.{ran, printed}
 use Rattle.session.specs.Text.{leftBy, printedBy}
 use Rattle.session_order.specs.Lines.{eventsOf, printedOf, reports, Shows, silence, done, scan, spent, refusal}
 use Rattle.session_order.specs.Lines.{Lines, none, bad, event}

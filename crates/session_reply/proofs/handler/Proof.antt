@@ -1,7 +1,7 @@
--- `session_line::handler` meets its contract.
+-- `session_reply::handler` meets its contract.
 use borrow.Author.Needs.{needs}
-use Rattle.session_line.proofs.handler.Statement.{statement}
-use Rattle.session_line.proofs.handler.Tie as tie
+use Rattle.session_reply.proofs.handler.Statement.{statement}
+use Rattle.session_reply.proofs.handler.Tie as tie
 
 enum-known-l : tie.Need-enum-known-l
 enum-known-l c = search needs

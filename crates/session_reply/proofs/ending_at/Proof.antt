@@ -1,8 +1,8 @@
--- `session_line::ending_at` meets its contract.
+-- `session_reply::ending_at` meets its contract.
 use borrow.Author.Needs.{needs}
 use mathlib.Core.Path.{refl}
-use Rattle.session_line.proofs.ending_at.Statement.{statement}
-use Rattle.session_line.proofs.ending_at.Tie as tie
+use Rattle.session_reply.proofs.ending_at.Statement.{statement}
+use Rattle.session_reply.proofs.ending_at.Tie as tie
 
 enum-told : tie.Need-enum-told
 enum-told c = search needs

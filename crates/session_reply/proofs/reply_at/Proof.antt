@@ -1,8 +1,8 @@
--- `session_line::reply_at` meets its contract.
+-- `session_reply::reply_at` meets its contract.
 use borrow.Author.Needs.{needs}
 use mathlib.Core.Path.{refl}
-use Rattle.session_line.proofs.reply_at.Statement.{statement}
-use Rattle.session_line.proofs.reply_at.Tie as tie
+use Rattle.session_reply.proofs.reply_at.Statement.{statement}
+use Rattle.session_reply.proofs.reply_at.Tie as tie
 
 enum-known-outcome : tie.Need-enum-known-outcome
 enum-known-outcome c = search needs
