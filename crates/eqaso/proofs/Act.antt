@@ -10,12 +10,12 @@ use Rattle.logs.specs.Log.{_∈_, push}
 use Rattle.logs.proofs.Log.{push-or}
 use Rattle.history.specs.Message.{Value, Message, read, readAnswer, write, writeAnswer, echo, value, good}
 use Rattle.history.specs.Event.{Operation, update, scan, Ending, none, done, shown, spent}
-use Rattle.eqaso.specs.Algorithm.{nobody, Wait, reading, writing, comparing, borrowing, Node, Step, sending}
-use Rattle.eqaso.specs.Algorithm.{_then_, react, messageStep, beginStep}
-use Rattle.eqaso.proofs.Read.{readTag}
-use Rattle.eqaso.proofs.Cases.{raise-cases, receive-by, read-cases, write-cases}
-use Rattle.eqaso.proofs.Passes.{Claim, On}
-use Rattle.eqaso.proofs.MoveOn.{Moves, message-leaves, begin-leaves}
+use Rattle.algorithm.specs.Algorithm.{nobody, Wait, reading, writing, comparing, borrowing, Node, Step, sending}
+use Rattle.algorithm.specs.Algorithm.{_then_, react, messageStep, beginStep}
+use Rattle.algorithm.proofs.Read.{readTag}
+use Rattle.algorithm.proofs.Cases.{raise-cases, receive-by, read-cases, write-cases}
+use Rattle.algorithm.proofs.Passes.{Claim, On}
+use Rattle.algorithm.proofs.MoveOn.{Moves, message-leaves, begin-leaves}
 use Rattle.eqaso.proofs.Course.{Rests, Reads, Staged, Of, Opened, answered, Only, Makes, EndsBy, SpentBy, plain}
 use Rattle.eqaso.proofs.Course.{listed, rest-moves, staged-moves, Asks, ask-moves}
 

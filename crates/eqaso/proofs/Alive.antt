@@ -12,13 +12,13 @@ use Rattle.logs.proofs.Log.{placed, each-at}
 use Rattle.history.specs.Message.{Message, read, readAnswer, write, writeAnswer, echo, value, good}
 use Rattle.history.specs.Event.{Operation, Extent}
 use Rattle.history.specs.Order.{OneTo}
-use Rattle.eqaso.specs.Algorithm.{messageStep, beginStep}
+use Rattle.algorithm.specs.Algorithm.{messageStep, beginStep}
+use Rattle.algorithm.proofs.Cert.{Log, Logs}
+use Rattle.algorithm.proofs.Local.{Due}
+use Rattle.algorithm.proofs.Meant.{Meant}
+use Rattle.algorithm.proofs.Sites.{Site, Sites, logs, new, handed, begun, Comes}
+use Rattle.algorithm.proofs.World.{Inv}
 use Rattle.eqaso.specs.Cluster.{halted}
-use Rattle.eqaso.proofs.Cert.{Log, Logs}
-use Rattle.eqaso.proofs.Local.{Due}
-use Rattle.eqaso.proofs.Meant.{Meant}
-use Rattle.eqaso.proofs.Sites.{Site, Sites, logs, new, handed, begun, Comes}
-use Rattle.eqaso.proofs.World.{Inv}
 use Rattle.eqaso.proofs.Front.{front}
 use Rattle.eqaso.proofs.Rest.{Rests, message-rests, begin-rests}
 use Rattle.eqaso.proofs.Live.{Live, Numbered, message-live, begin-live}

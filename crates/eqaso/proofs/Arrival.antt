@@ -9,13 +9,13 @@ use Rattle.logs.proofs.Log.{⊑-cons, placed}
 use Rattle.history.specs.Message.{Value, Message, read, readAnswer, write, writeAnswer, echo, value, good}
 use Rattle.history.specs.Event.{Operation}
 use Rattle.history.specs.Order.{OneTo}
-use Rattle.eqaso.specs.Algorithm.{idle}
-use Rattle.eqaso.proofs.Cert.{Log}
-use Rattle.eqaso.proofs.Local.{Past, Local}
-use Rattle.eqaso.proofs.Change.{handing}
-use Rattle.eqaso.proofs.Turn
-use Rattle.eqaso.proofs.Sites.{Site, Sites, logs, new, handed, begun, Comes}
-use Rattle.eqaso.proofs.World.{Inv}
+use Rattle.algorithm.specs.Algorithm.{idle}
+use Rattle.algorithm.proofs.Cert.{Log}
+use Rattle.algorithm.proofs.Local.{Past, Local}
+use Rattle.algorithm.proofs.Change.{handing}
+use Rattle.algorithm.proofs.Turn
+use Rattle.algorithm.proofs.Sites.{Site, Sites, logs, new, handed, begun, Comes}
+use Rattle.algorithm.proofs.World.{Inv}
 use Rattle.eqaso.proofs.Closure.{Dues, tag-positive, writer-sent, all-closed}
 use Rattle.eqaso.proofs.Rising.{Orders, Rising, older-from, new-low, never-falls}
 use Rattle.eqaso.proofs.RisingStep.{rising-begin, rising-message}

@@ -9,11 +9,11 @@ use Rattle.logs.proofs.Update.{upd-same}
 use Rattle.history.specs.Event.{Operation, update, scan, Ending, none, Extent, begin, accepted}
 use Rattle.history.specs.Trace.{Seen, Trace, begunBy}
 use Rattle.history.specs.Order.{OneTo}
-use Rattle.eqaso.specs.Algorithm.{Step, beginStep}
+use Rattle.algorithm.specs.Algorithm.{Step, beginStep}
+use Rattle.algorithm.proofs.Cert.{Logs}
+use Rattle.algorithm.proofs.Sites.{Site, Sites, logs, begun}
 use Rattle.eqaso.specs.Cluster.{entries, letOut, halted, given}
-use Rattle.eqaso.proofs.Cert.{Logs}
 use Rattle.eqaso.proofs.Front.{front-in}
-use Rattle.eqaso.proofs.Sites.{Site, Sites, logs, begun}
 use Rattle.eqaso.proofs.Course.{Rests, Reads, Only}
 use Rattle.eqaso.proofs.Act.{begin-course}
 use Rattle.eqaso.proofs.Book.{Book, bookOf, begins, At, IdleAt}

@@ -7,8 +7,8 @@ use mathlib.Core.List.{List, [], _∷_, _++_, List·Memᴰ·head, List·Memᴰ·
 use Rattle.logs.specs.Log.{_∈_, _⊑_, here, more, push}
 use Rattle.logs.proofs.Log.{⊑-trans, ⊑-cons, placed, push-append, push-up, push-new, push-or}
 use Rattle.history.specs.Message.{Message}
-use Rattle.eqaso.proofs.Cert.{Log}
-use Rattle.eqaso.proofs.Meant.{Meant, Others, whose, keep-by, pick, pick-append, pick-in, pick-of}
+use Rattle.algorithm.proofs.Cert.{Log}
+use Rattle.algorithm.proofs.Meant.{Meant, Others, whose, keep-by, pick, pick-append, pick-in, pick-of}
 
 -- The channel ch to node b holds, oldest first, what is for b in the log gone and not yet in its earlier state got.
 pub record Between (b : ℕ) (got : Log) (ch : List Message) (gone : Log) : Type 0 where

@@ -10,11 +10,11 @@ use mathlib.Core.List.{List, [], _∷_, List·Memᴰ·head, List·Memᴰ·tail}
 use Rattle.logs.specs.Log.{_∈_}
 use Rattle.history.specs.Message.{Value}
 use Rattle.history.specs.Order.{OneTo}
-use Rattle.eqaso.specs.Algorithm.{Node, newest, within, agrees}
+use Rattle.algorithm.specs.Algorithm.{Node, newest, within, agrees}
+use Rattle.algorithm.specs.Node.{highest, latest}
+use Rattle.algorithm.proofs.Sets.{or-cases, or-left, or-right, and-both, and-of, within-to, within-of}
 pub use Rattle.eqaso.specs.Bounded.{UpTo, Bounded, BoundedNode, Arrives}
-use Rattle.eqaso.proofs.Sets.{or-cases, or-left, or-right, and-both, and-of, within-to, within-of}
 use Rattle.eqaso.proofs.Newest.{entry, newest-value, newest-above, newest-same, newest-then}
-use Rattle.eqaso.specs.Node.{highest, latest}
 use Rattle.eqaso.proofs.Newest.{newest-beyond, latest-above, latest-then, newest-latest}
 
 pub bounded-fresh : (n : ℕ) → Bounded n [] (λ k. []) 0

@@ -8,11 +8,11 @@ use Rattle.logs.specs.Log.{_∈_}
 use Rattle.history.specs.Message.{Value, Message, value}
 use Rattle.history.specs.Event.{Operation, Round, Event}
 use Rattle.history.specs.Order.{OneTo}
-use Rattle.eqaso.specs.Algorithm.{comparing, Node}
+use Rattle.algorithm.specs.Algorithm.{comparing, Node}
+use Rattle.algorithm.proofs.Cert.{Log, Logs}
+use Rattle.algorithm.proofs.Local.{Past, Pending, Local}
+use Rattle.algorithm.proofs.Sites.{logs}
 use Rattle.eqaso.specs.Cluster.{Cluster, start, after, trace}
-use Rattle.eqaso.proofs.Cert.{Log, Logs}
-use Rattle.eqaso.proofs.Local.{Past, Pending, Local}
-use Rattle.eqaso.proofs.Sites.{logs}
 use Rattle.eqaso.proofs.Closure.{writer-sent}
 use Rattle.eqaso.proofs.Arrival.{expected}
 use Rattle.eqaso.proofs.Channel.{fits-hand}

@@ -9,12 +9,12 @@ use Rattle.logs.proofs.Update.{upd-all}
 use Rattle.logs.specs.Log.{_∈_}
 use Rattle.history.specs.Message.{Value, Message, read, readAnswer, write, writeAnswer, echo, value, good}
 use Rattle.history.specs.Event.{Operation}
-use Rattle.eqaso.specs.Algorithm.{Node, sending, _then_, react, messageStep, beginStep}
+use Rattle.algorithm.specs.Algorithm.{Node, sending, _then_, react, messageStep, beginStep}
+use Rattle.algorithm.proofs.Cert.{Log}
+use Rattle.algorithm.proofs.Cases.{raise-by, receive-by, read-cases, write-cases}
+use Rattle.algorithm.proofs.Passes.{left}
+use Rattle.algorithm.proofs.MoveOn.{Moves, message-leaves, begin-leaves}
 use Rattle.eqaso.specs.Bounded.{Expected, UpTo}
-use Rattle.eqaso.proofs.Cert.{Log}
-use Rattle.eqaso.proofs.Cases.{raise-by, receive-by, read-cases, write-cases}
-use Rattle.eqaso.proofs.Passes.{left}
-use Rattle.eqaso.proofs.MoveOn.{Moves, message-leaves, begin-leaves}
 use Rattle.eqaso.proofs.Bounded.{Bounded, BoundedNode, Arrives, bounded-raised}
 
 -- A value is taken in.

@@ -13,8 +13,8 @@ use Rattle.logs.proofs.Log.{⊑-trans, push-up}
 use Rattle.history.specs.Message.{Message}
 use Rattle.history.specs.Event.{Extent, whole, cut, Sent, sentTo}
 use Rattle.history.specs.Order.{OneTo}
+use Rattle.algorithm.proofs.Cert.{Logs}
 use Rattle.eqaso.specs.Cluster.{entries, letOut, halted, channels}
-use Rattle.eqaso.proofs.Cert.{Logs}
 use Rattle.eqaso.proofs.Between.{Between, nothing-between, between-more, Handed, hand-over, handed-at}
 use Rattle.eqaso.proofs.Front.{first, front, front-is, front-up}
 

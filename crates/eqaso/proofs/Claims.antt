@@ -10,14 +10,14 @@ use Rattle.history.specs.Event.{Event}
 use Rattle.history.specs.Trace.{letOutTo}
 use Rattle.history.specs.Tags.{TagsAsWorded}
 use Rattle.history.specs.Views.{RoundsComparable, ShowsAbsence, HasEarlier}
+use Rattle.algorithm.proofs.Cert.{carry}
+use Rattle.algorithm.proofs.Local.{Due}
+use Rattle.algorithm.proofs.Grow.{upd-shorter}
+use Rattle.algorithm.proofs.Sites.{logs}
 use Rattle.eqaso.specs.Cluster.{unlimited, start, after, trace}
 use Rattle.eqaso.specs.Claims.{sixteen, Claim3, OnLinks, SpentLast, BeginsOpen}
 use Rattle.eqaso.specs.Bounded.{RunBounded, RunExpected, OwnHeld, OpensHigh, LetOut, InitialSegment}
 use Rattle.eqaso.specs.Bounded.{RunClosed, RunRising}
-use Rattle.eqaso.proofs.Cert.{carry}
-use Rattle.eqaso.proofs.Local.{Due}
-use Rattle.eqaso.proofs.Grow.{upd-shorter}
-use Rattle.eqaso.proofs.Sites.{logs}
 use Rattle.eqaso.proofs.Closure.{all-closed, from-closed}
 use Rattle.eqaso.proofs.Rising.{tags-rise}
 use Rattle.eqaso.proofs.Between.{Between, between-place}

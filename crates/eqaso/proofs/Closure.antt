@@ -12,10 +12,10 @@ use Rattle.logs.specs.Log.{_∈_, _⊑_, here, Each}
 use Rattle.logs.proofs.Log.{⊑-trans, mem-up, comparable, cons-or, place, placed, each-at}
 use Rattle.history.specs.Message.{Value, absent, value}
 use Rattle.history.specs.Event.{Operation, update, scan, round0}
-use Rattle.eqaso.specs.Algorithm.{Wait, writing, Node, newest}
+use Rattle.algorithm.specs.Algorithm.{Wait, writing, Node, newest}
+use Rattle.algorithm.proofs.Cert.{Log, Logs, Inside, Cert}
+use Rattle.algorithm.proofs.Local.{Past, ValueDue, Pending, Due, Olds, Local}
 use Rattle.eqaso.specs.Bounded.{UpTo}
-use Rattle.eqaso.proofs.Cert.{Log, Logs, Inside, Cert}
-use Rattle.eqaso.proofs.Local.{Past, ValueDue, Pending, Due, Olds, Local}
 use Rattle.eqaso.proofs.Newest.{entry, From, newest-from, newest-value, newest-above}
 
 -- Every message in every log has what it owes.

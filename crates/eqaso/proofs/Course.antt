@@ -12,12 +12,12 @@ use Rattle.logs.proofs.Log.{push-new}
 use Rattle.history.specs.Message.{Value, of, View, Message, write, value, good}
 use Rattle.history.specs.Event.{Operation, update, scan, Rule, direct, borrowed, Round, round0, round1, round3, Ending}
 use Rattle.history.specs.Event.{none, done, shown, spent}
-use Rattle.eqaso.specs.Algorithm.{Nodes, nobody, Wait, idle, reading, writing, comparing, borrowing, Node}
-use Rattle.eqaso.specs.Algorithm.{waiting, quorum?, finish}
-use Rattle.eqaso.proofs.Cert.{Log, IsValue, value≢write}
-use Rattle.eqaso.proofs.Read.{readTag}
-use Rattle.eqaso.proofs.Passes.{Claim}
-use Rattle.eqaso.proofs.MoveOn.{Moves}
+use Rattle.algorithm.specs.Algorithm.{Nodes, nobody, Wait, idle, reading, writing, comparing, borrowing, Node}
+use Rattle.algorithm.specs.Algorithm.{waiting, quorum?, finish}
+use Rattle.algorithm.proofs.Cert.{Log, IsValue, value≢write}
+use Rattle.algorithm.proofs.Read.{readTag}
+use Rattle.algorithm.proofs.Passes.{Claim}
+use Rattle.algorithm.proofs.MoveOn.{Moves}
 
 abbrev pub Rests : Wait → Type 0
 Rests idle = Unit {0}

@@ -11,12 +11,12 @@ use Rattle.history.specs.Message.{Value, Message, value}
 use Rattle.history.specs.Event.{none, Extent, deliver, accepted}
 use Rattle.history.specs.Trace.{Seen, Trace}
 use Rattle.history.specs.Order.{OneTo}
-use Rattle.eqaso.specs.Algorithm.{Step, messageStep}
+use Rattle.algorithm.specs.Algorithm.{Step, messageStep}
+use Rattle.algorithm.proofs.Cert.{Log, Logs, _≼_}
+use Rattle.algorithm.proofs.Sites.{Site, Sites, logs, handed, Comes}
+use Rattle.algorithm.proofs.World.{Inv}
 use Rattle.eqaso.specs.Cluster.{entries, letOut, halted, given}
-use Rattle.eqaso.proofs.Cert.{Log, Logs, _≼_}
 use Rattle.eqaso.proofs.Front.{front, front-in}
-use Rattle.eqaso.proofs.Sites.{Site, Sites, logs, handed, Comes}
-use Rattle.eqaso.proofs.World.{Inv}
 use Rattle.eqaso.proofs.Course.{Only}
 use Rattle.eqaso.proofs.Act.{Passed}
 use Rattle.eqaso.proofs.Book.{Book, bookOf}

@@ -6,11 +6,11 @@ use mathlib.Core.Bool.{Bool}
 use Rattle.history.specs.Message.{View, Message}
 use Rattle.history.specs.Event.{Operation, update, scan, Rule, Ending, none, done, shown, spent, Extent, whole, cut}
 use Rattle.history.specs.Trace.{Trace}
-use Rattle.eqaso.specs.Algorithm.{Wait, idle, reading, writing, comparing, borrowing}
+use Rattle.algorithm.specs.Algorithm.{Wait, idle, reading, writing, comparing, borrowing}
+use Rattle.algorithm.proofs.Cert.{Log, Logs}
+use Rattle.algorithm.proofs.Local.{Past, Phase}
+use Rattle.algorithm.proofs.Sites.{Sites}
 use Rattle.eqaso.specs.Cluster.{given}
-use Rattle.eqaso.proofs.Cert.{Log, Logs}
-use Rattle.eqaso.proofs.Local.{Past, Phase}
-use Rattle.eqaso.proofs.Sites.{Sites}
 use Rattle.eqaso.proofs.Course.{Rests, Reads, Staged, Of, Opened, Only, Makes}
 use Rattle.eqaso.proofs.Act.{Passed, GoesBy, AsksBy, rest-course, staged-course, read-course, staged-tag}
 use Rattle.eqaso.proofs.History.{Tagged, Runs, mode-rests, mode-reads, mode-staged}

@@ -16,8 +16,8 @@ use Rattle.history.specs.Message.{Message}
 use Rattle.history.specs.Event.{Extent, whole, cut, Event, Sent, sentTo}
 use Rattle.history.specs.Trace.{Seen, stopsBy, handedIn}
 use Rattle.history.specs.Order.{OneTo}
+use Rattle.algorithm.specs.Algorithm.{Node, beginStep, messageStep}
 use Rattle.eqaso.specs.Cluster.{entries, letOut, Cluster, refuse, halted, seen, channels}
-use Rattle.eqaso.specs.Algorithm.{Node, beginStep, messageStep}
 use Rattle.eqaso.proofs.Reach.{Reaches, sent-reach}
 use Rattle.eqaso.proofs.Happened.{Happened, refusal, began, delivered, ceased, Handles, outcome}
 use Rattle.eqaso.proofs.Channel.{Channels, channels-from, channels-other}

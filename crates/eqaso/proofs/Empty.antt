@@ -10,12 +10,12 @@ use Rattle.logs.specs.Log.{_∈_}
 use Rattle.history.specs.Message.{Message, good}
 use Rattle.history.specs.Trace.{Trace}
 use Rattle.history.specs.Order.{OneTo}
-use Rattle.eqaso.specs.Algorithm.{Wait, idle, reading, writing, comparing, borrowing}
+use Rattle.algorithm.specs.Algorithm.{Wait, idle, reading, writing, comparing, borrowing}
+use Rattle.algorithm.proofs.Meant.{Meant}
+use Rattle.algorithm.proofs.Sets.{not-true}
+use Rattle.algorithm.proofs.Sites.{logs}
 use Rattle.eqaso.specs.Cluster.{Cluster}
-use Rattle.eqaso.proofs.Meant.{Meant}
-use Rattle.eqaso.proofs.Sets.{not-true}
 use Rattle.eqaso.proofs.Between.{Between, all-handed}
-use Rattle.eqaso.proofs.Sites.{logs}
 use Rattle.eqaso.proofs.Mark.{Low}
 use Rattle.eqaso.proofs.Standstill.{Lent, Drained, no-wait}
 use Rattle.eqaso.proofs.Good.{Good, gots}

@@ -10,12 +10,12 @@ use Rattle.history.specs.Message.{Value, of, View, Message, value}
 use Rattle.history.specs.Event.{Operation, update, scan, Rule, Ending, done, shown, spent, whole}
 use Rattle.history.specs.Trace.{Trace, updating, scanning, ended}
 use Rattle.history.specs.Order.{OneTo, EndedBefore}
-use Rattle.eqaso.proofs.Cert.{Log, Logs}
-use Rattle.eqaso.proofs.Sets.{not-true}
+use Rattle.algorithm.proofs.Cert.{Log, Logs}
+use Rattle.algorithm.proofs.Sets.{not-true}
+use Rattle.algorithm.proofs.Outcome.{Final, Done, Ended}
+use Rattle.algorithm.proofs.Sites.{Sites, logs}
+use Rattle.algorithm.proofs.World.{Stepped, handed-inv}
 use Rattle.eqaso.proofs.Front.{front-in}
-use Rattle.eqaso.proofs.Outcome.{Final, Done, Ended}
-use Rattle.eqaso.proofs.Sites.{Sites, logs}
-use Rattle.eqaso.proofs.World.{Stepped, handed-inv}
 use Rattle.eqaso.proofs.Course.{Rests, Reads, Staged, Only}
 use Rattle.eqaso.proofs.Act.{Passed, staged-tag}
 use Rattle.eqaso.proofs.Book.{Book, ends, OpenAt}

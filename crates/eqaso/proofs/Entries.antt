@@ -12,9 +12,10 @@ use lib.Seq.{take-nil, take-all, take-append-le}
 use Rattle.history.specs.Message.{Message}
 use Rattle.history.specs.Event.{Sent, sentTo}
 use Rattle.history.specs.Order.{OneTo}
-use Rattle.eqaso.specs.Cluster.{Address, one, all, address, entriesTo, addressed}
-use Rattle.eqaso.specs.Algorithm.{table}
-use Rattle.eqaso.proofs.Meant.{by-number, whose-by, keep-by, pick}
+use Rattle.algorithm.specs.Address.{Address, one, all, address}
+use Rattle.algorithm.specs.Algorithm.{table}
+use Rattle.algorithm.proofs.Meant.{by-number, whose-by, keep-by, pick}
+use Rattle.eqaso.specs.Cluster.{entriesTo, addressed}
 
 -- Message m to node b.
 abbrev pub entry : ℕ → Message → Sent

@@ -15,8 +15,9 @@ use Rattle.logs.proofs.Log.{push-append, push-up}
 use Rattle.history.specs.Message.{Message}
 use Rattle.history.specs.Event.{Extent, whole, cut, sentTo}
 use Rattle.history.specs.Order.{OneTo}
-use Rattle.eqaso.specs.Cluster.{address, addressed, entries, letOut}
-use Rattle.eqaso.proofs.Meant.{pick, pick-append}
+use Rattle.algorithm.specs.Address.{address}
+use Rattle.algorithm.proofs.Meant.{pick, pick-append}
+use Rattle.eqaso.specs.Cluster.{addressed, entries, letOut}
 use Rattle.eqaso.proofs.Entries.{size, enough, enough-some, one-front, length-addressed, take-append}
 use Rattle.eqaso.proofs.Entries.{sentTo-append}
 

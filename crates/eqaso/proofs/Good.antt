@@ -11,12 +11,12 @@ use Rattle.logs.proofs.Log.{⊑-trans}
 use Rattle.history.specs.Message.{Message}
 use Rattle.history.specs.Event.{Extent}
 use Rattle.history.specs.Trace.{Seen, Trace}
+use Rattle.algorithm.proofs.Cert.{Logs}
+use Rattle.algorithm.proofs.Sites.{Site, Sites, logs, Comes}
+use Rattle.algorithm.proofs.World.{Inv}
 use Rattle.eqaso.specs.Cluster.{Cluster, halted, channels, entries, letOut}
-use Rattle.eqaso.proofs.Cert.{Logs}
 use Rattle.eqaso.proofs.Between.{Handed, handed-at}
 use Rattle.eqaso.proofs.Channel.{Fits, fits-act}
-use Rattle.eqaso.proofs.Sites.{Site, Sites, logs, Comes}
-use Rattle.eqaso.proofs.World.{Inv}
 use Rattle.eqaso.proofs.Book.{Book, bookOf}
 use Rattle.eqaso.proofs.Told.{Told}
 use Rattle.eqaso.proofs.Kept.{Kept, Next}

@@ -10,12 +10,12 @@ use Rattle.history.specs.Message.{Message}
 use Rattle.history.specs.Event.{Operation, Extent, whole, cut, Event, begin, deliver, stop}
 use Rattle.history.specs.Trace.{Trace}
 use Rattle.history.specs.Order.{OneTo}
-use Rattle.eqaso.specs.Algorithm.{limit, Wait, idle, reading, writing, comparing, borrowing, Step, still}
-use Rattle.eqaso.specs.Algorithm.{beginStep, messageStep}
+use Rattle.algorithm.specs.Algorithm.{limit, Wait, idle, reading, writing, comparing, borrowing, Step, still}
+use Rattle.algorithm.specs.Algorithm.{beginStep, messageStep}
+use Rattle.algorithm.proofs.Sets.{and-both, not-true}
 use Rattle.eqaso.specs.Cluster.{Cluster, start, Result, refuse, seen, traceFrom, trace, entries, letOut, commit}
-use Rattle.eqaso.specs.Cluster.{demand, holds, roomy, isNode, stands, isIdle, mayCut, mayStop, deliverFirst}
-use Rattle.eqaso.specs.Cluster.{event, after}
-use Rattle.eqaso.proofs.Sets.{and-both, not-true}
+use Rattle.eqaso.specs.Cluster.{demand, holds, roomy, settle, isNode, stands, isIdle, mayCut, mayStop}
+use Rattle.eqaso.specs.Cluster.{deliverFirst, event, after}
 
 -- One more node may stop, where the event stops one.
 abbrev pub MayStop : (n f : ℕ) → Extent → Cluster → Type 0
@@ -83,6 +83,12 @@ handles : (n f c : ℕ) (x : Extent) (σ : Cluster) → isNode n c ≡ true → 
 handles n f c x σ node stands may =
     record { node = is-node n c node; stands = not-true _ stands; may = may-cut n f x σ may }
 
+-- a step where there is room: for any step, since it is checked faster of a name than of the step itself
+settles : {n f : ℕ} {σ : Cluster} {e : Event} (room : ℕ → Bool) (c : ℕ) (x : Extent) (s : Step)
+    (channel : ℕ → ℕ → List Message) (h : Happened n f σ e) → act n c x s channel σ ≡ outcome h
+    → Found n f σ e (settle n room c x s channel σ)
+settles {n} {f} {σ} room c x s channel h is = demanded (holds (roomy room c n _)) 11 λ fits. (h, is)
+
 pub happened : (n f : ℕ) (room : ℕ → Bool) (e : Event) (σ : Cluster) → Found n f σ e (event n f room e σ)
 unfolding event
 happened n f room (begin c op x) σ =
@@ -91,8 +97,8 @@ happened n f room (begin c op x) σ =
     demanded (holds (isIdle (σ .nodes c .wait))) 5 λ free.
     demanded (decLe 5 (limit - σ .nodes c .request)) 6 λ five.
     demanded (holds (mayCut n f x σ)) 10 λ may.
-    demanded (holds (roomy room c n _)) 11 λ fits.
-    (began (handles n f c x σ node up may) (is-idle _ free) five, refl)
+    settles room c x (beginStep n f c op (σ .nodes c)) (σ .channel)
+    (began (handles n f c x σ node up may) (is-idle _ free) five) refl
 happened n f room (deliver a b x) σ =
     demanded (holds (isNode n a && isNode n b)) 3 λ nodes.
     demanded (holds (stands σ b)) 4 λ up.
@@ -103,12 +109,9 @@ happened n f room (deliver a b x) σ =
     go nodes up [] e = (refusal 8, refl)
     go nodes up (m ∷ rest) e =
         demanded (holds (mayCut n f x σ)) 10 λ may.
-        demanded (holds (roomy room b n (next .cluster .channel))) 11 λ fits.
-        (delivered (handles n f b x σ (two .1) up may) (is-node n a (two .0)) m rest e, refl)
+        settles room b x (messageStep n f b a m (σ .nodes b)) (upd2 (σ .channel) a b rest)
+        (delivered (handles n f b x σ (two .1) up may) (is-node n a (two .0)) m rest e) refl
       where
-        next : Result
-        next = act n b x (messageStep n f b a m (σ .nodes b)) (upd2 (σ .channel) a b rest) σ
-
         two : (isNode n a ≡ true) × (isNode n b ≡ true)
         two = and-both (isNode n a) (isNode n b) nodes
 happened n f room (stop c) σ =

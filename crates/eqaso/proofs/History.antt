@@ -12,11 +12,11 @@ use Rattle.history.specs.Message.{Value, of, View, value}
 use Rattle.history.specs.Event.{Operation, update, scan, none, done, shown, spent}
 use Rattle.history.specs.Trace.{Begun, nothing, updating, scanning, Fate, unfinished, ended}
 use Rattle.history.specs.Order.{OneTo, EndedBefore}
-use Rattle.eqaso.specs.Algorithm.{Wait, idle, reading, writing, comparing, borrowing}
-use Rattle.eqaso.proofs.Cert.{Log, Logs, _≼_, carry}
-use Rattle.eqaso.proofs.Local.{Settled, Known}
-use Rattle.eqaso.proofs.Grow.{settled-up}
-use Rattle.eqaso.proofs.Sites.{Site, Sites, logs}
+use Rattle.algorithm.specs.Algorithm.{Wait, idle, reading, writing, comparing, borrowing}
+use Rattle.algorithm.proofs.Cert.{Log, Logs, _≼_, carry}
+use Rattle.algorithm.proofs.Local.{Settled, Known}
+use Rattle.algorithm.proofs.Grow.{settled-up}
+use Rattle.algorithm.proofs.Sites.{Site, Sites, logs}
 use Rattle.eqaso.proofs.Course.{Rests, Reads, Staged}
 use Rattle.eqaso.proofs.Book.{Book, IdleAt, OpenAt}
 

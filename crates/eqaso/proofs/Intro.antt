@@ -16,9 +16,9 @@ use Rattle.logs.proofs.Log.{mem-up, push-up, push-or, push-new}
 use Rattle.history.specs.Message.{View, Message, write, good}
 use Rattle.history.specs.Event.{Extent, whole, cut}
 use Rattle.history.specs.Order.{OneTo}
+use Rattle.algorithm.specs.Algorithm.{Wait, writing, Node}
+use Rattle.algorithm.proofs.Cert.{Logs}
 use Rattle.eqaso.specs.Cluster.{halted}
-use Rattle.eqaso.specs.Algorithm.{Wait, writing, Node}
-use Rattle.eqaso.proofs.Cert.{Logs}
 use Rattle.eqaso.proofs.Front.{front, front-in, front-last}
 use Rattle.eqaso.proofs.Channel.{stood}
 use Rattle.eqaso.proofs.Mark.{Low, low-up, Below, below-up, Marked, Leapt, Opened, Left}

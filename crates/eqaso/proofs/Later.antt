@@ -8,8 +8,8 @@ use Rattle.history.specs.Message.{Value, of}
 use Rattle.history.specs.Event.{Operation, Ending}
 use Rattle.history.specs.Trace.{Begun, nothing, updating, scanning, unfinished, ended}
 use Rattle.history.specs.Order.{EndedBefore}
-use Rattle.eqaso.specs.Algorithm.{Wait, idle, reading, writing, comparing, borrowing}
-use Rattle.eqaso.proofs.Cert.{Logs}
+use Rattle.algorithm.specs.Algorithm.{Wait, idle, reading, writing, comparing, borrowing}
+use Rattle.algorithm.proofs.Cert.{Logs}
 use Rattle.eqaso.proofs.Book.{Book, begins, tags, ends, At, IdleAt, OpenAt}
 use Rattle.eqaso.proofs.Facts.{Facts, Fit}
 use Rattle.eqaso.proofs.Keep.{not-ended, at-same, tagged-old, ended-old, at-old}

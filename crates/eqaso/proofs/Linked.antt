@@ -14,8 +14,8 @@ use Rattle.history.specs.Message.{Message}
 use Rattle.history.specs.Event.{Event}
 use Rattle.history.specs.Trace.{Seen, Trace, stopsBy, stopped, letOutTo, handedOver, waits}
 use Rattle.history.specs.Order.{OneTo}
+use Rattle.algorithm.specs.Algorithm.{fresh}
 use Rattle.eqaso.specs.Cluster.{Cluster, start, after, seen, trace}
-use Rattle.eqaso.specs.Algorithm.{fresh}
 use Rattle.eqaso.proofs.Reach.{Reaches}
 use Rattle.eqaso.proofs.Happened.{Happened, outcome, always}
 use Rattle.eqaso.proofs.Snoc.{stopped-snoc, letOutTo-snoc, handedOver-snoc, passed}

@@ -11,13 +11,13 @@ use Rattle.logs.specs.Update.{upd}
 use Rattle.logs.specs.Log.{_∈_, push}
 use Rattle.history.specs.Message.{of, View, Message, read, readAnswer, write, writeAnswer, echo, value, good}
 use Rattle.history.specs.Event.{Operation, update, scan, round0, round1}
-use Rattle.eqaso.specs.Algorithm.{nobody, Wait, idle, reading, writing, comparing, borrowing, Node, sending}
-use Rattle.eqaso.specs.Algorithm.{_then_, waiting, viewUpto, react, messageStep, beginStep}
-use Rattle.eqaso.proofs.Cert.{Log}
-use Rattle.eqaso.specs.Node.{turned, topping}
-use Rattle.eqaso.proofs.Cases.{raise-cases, receive-cases, read-cases, write-cases}
-use Rattle.eqaso.proofs.Passes.{left}
-use Rattle.eqaso.proofs.MoveOn.{Moves, writes, message-leaves, begin-leaves}
+use Rattle.algorithm.specs.Algorithm.{nobody, Wait, idle, reading, writing, comparing, borrowing, Node, sending}
+use Rattle.algorithm.specs.Algorithm.{_then_, waiting, viewUpto, react, messageStep, beginStep}
+use Rattle.algorithm.proofs.Cert.{Log}
+use Rattle.algorithm.specs.Node.{turned, topping}
+use Rattle.algorithm.proofs.Cases.{raise-cases, receive-cases, read-cases, write-cases}
+use Rattle.algorithm.proofs.Passes.{left}
+use Rattle.algorithm.proofs.MoveOn.{Moves, writes, message-leaves, begin-leaves}
 
 -- The tag that a node waits with.
 abbrev pub Low : ℕ → Wait → Type 0

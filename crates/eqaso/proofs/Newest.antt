@@ -8,7 +8,7 @@ use mathlib.Core.Bool.{cond, decide, _&&_}
 use mathlib.Core.List.{List, [], _∷_, List·Memᴰ·head, List·Memᴰ·tail}
 use Rattle.logs.specs.Log.{_∈_}
 use Rattle.history.specs.Message.{Value, Entry, absent}
-use Rattle.eqaso.specs.Node.{newest, highest, latest}
+use Rattle.algorithm.specs.Node.{newest, highest, latest}
 
 -- What a view has of a value.
 abbrev pub entry : Value → Entry

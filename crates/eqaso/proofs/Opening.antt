@@ -6,11 +6,11 @@ use mathlib.Core.List.{[], _∷_, List·Memᴰ·head, List·Memᴰ·tail}
 use Rattle.logs.specs.Log.{_∈_, push}
 use Rattle.logs.proofs.Log.{push-new}
 use Rattle.history.specs.Message.{of, Message, read, readAnswer, write, writeAnswer, echo, value, good}
-use Rattle.eqaso.specs.Algorithm.{Node, sending, _then_, react, messageStep}
-use Rattle.eqaso.proofs.Cert.{Log}
-use Rattle.eqaso.proofs.Cases.{raise-cases, receive-cases}
-use Rattle.eqaso.proofs.Passes.{left}
-use Rattle.eqaso.proofs.MoveOn.{Moves, message-leaves}
+use Rattle.algorithm.specs.Algorithm.{Node, sending, _then_, react, messageStep}
+use Rattle.algorithm.proofs.Cert.{Log}
+use Rattle.algorithm.proofs.Cases.{raise-cases, receive-cases}
+use Rattle.algorithm.proofs.Passes.{left}
+use Rattle.algorithm.proofs.MoveOn.{Moves, message-leaves}
 
 -- A write among the messages of a step is that of a round that opens.
 abbrev High : ℕ → Message → Type 0

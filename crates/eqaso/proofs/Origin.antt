@@ -13,13 +13,13 @@ use Rattle.logs.specs.Log.{_∈_, push}
 use Rattle.history.specs.Message.{Value, of, Message, read, readAnswer, write, writeAnswer, echo, value, good}
 use Rattle.history.specs.Event.{Operation, Extent, whole, cut, Event, begin, deliver, stop, sentTo}
 use Rattle.history.specs.Trace.{Seen, Trace, handler, letOutTo}
-use Rattle.eqaso.specs.Algorithm.{Node, still, sending, _then_, viewUpto, react, messageStep, beginStep}
+use Rattle.algorithm.specs.Algorithm.{Node, still, sending, _then_, viewUpto, react, messageStep, beginStep}
+use Rattle.algorithm.proofs.Cert.{Log}
+use Rattle.algorithm.proofs.Cases.{raise-cases, receive-cases, read-cases, write-cases}
+use Rattle.algorithm.proofs.Passes.{left}
+use Rattle.algorithm.proofs.MoveOn.{Moves, message-leaves, begin-leaves}
 use Rattle.eqaso.specs.Cluster.{Cluster, refuse, start, entries, letOut, after, seen, trace}
 use Rattle.eqaso.specs.Bounded.{LetOut}
-use Rattle.eqaso.proofs.Cert.{Log}
-use Rattle.eqaso.proofs.Cases.{raise-cases, receive-cases, read-cases, write-cases}
-use Rattle.eqaso.proofs.Passes.{left}
-use Rattle.eqaso.proofs.MoveOn.{Moves, message-leaves, begin-leaves}
 use Rattle.eqaso.proofs.Course.{Only, plain, listed}
 use Rattle.eqaso.proofs.Reach.{sent-among}
 use Rattle.eqaso.proofs.Happened.{Happened, refusal, began, delivered, ceased, outcome, act}

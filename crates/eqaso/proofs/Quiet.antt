@@ -7,7 +7,7 @@ use Rattle.history.specs.Event.{Event}
 use Rattle.history.specs.Trace.{Trace, Begun, nothing, updating, scanning, begun, Fate, unfinished, ended, fate}
 use Rattle.history.specs.Trace.{stopped}
 use Rattle.history.specs.Order.{OneTo, Finished, ClosedBy, NothingWaits, Quiet}
-use Rattle.eqaso.specs.Algorithm.{idle}
+use Rattle.algorithm.specs.Algorithm.{idle}
 use Rattle.eqaso.specs.Cluster.{Cluster, start, after, trace}
 use Rattle.eqaso.proofs.Linked.{Linked, linked, waits-is}
 use Rattle.eqaso.proofs.Book.{bookOf, At}

@@ -12,8 +12,9 @@ use Rattle.logs.specs.Log.{_∈_}
 use Rattle.history.specs.Message.{Message}
 use Rattle.history.specs.Event.{Extent, whole, cut, Sent, sentTo}
 use Rattle.history.specs.Order.{OneTo}
-use Rattle.eqaso.specs.Cluster.{Address, one, all, address, entriesTo, addressed, entries, letOut}
-use Rattle.eqaso.specs.Algorithm.{table}
+use Rattle.algorithm.specs.Address.{Address, one, all, address}
+use Rattle.algorithm.specs.Algorithm.{table}
+use Rattle.eqaso.specs.Cluster.{entriesTo, addressed, entries, letOut}
 use Rattle.eqaso.proofs.Entries.{entry}
 
 -- A message may go to node b.

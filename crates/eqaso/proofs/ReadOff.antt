@@ -9,7 +9,7 @@ use Rattle.history.specs.Message.{absent}
 use Rattle.history.specs.Event.{round1, done, shown, direct, sentTo}
 use Rattle.history.specs.Trace.{updating, scanning, begun, unfinished, ended, firstEnding, fate, tagsSent, ownTags}
 use Rattle.history.specs.Trace.{largest, firstAbove, tagAt}
-use Rattle.eqaso.specs.Algorithm.{same, limit, has, within, newest, table, kept, moveOn}
+use Rattle.algorithm.specs.Algorithm.{same, limit, has, within, newest, table, kept, moveOn}
 use Rattle.eqaso.specs.Cluster.{entries, roomy, event, traceFrom, trace}
 use Rattle.eqaso.specs.Claims.{sixteen}
 use Rattle.eqaso.proofs.Runs.{session, cut-but-shown}

@@ -14,14 +14,14 @@ use Rattle.history.specs.Message.{Value, of, Message, value}
 use Rattle.history.specs.Event.{Extent}
 use Rattle.history.specs.Trace.{updating, tagsSent}
 use Rattle.history.specs.Order.{OneTo, EndedBefore}
+use Rattle.algorithm.proofs.Cert.{Logs, _≼_}
+use Rattle.algorithm.proofs.Meant.{pick-in, pick-of}
+use Rattle.algorithm.proofs.Sites.{Site, Sites, logs}
 use Rattle.eqaso.specs.Cluster.{entries, letOut, halted}
-use Rattle.eqaso.proofs.Cert.{Logs, _≼_}
-use Rattle.eqaso.proofs.Meant.{pick-in, pick-of}
 use Rattle.eqaso.proofs.Front.{front, front-is, front-in}
 use Rattle.eqaso.proofs.Reach.{sentTo-in, sentTo-of, sent-reach, Reaches}
 use Rattle.eqaso.proofs.Owned.{tagBy-of, tagsSent-of, tagsSent-own}
 use Rattle.eqaso.proofs.Channel.{stood}
-use Rattle.eqaso.proofs.Sites.{Site, Sites, logs}
 use Rattle.eqaso.proofs.Book.{Book}
 use Rattle.eqaso.proofs.Facts.{Facts}
 use Rattle.eqaso.proofs.Rows.{Listed}

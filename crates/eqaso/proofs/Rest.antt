@@ -9,12 +9,12 @@ use Rattle.logs.specs.Count.{count}
 use Rattle.logs.proofs.Count.{count-none}
 use Rattle.history.specs.Message.{of, View, Message, read, value}
 use Rattle.history.specs.Event.{Operation, update, scan, direct, borrowed, Round, round0, round1, round2, round3, spent}
-use Rattle.eqaso.specs.Algorithm.{limit, nobody, Wait, idle, reading, writing, comparing, borrowing, Node, Step}
-use Rattle.eqaso.specs.Algorithm.{still, sending, ended, _then_, opening, waiting, asking, agrees, quorum?, kept}
-use Rattle.eqaso.specs.Algorithm.{viewUpto, finish, afterRead, afterGood, afterFailed, readPass, writePass}
-use Rattle.eqaso.specs.Algorithm.{comparePass, borrowPass, moveOn, react, messageStep, beginStep}
-use Rattle.eqaso.proofs.Cert.{Log}
-use Rattle.eqaso.proofs.Passes.{Leaves, move-leaves, finished, left, reacted}
+use Rattle.algorithm.specs.Algorithm.{limit, nobody, Wait, idle, reading, writing, comparing, borrowing, Node, Step}
+use Rattle.algorithm.specs.Algorithm.{still, sending, ended, _then_, opening, waiting, asking, agrees, quorum?, kept}
+use Rattle.algorithm.specs.Algorithm.{viewUpto, finish, afterRead, afterGood, afterFailed, readPass, writePass}
+use Rattle.algorithm.specs.Algorithm.{comparePass, borrowPass, moveOn, react, messageStep, beginStep}
+use Rattle.algorithm.proofs.Cert.{Log}
+use Rattle.algorithm.proofs.Passes.{Leaves, move-leaves, finished, left, reacted}
 
 -- Only once the pass has been tried.
 abbrev once : Bool → Type 0 → Type 0

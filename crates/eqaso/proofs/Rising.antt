@@ -11,9 +11,9 @@ use Rattle.logs.specs.Log.{_∈_, _⊑_, here, more, Each}
 use Rattle.logs.proofs.Log.{mem-up, placed, each-at}
 use Rattle.history.specs.Message.{Value, Message, read, readAnswer, write, writeAnswer, echo, value, good}
 use Rattle.history.specs.Event.{Operation, round0, round1, round2, round3}
-use Rattle.eqaso.specs.Algorithm.{Wait, idle, reading, writing, comparing, borrowing, Node}
-use Rattle.eqaso.proofs.Cert.{Log, Logs}
-use Rattle.eqaso.proofs.Local.{Past, Pending, Due, Local}
+use Rattle.algorithm.specs.Algorithm.{Wait, idle, reading, writing, comparing, borrowing, Node}
+use Rattle.algorithm.proofs.Cert.{Log, Logs}
+use Rattle.algorithm.proofs.Local.{Past, Pending, Due, Local}
 use Rattle.eqaso.proofs.Closure.{Dues, pending-own, tag-positive, writer-sent, closed, all-closed}
 
 -- A write or an echo of at least s stands in the log.

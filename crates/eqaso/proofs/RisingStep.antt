@@ -9,14 +9,14 @@ use Rattle.logs.specs.Update.{upd}
 use Rattle.logs.specs.Log.{_∈_, _⊑_, here, more, push}
 use Rattle.history.specs.Message.{Value, of, Message, read, readAnswer, write, writeAnswer, echo, value, good}
 use Rattle.history.specs.Event.{Operation, update, scan, Round, round0, round1}
-use Rattle.eqaso.specs.Algorithm.{Nodes, nobody, Wait, idle, reading, writing, comparing, borrowing, Node}
-use Rattle.eqaso.specs.Algorithm.{sending, _then_, react, messageStep, beginStep}
-use Rattle.eqaso.proofs.Cert.{Log, Logs, IsValue}
-use Rattle.eqaso.proofs.Local.{Past, Local}
+use Rattle.algorithm.specs.Algorithm.{Nodes, nobody, Wait, idle, reading, writing, comparing, borrowing, Node}
+use Rattle.algorithm.specs.Algorithm.{sending, _then_, react, messageStep, beginStep}
+use Rattle.algorithm.proofs.Cert.{Log, Logs, IsValue}
+use Rattle.algorithm.proofs.Local.{Past, Local}
+use Rattle.algorithm.proofs.Cases.{raise-cases, receive-by, read-cases, write-cases}
+use Rattle.algorithm.proofs.Passes.{left}
+use Rattle.algorithm.proofs.MoveOn.{Last, Moves, message-leaves, begin-leaves}
 use Rattle.eqaso.proofs.Closure.{Dues}
-use Rattle.eqaso.proofs.Cases.{raise-cases, receive-by, read-cases, write-cases}
-use Rattle.eqaso.proofs.Passes.{left}
-use Rattle.eqaso.proofs.MoveOn.{Last, Moves, message-leaves, begin-leaves}
 use Rattle.eqaso.proofs.Rising.{Orders, Marked, marked-up, Order, Young, Rising, longer, rising-forward}
 
 module _ (i : ℕ) where

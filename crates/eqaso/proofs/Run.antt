@@ -12,16 +12,16 @@ use Rattle.logs.proofs.Log.{placed}
 use Rattle.history.specs.Message.{Message}
 use Rattle.history.specs.Event.{Operation, Extent, cut, Event, stop}
 use Rattle.history.specs.Trace.{Seen, Trace, handler, tagsSent}
-use Rattle.eqaso.specs.Algorithm.{idle, still, beginStep, messageStep}
+use Rattle.algorithm.specs.Algorithm.{idle, still, beginStep, messageStep}
+use Rattle.algorithm.proofs.Cert.{Logs}
+use Rattle.algorithm.proofs.Sites.{Site, Sites, logs, new, handed, begun, Comes}
+use Rattle.algorithm.proofs.World.{Inv, start-inv, handed-inv, begun-inv}
 use Rattle.eqaso.specs.Cluster.{Cluster, Result, refuse, commit, start, after, halted, seen, trace, channels}
 use Rattle.eqaso.specs.Cluster.{entries, letOut}
-use Rattle.eqaso.proofs.Cert.{Logs}
 use Rattle.eqaso.proofs.Between.{handed-at}
 use Rattle.eqaso.proofs.Happened.{Handles, Happened, refusal, began, delivered, ceased, outcome}
 use Rattle.eqaso.proofs.Channel.{Fits, fits-start, fits-hand, fits-stop, stood}
 use Rattle.eqaso.proofs.Linked.{Linked, always-linked}
-use Rattle.eqaso.proofs.Sites.{Site, Sites, logs, new, handed, begun, Comes}
-use Rattle.eqaso.proofs.World.{Inv, start-inv, handed-inv, begun-inv}
 use Rattle.eqaso.proofs.Course.{Rests}
 use Rattle.eqaso.proofs.Book.{bookOf}
 use Rattle.eqaso.proofs.Told.{Told, told-start, told-none, told-act}

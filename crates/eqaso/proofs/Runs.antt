@@ -13,7 +13,7 @@ use Rattle.history.specs.Message.{Entry, absent}
 use Rattle.history.specs.Event.{update, scan, round1, none, done, shown, spent, direct, borrowed, Event, begin, deliver}
 use Rattle.history.specs.Event.{whole, cut, Answer, refused, accepted, Sent, sentTo}
 use Rattle.history.specs.Trace.{Trace}
-use Rattle.eqaso.specs.Algorithm.{same, limit, has, within, newest, table, kept, moveOn}
+use Rattle.algorithm.specs.Algorithm.{same, limit, has, within, newest, table, kept, moveOn}
 use Rattle.eqaso.specs.Cluster.{entries, roomy, event, traceFrom, trace}
 use Rattle.eqaso.specs.Claims.{sixteen}
 

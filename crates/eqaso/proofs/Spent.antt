@@ -7,12 +7,12 @@ use mathlib.Core.List.{[], append-nil}
 use Rattle.logs.specs.Log.{push}
 use Rattle.history.specs.Message.{View, Message}
 use Rattle.history.specs.Event.{Operation, update, scan, Rule, Ending, none, done, shown, spent}
-use Rattle.eqaso.specs.Algorithm.{limit, Wait, idle, reading, Node, Step, sending, ended, then-by, _then_}
-use Rattle.eqaso.specs.Algorithm.{waiting, quorum?, finish, readPass, writePass, comparePass, borrowPass, moveOn}
-use Rattle.eqaso.specs.Algorithm.{react, messageStep}
+use Rattle.algorithm.specs.Algorithm.{limit, Wait, idle, reading, Node, Step, sending, ended, then-by, _then_}
+use Rattle.algorithm.specs.Algorithm.{waiting, quorum?, finish, readPass, writePass, comparePass, borrowPass, moveOn}
+use Rattle.algorithm.specs.Algorithm.{react, messageStep}
+use Rattle.algorithm.proofs.Passes.{Claim, Final, On, react-open}
+use Rattle.algorithm.proofs.MoveOn.{Moves, message-leaves}
 use Rattle.eqaso.specs.Claims.{ReadLast, SpentLast}
-use Rattle.eqaso.proofs.Passes.{Claim, Final, On, react-open}
-use Rattle.eqaso.proofs.MoveOn.{Moves, message-leaves}
 use Rattle.eqaso.proofs.Course.{Reads}
 
 abbrev IsSpent : Ending → Type 0

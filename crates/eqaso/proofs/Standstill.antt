@@ -10,11 +10,11 @@ use Rattle.logs.proofs.Count.{count-mono}
 use Rattle.logs.specs.Log.{_∈_}
 use Rattle.history.specs.Message.{Value, View, Message, read, readAnswer, write, writeAnswer, value, good}
 use Rattle.history.specs.Order.{OneTo}
-use Rattle.eqaso.specs.Algorithm.{Wait, idle, reading, writing, comparing, borrowing, Node, waiting, agrees}
-use Rattle.eqaso.proofs.Cert.{Logs}
-use Rattle.eqaso.proofs.Local.{Took}
-use Rattle.eqaso.proofs.Meant.{Meant}
-use Rattle.eqaso.proofs.Sets.{or-right, and-of, within-of}
+use Rattle.algorithm.specs.Algorithm.{Wait, idle, reading, writing, comparing, borrowing, Node, waiting, agrees}
+use Rattle.algorithm.proofs.Cert.{Logs}
+use Rattle.algorithm.proofs.Local.{Took}
+use Rattle.algorithm.proofs.Meant.{Meant}
+use Rattle.algorithm.proofs.Sets.{or-right, and-of, within-of}
 use Rattle.eqaso.proofs.Rest.{Rests}
 use Rattle.eqaso.proofs.Live.{Live}
 

@@ -15,13 +15,13 @@ use Rattle.history.specs.Message.{Value, of, Message, value}
 use Rattle.history.specs.Event.{Operation, update, Round, round3, none, Extent, whole, cut}
 use Rattle.history.specs.Trace.{Trace, Begun, nothing, updating, scanning}
 use Rattle.history.specs.Order.{EndedBefore}
-use Rattle.eqaso.specs.Algorithm.{Wait, reading, writing, comparing, borrowing}
+use Rattle.algorithm.specs.Algorithm.{Wait, reading, writing, comparing, borrowing}
+use Rattle.algorithm.proofs.Cert.{Log, Logs}
+use Rattle.algorithm.proofs.Local.{Past, Own, Pending, Settled, Stage, Phase}
+use Rattle.algorithm.proofs.Sites.{Sites, logs}
+use Rattle.algorithm.proofs.World.{handed-ok}
 use Rattle.eqaso.specs.Cluster.{halted, given}
-use Rattle.eqaso.proofs.Cert.{Log, Logs}
-use Rattle.eqaso.proofs.Local.{Past, Own, Pending, Settled, Stage, Phase}
 use Rattle.eqaso.proofs.Front.{front, front-in}
-use Rattle.eqaso.proofs.Sites.{Sites, logs}
-use Rattle.eqaso.proofs.World.{handed-ok}
 use Rattle.eqaso.proofs.Course.{Reads, Staged, Opened, Only}
 use Rattle.eqaso.proofs.Act.{Passed}
 use Rattle.eqaso.proofs.Closure.{writer-sent}

@@ -9,9 +9,9 @@ use Rattle.history.specs.Message.{Message}
 use Rattle.history.specs.Event.{Extent}
 use Rattle.history.specs.Trace.{Seen, Trace, handler, letOutTo}
 use Rattle.history.specs.Order.{OneTo}
+use Rattle.algorithm.proofs.Cert.{Logs}
+use Rattle.algorithm.proofs.Meant.{Meant}
 use Rattle.eqaso.specs.Cluster.{entries, letOut}
-use Rattle.eqaso.proofs.Cert.{Logs}
-use Rattle.eqaso.proofs.Meant.{Meant}
 use Rattle.eqaso.proofs.Between.{Between, nothing-between, between-more, between-in}
 use Rattle.eqaso.proofs.Front.{front, front-is}
 use Rattle.eqaso.proofs.Snoc.{passed-own, passed-other, passed-none, letOutTo-snoc}

@@ -16,16 +16,16 @@ use Rattle.history.specs.Event.{Operation, Round, done, shown, spent}
 use Rattle.history.specs.Trace.{Begun, nothing, updating, scanning, Fate, unfinished, ended, entryAt}
 use Rattle.history.specs.Order.{OneTo, EndedBefore}
 use Rattle.history.specs.Views.{HasView, viewIn, Below, Comparable}
-use Rattle.eqaso.specs.Algorithm.{newest, table, viewUpto}
-use Rattle.eqaso.proofs.Cert.{Log, Logs, Inside, Cert, below, same}
-use Rattle.eqaso.proofs.Local.{Past, Settled, Due, Stage}
+use Rattle.algorithm.specs.Algorithm.{newest, table, viewUpto}
+use Rattle.algorithm.proofs.Cert.{Log, Logs, Inside, Cert, below, same}
+use Rattle.algorithm.proofs.Local.{Past, Settled, Due, Stage}
+use Rattle.algorithm.proofs.Outcome.{Final, Done}
 use Rattle.eqaso.proofs.Newest.{From, newest-from, newest-above}
 use Rattle.eqaso.proofs.Closure.{shows, inside-below}
 use Rattle.eqaso.proofs.Append.{getD-last}
 use Rattle.eqaso.proofs.Entries.{length-table}
 use Rattle.eqaso.proofs.Book.{Book}
 use Rattle.eqaso.proofs.Facts.{Place, Closed, Fit, Facts, TagDue, ViewDue, OwnDue}
-use Rattle.eqaso.proofs.Outcome.{Final, Done}
 use Rattle.eqaso.proofs.History.{Booked, Behind, Certified, Left, LeftIn}
 
 table-at : {A : Type 0} (g : ℕ → A) (n w : ℕ) (d : A) → OneTo n w → getD (table g n) (w - 1) d ≡ g w

@@ -9,7 +9,7 @@ use Rattle.history.specs.Message.{Value, Message, read, readAnswer, write, writ
 use Rattle.history.specs.Event.{Operation, Round, Event}
 use Rattle.history.specs.Trace.{Trace, letOutTo}
 use Rattle.history.specs.Order.{OneTo}
-use Rattle.eqaso.specs.Algorithm.{comparing, Node, messageStep}
+use Rattle.algorithm.specs.Algorithm.{comparing, Node, messageStep}
 use Rattle.eqaso.specs.Cluster.{start, after, trace}
 
 -- u is an earlier value of the writer of v, or v itself.

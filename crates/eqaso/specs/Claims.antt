@@ -9,8 +9,8 @@ use Rattle.logs.specs.Count.{count}
 use Rattle.history.specs.Message.{Message}
 use Rattle.history.specs.Event.{Operation, update, scan, none, spent, Event}
 use Rattle.history.specs.Order.{OneTo, SingleOrder, Quiet}
-use Rattle.eqaso.specs.Algorithm.{limit, Wait, idle, reading, writing, comparing, borrowing, Node, react}
-use Rattle.eqaso.specs.Algorithm.{messageStep, beginStep}
+use Rattle.algorithm.specs.Algorithm.{limit, Wait, idle, reading, writing, comparing, borrowing, Node, react}
+use Rattle.algorithm.specs.Algorithm.{messageStep, beginStep}
 use Rattle.eqaso.specs.Cluster.{atMost, unlimited, trace}
 
 -- f is the largest number with 2f < n.

@@ -10,12 +10,13 @@ use mathlib.Core.List.{List, [], _∷_, _++_}
 use lib.ListN.{length, take}
 use Rattle.logs.specs.Count.{count}
 use Rattle.logs.specs.Update.{upd, upd2}
-use Rattle.history.specs.Message.{Message, read, readAnswer, write, writeAnswer, echo, value, good}
+use Rattle.history.specs.Message.{Message}
 use Rattle.history.specs.Event.{Operation, Extent, whole, cut, Event, begin, deliver, stop, Ending, none, Answer}
 use Rattle.history.specs.Event.{refused, accepted, Sent, sentTo}
 use Rattle.history.specs.Trace.{Seen, Trace}
-use Rattle.eqaso.specs.Algorithm.{limit, table, Wait, idle, reading, writing, comparing, borrowing, Node, fresh}
-use Rattle.eqaso.specs.Algorithm.{Step, still, beginStep, messageStep}
+use Rattle.algorithm.specs.Address.{Address, one, all, address}
+use Rattle.algorithm.specs.Algorithm.{limit, table, Wait, idle, reading, writing, comparing, borrowing, Node, fresh}
+use Rattle.algorithm.specs.Algorithm.{Step, still, beginStep, messageStep}
 
 pub record Cluster : Type 0 where
   pub nodes : ℕ → Node
@@ -38,20 +39,6 @@ refuse k σ = record { cluster = σ; answer = refused k; sent = [] }
 -- A refusal stands on its condition: without what it demands the answer is its number, else it is what comes after.
 abbrev pub demand : {P : Type 0} → Dec P → ℕ → Cluster → Result → Result
 demand d k σ next = ite d next (refuse k σ)
-
--- Where a message goes: an answer to the node that asked, any other message to all.
-pub data Address : Type 0 where
-  one : (node : ℕ) → Address
-  all : Address
-
-abbrev pub address : Message → Address
-address (readAnswer to q t) = one to
-address (writeAnswer to q t) = one to
-address (read q) = all
-address (write q t) = all
-address (echo t) = all
-address (value v) = all
-address (good t v) = all
 
 -- The entries of a message: all are 1 to n in turn.
 abbrev pub entriesTo : ℕ → Message → Address → List Sent

@@ -15,7 +15,7 @@ use Rattle.wire.specs.declared.Message.the-variants.{Read, ReadAnswer, Write, W
 use Rattle.outgoing.specs.Entries.{Entry, entry, addressed, entriesOf, goTo}
 use Rattle.history.specs.Message as M
 use Rattle.history.specs.Event as H
-use Rattle.eqaso.specs.Algorithm as A
+use Rattle.algorithm.specs.Algorithm as A
 use Rattle.eqaso.specs.Cluster as K
 use Rattle.refine.specs.Meaning.{messageOf}
 use Rattle.mirror.specs.Mirrors.{mail}

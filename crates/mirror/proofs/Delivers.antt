@@ -32,9 +32,9 @@ use Rattle.events.specs.Event as E
 use Rattle.outgoing.specs.declared.Extent.{Extent}
 use Rattle.history.specs.Message as M
 use Rattle.history.specs.Order.{OneTo}
-use Rattle.eqaso.specs.Algorithm as A
+use Rattle.algorithm.specs.Algorithm as A
+use Rattle.algorithm.proofs.Sets.{and-both, not-true}
 use Rattle.eqaso.specs.Cluster as K
-use Rattle.eqaso.proofs.Sets.{and-both, not-true}
 use Rattle.eqaso.specs.Bounded.{BoundedNode}
 use Rattle.eqaso.specs.Bounded.{Expected}
 use Rattle.refine.specs.Meaning.{messageOf}

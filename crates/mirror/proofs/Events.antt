@@ -23,9 +23,9 @@ use Rattle.events.specs.Event as E
 use Rattle.outgoing.specs.declared.Extent.{Extent}
 use Rattle.outgoing.specs.declared.Extent.the-variants.{Whole, Cut}
 use Rattle.history.specs.Order.{OneTo}
-use Rattle.eqaso.specs.Algorithm as A
+use Rattle.algorithm.specs.Algorithm as A
+use Rattle.algorithm.proofs.Sets.{and-both}
 use Rattle.eqaso.specs.Cluster as K
-use Rattle.eqaso.proofs.Sets.{and-both}
 use Rattle.eqaso.specs.Bounded.{BoundedNode}
 use Rattle.refine.specs.Meaning.{operationOf}
 use Rattle.refine.specs.Follows.{Follows}

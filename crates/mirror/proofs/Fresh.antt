@@ -21,7 +21,7 @@ use Rattle.block.specs.Block.{blockSize, channelPlace, hasStopped, channelIn, k
 use Rattle.layout.specs.Layout.{clusterSize, blockPlace, stated, block, onBlock}
 use Rattle.events.specs.Event as E
 use Rattle.history.specs.Order.{OneTo}
-use Rattle.eqaso.specs.Algorithm as A
+use Rattle.algorithm.specs.Algorithm as A
 use Rattle.eqaso.specs.Cluster as K
 use Rattle.refine.proofs.Turned.{follows-fresh}
 use Rattle.mirror.specs.Mirrors.{meant, Says, Mirrors}

@@ -20,9 +20,9 @@ use Rattle.outgoing.specs.Outgoing.{letOut, roomAt, roomy}
 use Rattle.history.specs.Message as M
 use Rattle.history.specs.Event as H
 use Rattle.history.specs.Order.{OneTo}
-use Rattle.eqaso.specs.Algorithm as A
+use Rattle.algorithm.specs.Algorithm as A
+use Rattle.algorithm.proofs.Sets.{and-both}
 use Rattle.eqaso.specs.Cluster as K
-use Rattle.eqaso.proofs.Sets.{and-both}
 use Rattle.mirror.specs.Mirrors.{channelRoom, mail, Shows}
 use Rattle.mirror.proofs.Says.{says-count}
 use Rattle.mirror.proofs.Channels.{channel-stopped, channel-own, sent-here, channels-more, channels-none}

@@ -11,7 +11,7 @@ use Rattle.step.specs.declared.Ending.{Ending}
 use Rattle.events.specs.Event.{Result}
 use Rattle.history.specs.Message as M
 use Rattle.history.specs.Event as H
-use Rattle.eqaso.specs.Algorithm as A
+use Rattle.algorithm.specs.Algorithm as A
 use Rattle.eqaso.specs.Cluster as K
 use Rattle.mirror.specs.SameResult.{answerOf, SameResult}
 use Rattle.mirror.specs.Run.{inRun, ComesUp}

@@ -31,7 +31,7 @@ use Rattle.history.specs.Message as M
 use Rattle.history.specs.Event as H
 use Rattle.history.specs.Trace.{stopped, letOutTo, handedOver, waits}
 use Rattle.history.specs.Order.{OneTo}
-use Rattle.eqaso.specs.Algorithm.{same, limit, table, has, newest, highest, latest, fresh, moveOn}
+use Rattle.algorithm.specs.Algorithm.{same, limit, table, has, newest, highest, latest, fresh, moveOn}
 use Rattle.eqaso.specs.Cluster as K
 use Rattle.eqaso.specs.Cluster.{traceFrom, trace}
 use Rattle.refine.proofs.Turned.{follows-fresh}

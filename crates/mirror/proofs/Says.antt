@@ -21,7 +21,7 @@ use Rattle.region.proofs.Waiting.{waiting-push, waiting-pop, length-waiting, le
 use Rattle.block.specs.Block.{blockSize, hasStopped, channelIn, recordSound, onChannel, keep, takeOff, receive, halt}
 use Rattle.history.specs.Message as M
 use Rattle.history.specs.Order.{OneTo}
-use Rattle.eqaso.specs.Algorithm as A
+use Rattle.algorithm.specs.Algorithm as A
 use Rattle.refine.specs.Follows.{Follows, Sized as SizedView}
 use Rattle.mirror.specs.Mirrors.{meant, Says}
 use Rattle.block.proofs.Changes.{channel-length, channel-flag, channel-record, channel-same, channel-other}

@@ -23,7 +23,7 @@ use Rattle.outgoing.specs.declared.Extent.{Extent}
 use Rattle.outgoing.specs.declared.Extent.the-variants.{Whole, Cut}
 use Rattle.history.specs.Message as M
 use Rattle.history.specs.Order.{OneTo}
-use Rattle.eqaso.specs.Algorithm as A
+use Rattle.algorithm.specs.Algorithm as A
 use Rattle.eqaso.specs.Cluster as K
 use Rattle.refine.specs.Meaning.{messageOf}
 use Rattle.refine.specs.Follows.{Follows}

@@ -17,7 +17,7 @@ use Rattle.layout.specs.Layout.{onBlock}
 use Rattle.history.specs.Message as M
 use Rattle.history.specs.Event as H
 use Rattle.history.specs.Order.{OneTo}
-use Rattle.eqaso.specs.Algorithm as A
+use Rattle.algorithm.specs.Algorithm as A
 use Rattle.eqaso.specs.Cluster as K
 use Rattle.mirror.specs.Mirrors.{Shows, Mirrors}
 use Rattle.mirror.proofs.Channels.{channel-stopped, channels-none, emptied, emptied-gone, channels-emptied}

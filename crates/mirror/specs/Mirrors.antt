@@ -21,7 +21,7 @@ use Rattle.history.specs.Message as M
 use Rattle.history.specs.Event as H
 use Rattle.history.specs.Event.{Sent}
 use Rattle.history.specs.Order.{OneTo}
-use Rattle.eqaso.specs.Algorithm as A
+use Rattle.algorithm.specs.Algorithm as A
 use Rattle.eqaso.specs.Cluster as K
 use Rattle.eqaso.specs.Cluster.{Cluster}
 use Rattle.refine.specs.Meaning.{messageOf}

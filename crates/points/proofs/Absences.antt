@@ -18,7 +18,7 @@ use Rattle.history.specs.Message.{Entry, absent}
 use Rattle.history.specs.Event as H
 use Rattle.history.specs.Trace as T
 use Rattle.history.specs.Order.{OneTo, Finished, IsScan, EndsInKind, SingleOrder, ClosedBy}
-use Rattle.eqaso.specs.Algorithm as A
+use Rattle.algorithm.specs.Algorithm as A
 use Rattle.eqaso.specs.Cluster as K
 use Rattle.eqaso.proofs.Corollary.{scan-without-updates}
 use Rattle.refine.specs.Follows.{Follows}

@@ -15,7 +15,7 @@ use Rattle.events.specs.Event.{Result, fresh}
 use Rattle.history.specs.Event.{sentTo}
 use Rattle.history.specs.Trace as T
 use Rattle.history.specs.Order.{OneTo, Finished}
-use Rattle.eqaso.specs.Algorithm.{same, limit, has, within, newest, table, kept, moveOn}
+use Rattle.algorithm.specs.Algorithm.{same, limit, has, within, newest, table, kept, moveOn}
 use Rattle.eqaso.specs.Cluster as K
 use Rattle.eqaso.specs.Cluster.{entries, roomy, event}
 use Rattle.mirror.specs.Mirrors.{channelRoom}

@@ -29,8 +29,8 @@ use Rattle.history.specs.Message.{Entry, absent, read}
 use Rattle.history.specs.Event as H
 use Rattle.history.specs.Trace as T
 use Rattle.history.specs.Order.{OneTo, Finished}
-use Rattle.eqaso.specs.Algorithm as A
-use Rattle.eqaso.specs.Algorithm.{same}
+use Rattle.algorithm.specs.Algorithm as A
+use Rattle.algorithm.specs.Algorithm.{same}
 use Rattle.eqaso.specs.Cluster as K
 use Rattle.mirror.specs.Mirrors.{channelRoom}
 use Rattle.mirror.specs.Run as R

@@ -25,7 +25,7 @@ use Rattle.events.specs.Stop.{stopIn, stop}
 use Rattle.events.proofs.Admitted.{is-stopped, is-admitted, stop-refused, stop-is, stop-many, stop-halts}
 use Rattle.history.specs.Event as H
 use Rattle.history.specs.Order.{OneTo}
-use Rattle.eqaso.specs.Algorithm as A
+use Rattle.algorithm.specs.Algorithm as A
 use Rattle.eqaso.specs.Cluster as K
 use Rattle.mirror.specs.Mirrors.{Mirrors}
 use Rattle.mirror.specs.Run.{after}

@@ -12,7 +12,7 @@ use Rattle.table.specs.Quorum.{agrees, agreeing, isQuorum}
 use Rattle.table.proofs.Laws.{all-at, all-all}
 use Rattle.record.specs.declared.Node.{Node}
 use Rattle.history.specs.Order.{OneTo}
-use Rattle.eqaso.specs.Algorithm as A
+use Rattle.algorithm.specs.Algorithm as A
 use Rattle.eqaso.proofs.Bounded.{BoundedNode, Covers, agrees-by-tags}
 use Rattle.refine.specs.Follows.{Holds, Follows}
 use Rattle.refine.proofs.Choice.{Tells, same-bool}

@@ -13,7 +13,7 @@ use Rattle.record.specs.declared.Wait.{Wait}
 use Rattle.record.specs.declared.Wait.the-variants.{Writing}
 use Rattle.step.specs.React.{readWait, writeWait}
 use Rattle.history.specs.Order.{OneTo}
-use Rattle.eqaso.specs.Algorithm as A
+use Rattle.algorithm.specs.Algorithm as A
 use Rattle.refine.specs.Meaning.{kindOf, number}
 use Rattle.refine.specs.Follows.{SameWait, HoldsRound, Follows}
 use Rattle.refine.proofs.Choice.{split, Tells, eq-tells, same-side, same-test}

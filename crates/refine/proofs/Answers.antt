@@ -18,8 +18,8 @@ use Rattle.step.specs.declared.Sent.the-variants.{One, Two}
 use Rattle.step.specs.declared.Step.{Step}
 use Rattle.step.specs.Move.{writing, afterRead, readPass, writePass, reads, writes}
 use Rattle.history.specs.Event as H
-use Rattle.eqaso.specs.Algorithm as A
-use Rattle.eqaso.specs.Algorithm.{_then_}
+use Rattle.algorithm.specs.Algorithm as A
+use Rattle.algorithm.specs.Algorithm.{_then_}
 use Rattle.refine.specs.Meaning.{operationOf}
 use Rattle.refine.specs.Follows.{SameNodes, SameWait, HoldsRound, Follows}
 use Rattle.refine.proofs.Choice.{Tells, eq-tells, same-side}

@@ -24,8 +24,8 @@ use Rattle.step.specs.Move.{opened, writing, heldView, lentView, afterGood, aft
 use Rattle.step.specs.Move.{compares, borrows}
 use Rattle.history.specs.Message as M
 use Rattle.history.specs.Event as H
-use Rattle.eqaso.specs.Algorithm as A
-use Rattle.eqaso.specs.Algorithm.{_then_}
+use Rattle.algorithm.specs.Algorithm as A
+use Rattle.algorithm.specs.Algorithm.{_then_}
 use Rattle.eqaso.specs.Bounded.{BoundedNode}
 use Rattle.refine.specs.Meaning.{viewOf, kindOf, number, ruleOf, endingOf}
 use Rattle.refine.specs.Follows.{SameWait, Holds, HoldsRound, Follows}

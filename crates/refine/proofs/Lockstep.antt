@@ -14,8 +14,8 @@ use Rattle.step.specs.declared.Step.{Step}
 use Rattle.step.specs.Step.{listed}
 use Rattle.history.specs.Message as M
 use Rattle.history.specs.Event as H
-use Rattle.eqaso.specs.Algorithm as A
-use Rattle.eqaso.specs.Algorithm.{_then_}
+use Rattle.algorithm.specs.Algorithm as A
+use Rattle.algorithm.specs.Algorithm.{_then_}
 use Rattle.eqaso.specs.Bounded.{BoundedNode}
 use Rattle.refine.specs.Meaning.{messageOf, sentOf, endingOf}
 use Rattle.refine.specs.Follows.{SameWait, Follows}

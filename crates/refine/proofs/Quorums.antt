@@ -11,7 +11,7 @@ use Rattle.table.specs.Loop.{count}
 use Rattle.table.specs.Quorum.{member, with, size, isQuorum}
 use Rattle.table.proofs.Sets.{member-none, member-same, member-other}
 use Rattle.history.specs.Order.{OneTo}
-use Rattle.eqaso.specs.Algorithm.{Nodes, nobody}
+use Rattle.algorithm.specs.Algorithm.{Nodes, nobody}
 use Rattle.refine.specs.Follows.{SameNodes}
 use Rattle.refine.proofs.Choice.{Tells, le-tells}
 

@@ -12,8 +12,8 @@ use Rattle.octets.specs.Test.{pick}
 use Rattle.view.specs.Size.{nodes}
 use Rattle.record.specs.declared.Node.{Node}
 use Rattle.step.specs.React.{raised, keep}
-use Rattle.eqaso.specs.Algorithm as A
-use Rattle.eqaso.specs.Node.{topping}
+use Rattle.algorithm.specs.Algorithm as A
+use Rattle.algorithm.specs.Node.{topping}
 use Rattle.eqaso.specs.Bounded.{BoundedNode}
 use Rattle.refine.specs.Meaning.{viewOf}
 use Rattle.refine.specs.Follows.{Sized, Follows}

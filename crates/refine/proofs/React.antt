@@ -23,10 +23,10 @@ use Rattle.step.specs.Step.{started}
 use Rattle.step.specs.React.{react, raised, isNew, received}
 use Rattle.history.specs.Message as M
 use Rattle.history.specs.Order.{OneTo}
-use Rattle.eqaso.specs.Algorithm as A
-use Rattle.eqaso.specs.Algorithm.{_then_}
-use Rattle.eqaso.specs.Node.{topping, holding}
-use Rattle.eqaso.proofs.Sets.{has-to, has-of}
+use Rattle.algorithm.specs.Algorithm as A
+use Rattle.algorithm.specs.Algorithm.{_then_}
+use Rattle.algorithm.specs.Node.{topping, holding}
+use Rattle.algorithm.proofs.Sets.{has-to, has-of}
 use Rattle.eqaso.specs.Bounded.{BoundedNode}
 use Rattle.eqaso.specs.Bounded.{Expected}
 use Rattle.eqaso.proofs.BoundedStep.{reacts}

@@ -23,9 +23,9 @@ use Rattle.record.specs.Usable.{stale}
 use Rattle.step.specs.React.{received, isNew, roundHolds}
 use Rattle.history.specs.Message as M
 use Rattle.history.specs.Order.{OneTo}
-use Rattle.eqaso.specs.Algorithm as A
-use Rattle.eqaso.specs.Node.{holding}
-use Rattle.eqaso.specs.Node.{latest}
+use Rattle.algorithm.specs.Algorithm as A
+use Rattle.algorithm.specs.Node.{holding}
+use Rattle.algorithm.specs.Node.{latest}
 use Rattle.eqaso.proofs.Newest.{newest-other, latest-other}
 use Rattle.eqaso.proofs.Bounded.{Arrives, seen-by-tag, not-below, not-ahead, heard-then, last-then, held-then}
 use Rattle.refine.specs.Meaning.{code, entryOf}

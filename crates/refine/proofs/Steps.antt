@@ -16,7 +16,7 @@ use Rattle.step.specs.declared.Step.{Step}
 use Rattle.step.specs.Move.{moveOn, messageStep, begun, beginStep}
 use Rattle.history.specs.Message as M
 use Rattle.history.specs.Order.{OneTo}
-use Rattle.eqaso.specs.Algorithm as A
+use Rattle.algorithm.specs.Algorithm as A
 use Rattle.eqaso.specs.Cluster.{isIdle}
 use Rattle.eqaso.specs.Bounded.{BoundedNode}
 use Rattle.eqaso.specs.Bounded.{Expected}

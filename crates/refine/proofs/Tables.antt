@@ -19,7 +19,7 @@ use Rattle.table.proofs.Laws.{length-tab}
 use Rattle.table.proofs.Entries.{newest-tag, newest-report, put-tag, put-report, put-tag-other, put-report-other}
 use Rattle.history.specs.Message as M
 use Rattle.history.specs.Order.{OneTo}
-use Rattle.eqaso.specs.Algorithm as A
+use Rattle.algorithm.specs.Algorithm as A
 use Rattle.refine.specs.Meaning.{code, entryOf, viewOf}
 use Rattle.refine.specs.Follows.{Sized, Holds}
 

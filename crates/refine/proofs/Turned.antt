@@ -15,7 +15,7 @@ use Rattle.record.specs.declared.Wait.the-variants.{Idle}
 use Rattle.step.specs.Move.{opened}
 use Rattle.history.specs.Message as M
 use Rattle.history.specs.Event as H
-use Rattle.eqaso.specs.Algorithm as A
+use Rattle.algorithm.specs.Algorithm as A
 use Rattle.eqaso.proofs.Bounded.{BoundedNode, newest-by-two}
 use Rattle.refine.specs.Meaning.{entryOf, kindOf, number}
 use Rattle.refine.specs.Follows.{SameWait, Sized, Holds, HoldsRound, Follows}

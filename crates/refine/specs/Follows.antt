@@ -16,8 +16,8 @@ use Rattle.record.specs.declared.Wait.the-variants.{Idle, Reading, Writing, Com
 use Rattle.history.specs.Message as M
 use Rattle.history.specs.Event as H
 use Rattle.history.specs.Order.{OneTo}
-use Rattle.eqaso.specs.Algorithm as A
-use Rattle.eqaso.specs.Node.{latest}
+use Rattle.algorithm.specs.Algorithm as A
+use Rattle.algorithm.specs.Node.{latest}
 use Rattle.refine.specs.Meaning.{entryOf, viewOf, operationOf, kindOf, number}
 
 -- The senders counted, as a test and as a number.

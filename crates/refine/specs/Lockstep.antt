@@ -3,7 +3,7 @@
 use Prim.Native.Nat.{ℕ}
 use mathlib.Core.Path.{_≡_}
 use Rattle.step.specs.declared.Step.{Step}
-use Rattle.eqaso.specs.Algorithm as A
+use Rattle.algorithm.specs.Algorithm as A
 use Rattle.refine.specs.Meaning.{sentOf, endingOf}
 use Rattle.refine.specs.Follows.{Follows}
 

@@ -20,7 +20,7 @@ use Rattle.step.specs.declared.Ending.the-variants.{None, Done, Scan as Scanned
 use Rattle.step.specs.Step.{messages}
 use Rattle.history.specs.Message as M
 use Rattle.history.specs.Event as H
-use Rattle.eqaso.specs.Algorithm as A
+use Rattle.algorithm.specs.Algorithm as A
 
 abbrev pub code : Report → ℕ
 code p = reportNumber p

@@ -1,6 +1,5 @@
 -- A piece is read byte by byte: what one byte more does, and how the buffer fills, within the room for its bytes.
 use Prim.Native.Nat.{ℕ, _+_, _*_, _<_, _≤_, min}
-use mathlib.Core.Bool.{Bool, true, false}
 use mathlib.Core.Path.{_≡_, refl, sym, ap, subst, _∙_}
 use mathlib.Core.List.{List, [], _∷_, _++_, append-assoc, append-nil}
 use native.Mathlib.Nat.{zero-add, lt-of-not-le}
@@ -8,25 +7,14 @@ use native.Mathlib.Numerals.{add-one}
 use native.Mathlib.Decide.{decLe}
 use native.Mathlib.Omega.{arith}
 use lib.ListN.{length, take, getD, length-append}
-use lib.Dec.{eqb}
 use lib.Seq.{take-all, take-suc}
-use Rattle.octets.specs.Test.{pick}
 use Rattle.octets.specs.Bytes.{put}
 use Rattle.octets.proofs.Put.{put-nil, put-then}
 use Rattle.answers.specs.Answer.{room}
-use Rattle.input.specs.Input.{feed}
 use Rattle.session_progress.specs.declared.Progress.{Progress}
-use Rattle.session_memory.proofs.Short.{told-short}
-use Rattle.session.specs.Turn.{Turned, ended, kept, behind, stepped, turned}
-
--- what a byte prints fits in a line's room
-step-short : (p : Progress) (x : ℕ) (m : List ℕ) → length (stepped p x m .text) ≤ room
-unfolding stepped
-step-short p x m = cases (eqb x feed)
-  where
-    cases : (b : Bool) → length (pick b (ended p m) (kept p x m) .text) ≤ room
-    cases true = told-short (p .stage) (p .carry) m
-    cases false = omega arith
+use Rattle.session_byte.specs.Byte.{Turned, stepped}
+use Rattle.session_byte.proofs.Short.{step-short}
+use Rattle.session.specs.Turn.{behind, turned}
 
 -- a byte after what bytes did
 abbrev pub then : Turned → ℕ → Turned

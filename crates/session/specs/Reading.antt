@@ -5,7 +5,7 @@ use Prim.Native.Nat.{ℕ}
 use mathlib.Core.Path.{_≡_}
 use mathlib.Core.List.{List, [], _++_}
 use lib.ListN.{length}
-use Rattle.session_memory.specs.Memory.{memorySize}
+use Rattle.session_byte.specs.Memory.{memorySize}
 use Rattle.session_progress.specs.Progress.{begun}
 use Rattle.session_progress.specs.declared.Progress.{Progress}
 use Rattle.session.specs.Turn.{turned}

@@ -1,56 +1,21 @@
 // A session: a text of lines that run a cluster in lent memory, and what is printed for them. The text comes in pieces
 // of any sizes, and what is kept between them has a fixed size. The definitions are in specs/.
 use octets::least;
-pub use session_memory::MEMORY;
-use session_memory::pass;
+pub use session_byte::MEMORY;
+use session_byte::step;
 pub use session_progress::PIECE;
 pub use session_progress::Progress;
 pub use session_progress::TEXT;
+pub use session_progress::Turn;
 pub use session_progress::finish;
 pub use session_progress::is_over;
 pub use session_progress::start;
 ghost use mathlib.Core.Path.{_≡_};
-ghost use Prim.Native.Nat.{_+_, _≤_};
+ghost use Prim.Native.Nat.{_≤_};
 ghost use lib.ListN.{length, take};
 ghost use Rattle.octets.specs.Bytes.{put};
-ghost use Rattle.answers.specs.Answer.{room};
 ghost use Rattle.session_progress.specs.Progress.{pieceSize, textSize};
-ghost use Rattle.session.specs.Turn.{stepped, turned};
-
-// What bytes of the text did: what is kept then, and the place after what is printed.
-pub struct Turn {
-    pub progress: Progress,
-    pub end: usize,
-}
-
-// One byte of the text.
-fn step(m: &mut [u8; MEMORY], p: Progress, x: u8, out: &mut [u8; TEXT], at: usize) -> Turn
-    requires { ⌜ at + room ≤ textSize ⌝ }
-    ensures { λ r. ⌜ (r .progress ≡ stepped p x (now (m .entry)) .progress)
-        × (now (m .exit) ≡ stepped p x (now (m .entry)) .memory)
-        × (now (out .exit) ≡ put (now (out .entry)) at (stepped p x (now (m .entry)) .text))
-        × (r .end ≡ at + length (stepped p x (now (m .entry)) .text)) ⌝ }
-{
-    let stage = p.stage;
-    if x == 10 {
-        let t = pass(m, stage, p.carry, out, at);
-        let then = t.stage;
-        return Turn {
-            progress: Progress {
-                carry: input::none(),
-                stage: then,
-            },
-            end: t.end,
-        };
-    }
-    Turn {
-        progress: Progress {
-            carry: input::push(p.carry, x),
-            stage: stage,
-        },
-        end: at,
-    }
-}
+ghost use Rattle.session.specs.Turn.{turned};
 
 // Reads a piece of the text, the first `count` bytes of `piece` or all of them.
 fn read_bytes(

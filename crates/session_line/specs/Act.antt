@@ -3,7 +3,7 @@
 use Prim.Native.Nat.{ℕ}
 use mathlib.Core.List.{List}
 use Rattle.record.specs.declared.Operation.the-variants.{Update as UpdateOf, Scan as ScanOf}
-use Rattle.step.specs.Told.{Told, refusal, nothing, done, scan, spent, shown}
+use Rattle.step.specs.Told.{shown}
 use Rattle.layout.specs.Layout.{stated}
 use Rattle.outgoing.specs.declared.Extent.{Extent}
 use Rattle.outgoing.specs.declared.Extent.the-variants.{Whole, Cut}
@@ -14,9 +14,8 @@ use Rattle.lines.specs.declared.Extent.{Extent as Written}
 use Rattle.lines.specs.declared.Extent.the-variants.{Whole as WrittenWhole, Cut as WrittenCut}
 use Rattle.lines.specs.declared.Line.{Line}
 use Rattle.lines.specs.declared.Line.the-variants.{Update, Scan, Deliver, Stop, Bad}
-use Rattle.answers.specs.declared.Reply.{Reply}
-use Rattle.answers.specs.declared.Reply.the-variants.{Done as SayDone, Scan as SayScan, Spent as SaySpent, No, Nothing}
 use Rattle.answers.specs.Answer.{line}
+use Rattle.session_reply.specs.Reply.{handler, replyOf}
 
 abbrev pub extentOf : Written → Extent
 extentOf WrittenWhole = Whole
@@ -29,22 +28,6 @@ ran (Scan c x) b = begin c ScanOf (extentOf x) b
 ran (Deliver a c x) b = deliver a c (extentOf x) b
 ran (Stop c) b = stop c b
 ran Bad b = refuse 1 b
-
--- the node that handles it, and whose operation it may end: of a delivery the receiver
-abbrev pub handler : Line → ℕ
-handler (Update c p x) = c
-handler (Scan c x) = c
-handler (Deliver a c x) = c
-handler (Stop c) = c
-handler Bad = 0
-
--- what is said of it, by what it tells in document 01's terms: the ending at that node, or the refusal
-abbrev pub replyOf : ℕ → Told → Reply
-replyOf c (refusal k) = No k
-replyOf c nothing = Nothing
-replyOf c done = SayDone c
-replyOf c (scan v) = SayScan c
-replyOf c (spent k) = SaySpent c
 
 -- the bytes printed for event e: a scan's view with an entry for each node that the cluster's bytes state
 unfoldable pub printed : (e : ℕ) → Line → List ℕ → List ℕ

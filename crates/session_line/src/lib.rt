@@ -1,26 +1,21 @@
 // A line of a session, run on a lent cluster, and what is printed for it. The definition is in specs/.
 use answers::ROOM;
-use answers::Reply;
 use answers::put_line;
 use events::Answer;
-use events::Outcome;
 use layout::STATED_PLACE;
 use lines::Line;
 use record::Operation;
 use region::channel::index;
-use step::Ending;
-use view::View;
+use session_reply::handler;
+use session_reply::reply_at;
 ghost use mathlib.Core.Path.{_≡_};
 ghost use Prim.Native.Nat.{_+_, _≤_};
 ghost use lib.ListN.{length};
-ghost use Rattle.octets.specs.Answer.{result};
 ghost use Rattle.octets.specs.Bytes.{put};
 ghost use Rattle.answers.specs.Answer.{room};
-ghost use Rattle.step.specs.Told.{told as tellsOf};
 ghost use Rattle.layout.specs.Layout.{stated};
-ghost use Rattle.events.specs.Outcome.{tells, toldBy};
-ghost use Rattle.session_line.specs.Act.{extentOf, ran, replyOf, printed};
-ghost use Rattle.session_line.specs.Act.{handler as handlerOf};
+ghost use Rattle.events.specs.Outcome.{tells};
+ghost use Rattle.session_line.specs.Act.{extentOf, ran, printed};
 
 fn extent_of(x: lines::Extent) -> outgoing::Extent
     ensures { λ r. ⌜ r ≡ extentOf x ⌝ }
@@ -47,41 +42,6 @@ fn act(b: &mut [u8], l: Line) -> Answer
         Line::Deliver { from, to, extent } => { cluster::deliver(b, from, to, extent_of(extent)) }
         Line::Stop { node } => cluster::stop(b, node),
         Line::Bad => events::refused(1),
-    }
-}
-
-// The node that handles it.
-fn handler(l: Line) -> usize
-    ensures { λ r. ⌜ r ≡ handlerOf l ⌝ }
-{
-    match l {
-        Line::Update { node, .. } => node,
-        Line::Scan { node, .. } => node,
-        Line::Deliver { to, .. } => to,
-        Line::Stop { node } => node,
-        Line::Bad => 0,
-    }
-}
-
-// What is said of it, where c is that node.
-fn ending_at(c: usize, e: Ending) -> Reply
-    ensures { λ r. ⌜ ((v : View) → r ≡ replyOf c (tellsOf (result e) v)) ⌝ }
-{
-    match e {
-        Ending::None => Reply::Nothing,
-        Ending::Done(_) => Reply::Done(c),
-        Ending::Scan(_) => Reply::Scan(c),
-        Ending::Spent => Reply::Spent(c),
-    }
-}
-
-fn reply_at(c: usize, a: Answer) -> Reply
-    ensures { λ r. ⌜ r ≡ replyOf c (toldBy a) ⌝ }
-{
-    let outcome = a.outcome;
-    match outcome {
-        Outcome::Refused(k) => Reply::No(k as usize),
-        Outcome::Accepted(e) => ending_at(c, e),
     }
 }
 

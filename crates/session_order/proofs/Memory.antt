@@ -10,7 +10,7 @@ use Rattle.octets.proofs.Test.{both-true}
 use Rattle.octets.proofs.Put.{length-part, length-put, part-same}
 use Rattle.view.specs.Size.{nodes}
 use Rattle.layout.specs.Layout.{clusterSize, size}
-use Rattle.session_memory.specs.Memory.{memorySize, lent, cluster, onCluster}
+use Rattle.session_byte.specs.Memory.{memorySize, lent, cluster, onCluster}
 
 size-is : (n : ℕ) → 1 ≤ n → n ≤ 5 → size n ≡ clusterSize n
 unfolding size

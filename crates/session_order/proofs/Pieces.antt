@@ -15,8 +15,9 @@ use Rattle.input.proofs.Kept.{push-carry}
 use Rattle.input.proofs.Pieces.{lines-line, rest-line, lines-byte, rest-byte}
 use Rattle.session_progress.specs.Progress.{begun}
 use Rattle.session_progress.specs.declared.Progress.{Progress}
-use Rattle.session_memory.specs.Memory.{memorySize}
-use Rattle.session.specs.Turn.{Turned, ended, kept, stepped, turned}
+use Rattle.session_byte.specs.Memory.{memorySize}
+use Rattle.session_byte.specs.Byte.{Turned, ended, kept, stepped}
+use Rattle.session.specs.Turn.{turned}
 use Rattle.session.specs.Reading.{Reading, begins, takes}
 use Rattle.session_order.proofs.Stands.{Stands, first, stands-more}
 

@@ -26,7 +26,7 @@ use Rattle.input.specs.Input.{linesFrom, restFrom, joined}
 use Rattle.answers.specs.Answer.{line}
 use Rattle.history.specs.Event as H
 use Rattle.history.specs.Trace.{Trace}
-use Rattle.eqaso.specs.Algorithm.{limit, table, moveOn}
+use Rattle.algorithm.specs.Algorithm.{limit, table, moveOn}
 use Rattle.eqaso.specs.Cluster as K
 use Rattle.eqaso.specs.Cluster.{trace}
 use Rattle.mirror.specs.Mirrors.{channelRoom}
@@ -34,7 +34,7 @@ use Rattle.mirror.specs.Run as R
 use Rattle.mirror.proofs.Demand2.{demand2}
 use Rattle.session_progress.specs.Progress.{badLine, begun, finished}
 use Rattle.session_progress.specs.declared.Progress.{Progress}
-use Rattle.session_memory.specs.Memory.{memorySize, cluster}
+use Rattle.session_byte.specs.Memory.{memorySize, cluster}
 use Rattle.session.specs.Text.{nodesIn, eventsIn, printedBy, freshOf, clusterAfter, output}
 use Rattle.session.specs.Reading.{Reading, begins, takes}
 use Rattle.session_order.specs.Lines.{Lines, bad, event}
@@ -71,11 +71,16 @@ bad-some : (e : ℕ) → 1 ≤ length (badLine e)
 unfolding line
 bad-some e = simp length-append (omega arith)
 
-abbrev memory : List ℕ
+-- lent memory, by name: so long a list is not computed
+memory : List ℕ
 memory = replicate memorySize 0
 
+long-memory : length memory ≡ memorySize
+unfolding memory
+long-memory = length-replicate {A = ℕ} memorySize 0
+
 reading : Reading [] begun memory []
-reading = begins (length-replicate {A = ℕ} memorySize 0)
+reading = begins long-memory
 
 -- It prints a line feed before all else.
 abbrev early : Program

@@ -23,7 +23,7 @@ use Rattle.history.specs.Event.{none, done, shown, spent}
 use Rattle.history.specs.Trace.{Seen, firstEnding}
 use Rattle.history.specs.Order.{SingleOrder, Quiet}
 use Rattle.history.proofs.RuledOutOpen.{open-scan-out}
-use Rattle.eqaso.specs.Algorithm.{same, limit, table, moveOn, has, within, newest, kept}
+use Rattle.algorithm.specs.Algorithm.{same, limit, table, moveOn, has, within, newest, kept}
 use Rattle.eqaso.specs.Cluster as K
 use Rattle.eqaso.specs.Cluster.{traceFrom, trace}
 use Rattle.mirror.specs.Mirrors.{channelRoom}

@@ -24,7 +24,7 @@ use Rattle.session_progress.specs.Progress.{badLine, endedAt, finished, isOver}
 use Rattle.session_progress.specs.declared.Stage.{Stage}
 use Rattle.session_progress.specs.declared.Progress.{Progress}
 use Rattle.session_line.specs.Act.{printed}
-use Rattle.session_memory.specs.Memory.{cluster}
+use Rattle.session_byte.specs.Memory.{cluster}
 use Rattle.session.specs.Text.{nodesFirst, nodesIn, eventsAfter, unended, eventsIn, leftBy, printedBy, freshOf}
 use Rattle.session.specs.Text.{output}
 use Rattle.session.specs.Reading.{Reading}

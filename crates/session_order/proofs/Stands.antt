@@ -22,7 +22,7 @@ use Rattle.session_progress.specs.Progress.{next, badLine}
 use Rattle.session_progress.specs.declared.Stage.{Stage}
 use Rattle.session_progress.specs.declared.Stage.the-variants.{First, Events, Over}
 use Rattle.session_line.specs.Act.{ran}
-use Rattle.session_memory.specs.Memory.{Told, memorySize, lent, cluster, opened, acted, told}
+use Rattle.session_byte.specs.Memory.{Told, memorySize, lent, cluster, opened, acted, told}
 use Rattle.session.specs.Text.{leftBy, printedBy, freshOf}
 use Rattle.session_order.proofs.Memory.{lent-is, length-cluster, cluster-on, length-on}
 use Rattle.session_order.proofs.Folds.{counted, counted-more, left-more, printed-more, fresh-is, left-long}

@@ -12,7 +12,8 @@ use Rattle.history.specs.Event as H
 use Rattle.history.specs.Trace.{Seen, Trace}
 use Rattle.mirror.specs.Run.{Event, begin, deliver, stop, meaning}
 use Rattle.session_progress.specs.Progress.{next, badLine}
-use Rattle.session_line.specs.Act.{extentOf, handler}
+use Rattle.session_reply.specs.Reply.{handler}
+use Rattle.session_line.specs.Act.{extentOf}
 
 -- The events of a cluster that lines are; a bad line is none.
 abbrev pub eventsOf : List Line → List Event

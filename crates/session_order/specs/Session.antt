@@ -10,7 +10,7 @@ use Rattle.history.specs.Order.{SingleOrder, Quiet}
 use Rattle.mirror.specs.Run.{Event, after, traceFrom}
 use Rattle.session_progress.specs.Progress.{finished, isOver}
 use Rattle.session_progress.specs.declared.Progress.{Progress}
-use Rattle.session_memory.specs.Memory.{cluster}
+use Rattle.session_byte.specs.Memory.{cluster}
 use Rattle.session.specs.Text.{nodesIn, eventsIn, freshOf, clusterAfter, output}
 use Rattle.session.specs.Reading.{Reading}
 use Rattle.session_order.specs.Lines.{eventsOf, Lines}

@@ -32,6 +32,12 @@ pub struct Progress {
     pub stage: Stage,
 }
 
+// What bytes of the text did: what is kept then, and the place after what is printed.
+pub struct Turn {
+    pub progress: Progress,
+    pub end: usize,
+}
+
 // The number after an event's: the greatest number has none.
 pub fn next(e: u64) -> u64
     ensures { λ r. ⌜ r ≡ nextOf e ⌝ }

@@ -15,7 +15,8 @@ use Rattle.events.specs.Outcome.{said, tells, toldBy, toldOf}
 use Rattle.lines.specs.declared.Line.{Line}
 use Rattle.answers.specs.declared.Reply.{Reply}
 use Rattle.answers.specs.Answer.{line}
-use Rattle.session_line.specs.Act.{ran, handler, replyOf, printed}
+use Rattle.session_reply.specs.Reply.{handler, replyOf}
+use Rattle.session_line.specs.Act.{ran, printed}
 use Rattle.session_line.proofs.run_at.Statement.{statement}
 use Rattle.session_line.proofs.run_at.Tie as tie
 

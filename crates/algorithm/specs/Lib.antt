@@ -1,0 +1,3 @@
+pub mod Node
+pub mod Algorithm
+pub mod Address

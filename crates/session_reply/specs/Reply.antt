@@ -1,0 +1,23 @@
+-- What is said of a line of a session that is run.
+use Prim.Native.Nat.{ℕ}
+use Rattle.step.specs.Told.{Told, refusal, nothing, done, scan, spent}
+use Rattle.lines.specs.declared.Line.{Line}
+use Rattle.lines.specs.declared.Line.the-variants.{Update, Scan, Deliver, Stop, Bad}
+use Rattle.answers.specs.declared.Reply.{Reply}
+use Rattle.answers.specs.declared.Reply.the-variants.{Done as SayDone, Scan as SayScan, Spent as SaySpent, No, Nothing}
+
+-- the node that handles it, and whose operation it may end: of a delivery the receiver
+abbrev pub handler : Line → ℕ
+handler (Update c p x) = c
+handler (Scan c x) = c
+handler (Deliver a c x) = c
+handler (Stop c) = c
+handler Bad = 0
+
+-- what is said of it, by what it tells in document 01's terms: the ending at that node, or the refusal
+abbrev pub replyOf : ℕ → Told → Reply
+replyOf c (refusal k) = No k
+replyOf c nothing = Nothing
+replyOf c done = SayDone c
+replyOf c (scan v) = SayScan c
+replyOf c (spent k) = SaySpent c
