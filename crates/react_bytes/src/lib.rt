@@ -2,6 +2,11 @@
 // done where the record lies. Few bytes change in most events, so neither is the record read whole nor written whole.
 pub mod tables;
 
+use decide::read_wait;
+use decide::round_holds;
+use decide::sent_where;
+use decide::write_sent;
+use decide::write_wait;
 use octets::WORD;
 use octets::and;
 use octets::get_word;
@@ -25,11 +30,6 @@ use region::stored::with_kept;
 use region::stored::with_maxtag;
 use region::stored::with_wait;
 use step::Sent;
-use step::decide::read_wait;
-use step::decide::round_holds;
-use step::decide::sent_where;
-use step::decide::write_sent;
-use step::decide::write_wait;
 use tables::heard_in;
 use tables::newest_in;
 use tables::put_where;

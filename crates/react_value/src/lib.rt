@@ -1,5 +1,10 @@
 // The handlers of the seven kinds of message, on a record by value: what each does to it and sends, whatever the node
 // waits for.
+use decide::read_wait;
+use decide::round_holds;
+use decide::sent_where;
+use decide::write_sent;
+use decide::write_wait;
 use octets::and;
 use record::Node;
 use record::changes::waiting_node;
@@ -7,11 +12,6 @@ use step::Ending;
 use step::Outbox;
 use step::Sent;
 use step::Step;
-use step::decide::read_wait;
-use step::decide::round_holds;
-use step::decide::sent_where;
-use step::decide::write_sent;
-use step::decide::write_wait;
 use table::views::newest_view;
 use table::views::put_entry;
 use table::views::tag_of;

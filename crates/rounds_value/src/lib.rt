@@ -1,5 +1,7 @@
 // What a pass leads to where it moves the operation on, on a record by value: a round opens, the operation ends, or it
 // borrows.
+use decide::ending_of;
+use decide::next_tag;
 use record::Kind;
 use record::Node;
 use record::Operation;
@@ -11,8 +13,6 @@ use step::Outbox;
 use step::Rule;
 use step::Sent;
 use step::Step;
-use step::decide::ending_of;
-use step::decide::next_tag;
 use table::views::newest_view;
 use view::LIMIT;
 use view::View;

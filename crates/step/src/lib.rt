@@ -1,8 +1,6 @@
-// One step of a node: what it takes and answers, and what decides in it. The definitions in specs/ say what a step
-// does to a record by value; here are their theorems, and the decisions that the step by value (`react_value`,
-// `rounds_value`, `step_value`) and the step on a record's bytes share.
-pub mod decide;
-
+// One step of a node: what it answers. The definitions in specs/ say what a step does to a record by value, and proofs/
+// has their theorems. The code is in `decide`, in `react_value`, `rounds_value` and `step_value`, and on a record's bytes
+// in `react_bytes` and `step_bytes`.
 use record::Node;
 use view::View;
 use wire::Message;

@@ -1,6 +1,8 @@
 // What a pass leads to where it moves the operation on, on the record's bytes: a round opens, the operation ends, or it
 // borrows. Each answers with what the step gives; `sent` went to node `to` before.
 use crate::Effect;
+use decide::ending_of;
+use decide::next_tag;
 use octets::fill;
 use octets::get_word;
 use octets::put_bytes;
@@ -24,8 +26,6 @@ use step::Ending;
 use step::Outbox;
 use step::Rule;
 use step::Sent;
-use step::decide::ending_of;
-use step::decide::next_tag;
 use view::LIMIT;
 use view::VIEW;
 use view::View;

@@ -1,4 +1,5 @@
 // How the open operation moves on until it must wait: four passes, each tried once.
+use decide::ending_of;
 use record::Wait;
 use record::changes::closed_node;
 use record::changes::waiting_node;
@@ -8,7 +9,6 @@ use rounds_value::after_read;
 use rounds_value::ended_step;
 use step::Rule;
 use step::Step;
-use step::decide::ending_of;
 use table::larger;
 use table::quorum::agreeing_nodes;
 use table::quorum::is_quorum;

@@ -1,7 +1,7 @@
--- `step::decide::sent_where` meets its contract. Assumes nothing.
+-- `decide::sent_where` meets its contract. Assumes nothing.
 use borrow.Author.Needs.{needs}
-use Rattle.step.proofs.decide.sent_where.Statement.{statement}
-use Rattle.step.proofs.decide.sent_where.Tie as tie
+use Rattle.decide.proofs.sent_where.Statement.{statement}
+use Rattle.decide.proofs.sent_where.Tie as tie
 
 returns : tie.Need-returns
 returns c = simp (c .if1 .taken)

@@ -1,7 +1,7 @@
--- `step::decide::round_holds` meets its contract. Assumes nothing.
+-- `decide::round_holds` meets its contract. Assumes nothing.
 use borrow.Author.Needs.{needs}
-use Rattle.step.proofs.decide.round_holds.Statement.{statement}
-use Rattle.step.proofs.decide.round_holds.Tie as tie
+use Rattle.decide.proofs.round_holds.Statement.{statement}
+use Rattle.decide.proofs.round_holds.Tie as tie
 
 returns-3 : tie.Need-returns-3
 returns-3 c = rw (c .before .wait .given .1)

@@ -1,10 +1,10 @@
 // What decides in a step, on numbers and enums alone: which answers count, what an open round holds, what is sent, the
-// next round's tag, the ending. Both steps call these.
-use crate::Ending;
-use crate::Rule;
-use crate::Sent;
+// next round's tag, the ending. The step by value and the step on a record's bytes call these.
 use record::Kind;
 use record::Wait;
+use step::Ending;
+use step::Rule;
+use step::Sent;
 use table::larger;
 use table::quorum::is_member;
 use table::quorum::with_member;

@@ -1,7 +1,7 @@
--- `step::decide::ending_of` meets its contract. Assumes nothing.
+-- `decide::ending_of` meets its contract. Assumes nothing.
 use borrow.Author.Needs.{needs}
-use Rattle.step.proofs.decide.ending_of.Statement.{statement}
-use Rattle.step.proofs.decide.ending_of.Tie as tie
+use Rattle.decide.proofs.ending_of.Statement.{statement}
+use Rattle.decide.proofs.ending_of.Tie as tie
 
 returns : tie.Need-returns
 returns c = rw (c .enum-told .given .1)

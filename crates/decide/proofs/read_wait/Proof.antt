@@ -1,9 +1,9 @@
--- `step::decide::read_wait` meets its contract.
+-- `decide::read_wait` meets its contract.
 use borrow.Author.Needs.{needs}
 use mathlib.Core.Path.{sym, _∙_}
 use borrow.Author.Tests.{eq-eqb, ne-eqb}
-use Rattle.step.proofs.decide.read_wait.Statement.{statement}
-use Rattle.step.proofs.decide.read_wait.Tie as tie
+use Rattle.decide.proofs.read_wait.Statement.{statement}
+use Rattle.decide.proofs.read_wait.Tie as tie
 
 returns : tie.Need-returns
 returns c =

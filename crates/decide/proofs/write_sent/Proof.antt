@@ -1,6 +1,6 @@
--- `step::decide::write_sent` meets its contract. Assumes nothing.
-use Rattle.step.proofs.decide.write_sent.Statement.{statement}
-use Rattle.step.proofs.decide.write_sent.Tie as tie
+-- `decide::write_sent` meets its contract. Assumes nothing.
+use Rattle.decide.proofs.write_sent.Statement.{statement}
+use Rattle.decide.proofs.write_sent.Tie as tie
 
 returns : tie.Need-returns
 returns c = simp (c .if1 .taken)

@@ -1,8 +1,8 @@
--- `step::decide::next_tag` meets its contract. Assumes nothing.
+-- `decide::next_tag` meets its contract. Assumes nothing.
 use borrow.Author.Needs.{needs}
 use borrow.Author.Tests.{eq-eqb, ne-eqb}
-use Rattle.step.proofs.decide.next_tag.Statement.{statement}
-use Rattle.step.proofs.decide.next_tag.Tie as tie
+use Rattle.decide.proofs.next_tag.Statement.{statement}
+use Rattle.decide.proofs.next_tag.Tie as tie
 
 returns : tie.Need-returns
 returns c = simp (eq-eqb _ _ (c .before .if1 .taken), c .larger .ensures)
