@@ -10,24 +10,40 @@ use wire::Message;
 ghost use mathlib.Core.Path.{_≡_};
 ghost use Prim.Native.Nat.{ℕ, _-_, _≤_};
 ghost use lib.ListN.{length, take};
-ghost use Rattle.view.specs.Size.{viewSize, nodes};
+ghost use Rattle.view.specs.Size.{nodes};
 ghost use Rattle.view.specs.declared.View.{View};
 ghost use Rattle.step.specs.Step.{listed};
 ghost use Rattle.view.specs.View.{viewBytes};
 ghost use Rattle.wire.specs.Layout.{encode};
 ghost use Rattle.wire.specs.Codec.{answer, after};
+ghost use Rattle.wire.specs.declared.Message.the-variants.{Good};
 ghost use Rattle.region.specs.Channel.{slotSize};
 ghost use Rattle.outgoing.specs.Entries.{isAnswer, addressed, entriesOf, entries, goTo, slot};
 
-// Writes a message, with the view that a good message carries, at the front of s. The view's bytes go to w first.
-fn write_slot<'a>(n: usize, m: Message, v: View, w: &'a mut [u8], s: &'a mut [u8])
-    requires { ⌜ (n ≤ nodes) × (length (now w) ≡ viewSize nodes) × (length (now s) ≡ slotSize) ⌝ }
+// Writes a good message with its view at the front of s.
+fn write_held(n: usize, tag: u64, v: View, s: &mut [u8])
+    requires { ⌜ (n ≤ nodes) × (length (now s) ≡ slotSize) ⌝ }
+    ensures { λ _. ⌜ now (s .exit)
+        ≡ after (answer n (Good tag) (viewBytes n v) slotSize) (encode (Good tag) (viewBytes n v)) (now (s .entry)) ⌝ }
+{
+    let mut w = [0u8; VIEW];
+    view::write_view(n, v, &mut w);
+    let end = ENTRY * n;
+    wire_write::write_good(n, tag, &w[..end], s);
+}
+
+// Writes a message, with the view that a good message carries, at the front of s. No other needs the view's bytes.
+fn write_slot(n: usize, m: Message, v: View, s: &mut [u8])
+    requires { ⌜ (n ≤ nodes) × (length (now s) ≡ slotSize) ⌝ }
     ensures { λ _. ⌜ now (s .exit)
         ≡ after (answer n m (viewBytes n v) slotSize) (encode m (viewBytes n v)) (now (s .entry)) ⌝ }
 {
-    view::write_view(n, v, w);
-    let end = ENTRY * n;
-    wire_write::write(n, m, &w[..end], s);
+    match m {
+        Message::Good { tag } => write_held(n, tag, v, s),
+        _ => {
+            wire_write::write_short(n, m, s);
+        }
+    }
 }
 
 // The slot of a message.
@@ -35,9 +51,8 @@ pub fn slot_of(n: usize, m: Message, v: View) -> [u8; SLOT]
     requires { ⌜ n ≤ nodes ⌝ }
     ensures { λ r. ⌜ r ≡ slot n m v ⌝ }
 {
-    let mut w = [0u8; VIEW];
     let mut s = [0u8; SLOT];
-    write_slot(n, m, v, &mut w, &mut s);
+    write_slot(n, m, v, &mut s);
     s
 }
 

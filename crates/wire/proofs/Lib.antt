@@ -6,3 +6,4 @@ pub mod Laws
 pub mod Numbers
 pub mod RoundTrip
 pub mod Shape
+pub mod Short

@@ -1,12 +1,12 @@
 -- What an allowed message tells, and the length of its bytes.
 use Prim.Native.Nat.{ℕ, _≤_}
-use mathlib.Core.Path.{_≡_, refl}
-use mathlib.Core.Bool.{true}
-use mathlib.Core.List.{List}
+use mathlib.Core.Path.{_≡_, refl, ap}
+use mathlib.Core.Bool.{Bool, true, false}
+use mathlib.Core.List.{List, []}
 use lib.ListN.{length}
 use lib.Dec.{leb, eqb}
 use native.Mathlib.Omega.{arith}
-use borrow.Author.Tests.{leb-true, eqb-true}
+use borrow.Author.Tests.{leb-true, eqb-true, ne-eqb}
 use Rattle.octets.specs.Test.{both}
 use Rattle.octets.proofs.Test.{both-left, both-right}
 use Rattle.view.specs.Size.{isSize, nodes, viewSize}
@@ -28,6 +28,14 @@ pub view-length : (n t : ℕ) (v : List ℕ) → allowed n (Good t) v ≡ true �
 unfolding allowed
 view-length n t v h =
     eqb-true (length v) (viewSize n) (both-left (eqb (length v) (viewSize n)) (both (isTag t) (viewOk n t v)) h)
+
+-- no bytes are the view of one node or more
+pub view-some : (n t : ℕ) → isSize n ≡ true → allowed n (Good t) [] ≡ false
+unfolding allowed
+view-some n t h =
+    let l : 1 ≤ n = leb-true 1 n (both-left (leb 1 n) (leb n nodes) h) in
+    let e : 0 ≡ viewSize n → ⊥ = λ z. omega (arith, z) in
+    ap (λ (x : Bool). both x (both (isTag t) (viewOk n t []))) (ne-eqb 0 (viewSize n) e)
 
 -- the seven lengths
 pub length-encode : (n : ℕ) (m : Message) (v : List ℕ) → allowed n m v ≡ true → length (encode m v) ≡ size n m
