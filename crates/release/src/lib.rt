@@ -1,6 +1,6 @@
-// A step of a node written into the cluster's bytes: refusals 10 and 11 judged, then the record kept and its entries let
-// out. The begin of an operation and the delivery of a message settle apart, so that each is compiled where the copy of
-// the record is a local array, which is then written back in one move.
+// A step of a node written into the cluster's bytes: refusals 10 and 11 judged, then the record kept and its entries
+// let out. The begin of an operation and the delivery of a message settle apart, so that each is compiled where the copy
+// of the record is a local array, which is then written back in one move.
 mod judge;
 mod sending;
 

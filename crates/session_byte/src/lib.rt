@@ -1,5 +1,5 @@
-// One byte of a session's text. A line feed ends the line: the first line makes a fresh cluster in the session's memory,
-// and each other one runs on it. The definitions are in specs/.
+// One byte of a session's text. A line feed ends the line: the first line makes a fresh cluster in the session's
+// memory, and each other one runs on it. The definitions are in specs/.
 use block::BLOCK;
 use input::Carry;
 use layout::BLOCKS_PLACE;

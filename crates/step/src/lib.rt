@@ -1,6 +1,6 @@
 // One step of a node: what it answers. The definitions in specs/ say what a step does to a record by value, and proofs/
-// has their theorems. The code is in `decide`, in `react_value`, `rounds_value` and `step_value`, and on a record's bytes
-// in `react_bytes` and `step_bytes`.
+// has their theorems. The code is in `decide`, in `react_value`, `rounds_value` and `step_value`, and on a record's
+// bytes in `react_bytes` and `step_bytes`.
 use record::Node;
 use view::View;
 use wire::Message;
