@@ -14,7 +14,7 @@ use Rattle.logs.proofs.Log.{comparable, mem-up}
 use Rattle.history.specs.Message.{Value, View, value}
 use Rattle.history.specs.Event.{Operation, update, scan, round3, borrowed}
 use Rattle.algorithm.specs.Algorithm.{Wait, idle, reading, writing, comparing, borrowing, Good, Node, still}
-use Rattle.algorithm.specs.Algorithm.{ended, waiting, finish, kept, borrowPass}
+use Rattle.algorithm.specs.Algorithm.{ended, withWait, finish, kept, borrowPass}
 use Rattle.algorithm.proofs.Cert.{Log, Logs, Cert, carry, below}
 use Rattle.algorithm.proofs.Local.{Past, Own, Settled, Known, Spread, Stage, Local}
 use Rattle.algorithm.proofs.Grow.{upd-longer, settled-up}
@@ -34,7 +34,7 @@ module _ (n f : ℕ) (half : f + f < n) where
       G .W-all k v y (mem-up up (s .has k x)) low
 
   module _ {out : Logs} {γ : Past} {i r : ℕ} {l : Log} (ν : Node) {o : Operation} {t : ℕ} where
-    module _ {op : Operation} (c : Local n f out γ i r op (waiting (borrowing o t) ν) l) where
+    module _ {op : Operation} (c : Local n f out γ i r op (withWait (borrowing o t) ν) l) where
       stage : Stage n f out γ i r op l round3 t
       stage = c .phase .1
 
@@ -51,8 +51,9 @@ module _ (n f : ℕ) (half : f + f < n) where
             below half (omega arith) (carry (c .base-in) H) G;
       }
 
-    borrows : (op : Operation) → Local n f out γ i r op (waiting (borrowing o t) ν) l → (T : ℕ) (view : View) → t ≤ T
-        → (0 < T → Known n f out T view) → Fine n f out γ i r op l (ended (finish op borrowed view) [] (waiting idle ν))
+    borrows : (op : Operation) → Local n f out γ i r op (withWait (borrowing o t) ν) l → (T : ℕ) (view : View) → t ≤ T
+        → (0 < T → Known n f out T view)
+        → Fine n f out γ i r op l (ended (finish op borrowed view) [] (withWait idle ν))
     borrows scan c T view h k =
         let lt : r < t = stage c .rise in
         record {
@@ -77,15 +78,15 @@ module _ (n f : ℕ) (half : f + f < n) where
         }
 
   pub borrow-pass : {out : Logs} {γ : Past} {i r : ℕ} {op : Operation} {l : Log} (ν : Node) (w : Wait)
-      → Local n f out γ i r op (waiting w ν) l → Fine n f out γ i r op l (borrowPass n (waiting w ν) w)
+      → Local n f out γ i r op (withWait w ν) l → Fine n f out γ i r op l (borrowPass n (withWait w ν) w)
   borrow-pass ν idle c = fine-still n f c
   borrow-pass ν (reading o s u) c = fine-still n f c
   borrow-pass ν (writing o rnd t s) c = fine-still n f c
   borrow-pass ν (comparing o rnd t) c = fine-still n f c
   borrow-pass {out} {γ} {i} {r} {op} {l} ν (borrowing o t) c = elim (decLe t (g .tag))
       as (λ d. Fine n f out γ i r op l
-      (ite d (ended (finish o borrowed (g .view)) [] (waiting idle ν)) (still (waiting (borrowing o t) ν)))) [
-        | yes h ↦ subst (λ z. Fine n f out γ i r op l (ended (finish z borrowed (g .view)) [] (waiting idle ν)))
+      (ite d (ended (finish o borrowed (g .view)) [] (withWait idle ν)) (still (withWait (borrowing o t) ν)))) [
+        | yes h ↦ subst (λ z. Fine n f out γ i r op l (ended (finish z borrowed (g .view)) [] (withWait idle ν)))
             (sym (c .phase .0)) (borrows ν op c (g .tag) (g .view) h (λ e. c .known g (kept-in n (ν .goods) e)))
         | no h ↦ fine-still n f c
       ]

@@ -11,7 +11,7 @@ use Rattle.logs.specs.Log.{_∈_}
 use Rattle.history.specs.Message.{Value, echo, value}
 use Rattle.history.specs.Event.{Operation, Round}
 use Rattle.algorithm.specs.Algorithm.{Nodes, Wait, idle, reading, writing, comparing, borrowing, Node, Step}
-use Rattle.algorithm.specs.Algorithm.{still, sending, waiting, has, receive, raise, readAnswered, writeAnswered}
+use Rattle.algorithm.specs.Algorithm.{still, sending, withWait, has, receive, raise, readAnswered, writeAnswered}
 use Rattle.algorithm.specs.Node.{topping, holding}
 use Rattle.algorithm.proofs.Sets.{has-to, has-of}
 
@@ -67,10 +67,10 @@ WriteCounted k t (borrowing op u) = Unit {0}
 
 -- An answer changes nothing, and is counted if it should be; or it is counted now. P is known of the wait.
 module _ (P : Wait → Type 0) (Q : Node → Type 0) (k q t : ℕ) (ν : Node) where
-  pub read-cases : (w : Wait) → P w → ((q ≡ ν .request → ReadCounted k w) → Q (waiting w ν))
+  pub read-cases : (w : Wait) → P w → ((q ≡ ν .request → ReadCounted k w) → Q (withWait w ν))
       → ((op : Operation) (s : Nodes) (u : ℕ) → q ≡ ν .request → P (reading op s u)
-      → Q (waiting (reading op (upd s k true) (max u t)) ν))
-      → Q (readAnswered k q t (waiting w ν) w)
+      → Q (withWait (reading op (upd s k true) (max u t)) ν))
+      → Q (readAnswered k q t (withWait w ν) w)
   read-cases idle p stay count = stay (λ e. tt)
   read-cases (writing op r u s) p stay count = stay (λ e. tt)
   read-cases (comparing op r u) p stay count = stay (λ e. tt)
@@ -78,18 +78,18 @@ module _ (P : Wait → Type 0) (Q : Node → Type 0) (k q t : ℕ) (ν : Node) w
   read-cases (reading op s u) p stay count = go (ℕ-discrete q (ν .request)) (s k) refl
     where
       ν′ : Node
-      ν′ = waiting (reading op s u) ν
+      ν′ = withWait (reading op s u) ν
 
       go : (d : Dec (q ≡ ν .request)) (b : Bool) → s k ≡ b
-          → Q (ite d (cond b ν′ (waiting (reading op (upd s k true) (max u t)) ν)) ν′)
+          → Q (ite d (cond b ν′ (withWait (reading op (upd s k true) (max u t)) ν)) ν′)
       go (yes e) true is = stay (λ e. is)
       go (yes e) false is = count op s u e p
       go (no e) b is = stay (λ x. absurd (e x))
 
-  pub write-cases : (w : Wait) → P w → ((q ≡ ν .request → WriteCounted k t w) → Q (waiting w ν))
+  pub write-cases : (w : Wait) → P w → ((q ≡ ν .request → WriteCounted k t w) → Q (withWait w ν))
       → ((op : Operation) (r : Round) (u : ℕ) (s : Nodes) → q ≡ ν .request → t ≡ u → P (writing op r u s)
-      → Q (waiting (writing op r u (upd s k true)) ν))
-      → Q (writeAnswered k q t (waiting w ν) w)
+      → Q (withWait (writing op r u (upd s k true)) ν))
+      → Q (writeAnswered k q t (withWait w ν) w)
   write-cases idle p stay count = stay (λ e. tt)
   write-cases (reading op s u) p stay count = stay (λ e. tt)
   write-cases (comparing op r u) p stay count = stay (λ e. tt)
@@ -97,10 +97,10 @@ module _ (P : Wait → Type 0) (Q : Node → Type 0) (k q t : ℕ) (ν : Node) w
   write-cases (writing op r u s) p stay count = go (ℕ-discrete q (ν .request)) (ℕ-discrete t u)
     where
       ν′ : Node
-      ν′ = waiting (writing op r u s) ν
+      ν′ = withWait (writing op r u s) ν
 
       go : (d : Dec (q ≡ ν .request)) (d′ : Dec (t ≡ u))
-          → Q (ite d (ite d′ (waiting (writing op r u (upd s k true)) ν) ν′) ν′)
+          → Q (ite d (ite d′ (withWait (writing op r u (upd s k true)) ν) ν′) ν′)
       go (yes e) (yes is) = count op r u s e is p
       go (yes e) (no is) = stay (λ x z. absurd (is z))
       go (no e) d′ = stay (λ x. absurd (e x))

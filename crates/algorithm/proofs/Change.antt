@@ -14,7 +14,7 @@ use Rattle.logs.proofs.Log.{mem-up, cons-or}
 use Rattle.history.specs.Message.{Value, View, Message, read, readAnswer, write, writeAnswer, echo, value, good}
 use Rattle.history.specs.Event.{Operation, Round}
 use Rattle.algorithm.specs.Algorithm.{Wait, idle, reading, writing, comparing, borrowing, Node, topping, holding}
-use Rattle.algorithm.specs.Algorithm.{waiting, keep}
+use Rattle.algorithm.specs.Algorithm.{withWait, keep}
 use Rattle.algorithm.proofs.Cert.{Log, Logs, _≼_}
 use Rattle.algorithm.proofs.Local.{Past, Took, Pending, Settled, Known, Due, Olds, Have, Stage, Phase, Local}
 use Rattle.algorithm.proofs.Grow.{held-up}
@@ -45,7 +45,7 @@ module _ (n f : ℕ) where
   -- The same wait and no smaller state.
   pub have-more : (out base : Logs) (i r : ℕ) (op : Operation) (w : Wait) (ν ν′ : Node) (m : Message)
       → ν .maxtag ≤ ν′ .maxtag → ν .request ≤ ν′ .request → ((v : Value) → v ∈ ν .all → v ∈ ν′ .all)
-      → Have n f out base i r op (waiting w ν) m → Have n f out base i r op (waiting w ν′) m
+      → Have n f out base i r op (withWait w ν) m → Have n f out base i r op (withWait w ν′) m
   have-more out base i r op w ν ν′ (read q) h g a x = omega arith
   have-more out base i r op w ν ν′ (write q t) h g a x = omega arith
   have-more out base i r op w ν ν′ (readAnswer to q t) h g a x = tt

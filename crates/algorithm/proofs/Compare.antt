@@ -16,13 +16,13 @@ use Rattle.logs.specs.Log.{_∈_, _⊑_, here}
 use Rattle.logs.proofs.Log.{⊑-trans, mem-up}
 use Rattle.history.specs.Message.{Value, of, echo, value, good}
 use Rattle.history.specs.Event.{Operation, update, Round}
-use Rattle.algorithm.specs.Algorithm.{Wait, idle, comparing, Node, waiting, agrees, viewUpto}
+use Rattle.algorithm.specs.Algorithm.{Wait, idle, comparing, Node, withWait, agrees, viewUpto}
 use Rattle.algorithm.proofs.Cert.{Log, Logs, echoed-up, Inside, Cert, carry}
 use Rattle.algorithm.proofs.Local.{Past, Own, Held, Settled, Spread, Stage, Wrote, Compares, Local}
 use Rattle.algorithm.proofs.Grow.{≼-refl, upd-up, upd-longer}
 use Rattle.algorithm.proofs.Change.{post}
-use Rattle.algorithm.proofs.Turn.{have-turned, moved}
-use Rattle.algorithm.proofs.Sets.{within-to, agrees-to}
+use Rattle.algorithm.proofs.Turn.{have-withRequest, moved}
+use Rattle.algorithm.proofs.Sets.{includedUpTo-to, agrees-to}
 use Rattle.algorithm.proofs.Outcome.{Final}
 use Rattle.algorithm.proofs.Open.{rise-le}
 
@@ -41,7 +41,7 @@ module _ (n f : ℕ) (half : f + f < n) where
       ]
 
   module _ {out : Logs} {γ : Past} {i r : ℕ} {op : Operation} {l : Log} (ν : Node) {o : Operation} {rnd : Round} {t : ℕ}
-      (c : Local n f out γ i r op (waiting (comparing o rnd t) ν) l) where
+      (c : Local n f out γ i r op (withWait (comparing o rnd t) ν) l) where
     pub cmp : Compares n f out γ i r op l rnd t
     cmp = c .phase .1
 
@@ -64,7 +64,7 @@ module _ (n f : ℕ) (half : f + f < n) where
       Q-none = λ k x e. upd-all (λ k z. echo x ∈ z → x ≤ t) (γ .got) i l
           (λ k ne m. omega (arith, c .took k (echo x) m)) (λ m. omega (arith, c .have (echo x) m)) k;
       Q-has = λ k v e m h. upd-all (λ k z. agrees i ν t k ≡ true → value v ∈ z) (γ .got) i l
-          (λ k ne e. c .heard k v (within-to t (ν .all) (ν .from k) (agrees-to i ν t k e ne .1) v m h))
+          (λ k ne e. c .heard k v (includedUpTo-to t (ν .all) (ν .from k) (agrees-to i ν t k e ne .1) v m h))
           (λ e. c .sent v m) k e;
       Q-only = λ k v e m h. upd-all (λ k z. value v ∈ z → v ∈ ν .all) (γ .got) i l
           (λ k ne m. c .took k (value v) m .1) (λ m. known v m) k m;
@@ -98,7 +98,7 @@ module _ (n f : ℕ) (half : f + f < n) where
     }
 
     pub posted : n - f ≤ count (agrees i ν t) n → ν .maxtag ≤ t
-        → Local n f out γ i r op (waiting (comparing o rnd t) ν) (good t (viewUpto n t (ν .all)) ∷ l)
+        → Local n f out γ i r op (withWait (comparing o rnd t) ν) (good t (viewUpto n t (ν .all)) ∷ l)
     posted many top = post n f half c (good t (viewUpto n t (ν .all))) (ν .all, refl, certify many top) tt
 
     -- A quorum has the update's value, and an echo of its tag.
@@ -126,12 +126,12 @@ module _ (n f : ℕ) (half : f + f < n) where
 
   -- An operation whose own value is settled goes to rest.
   pub rested : {out : Logs} {γ : Past} {i r : ℕ} (op : Operation) {l : Log} (ν : Node) {w : Wait}
-      → Local n f out γ i r op (waiting w ν) l
+      → Local n f out γ i r op (withWait w ν) l
       → ((v : Value) → value v ∈ l → (v ∈ ν .all) × (v .writer ≡ i → Own i r op v ⊎ (Settled n f out v × (v .tag ≤ r))))
       → ((v : Value) → Own i r op v → Settled n f out v)
-      → Local n f out γ i r op (waiting idle ν) l
+      → Local n f out γ i r op (withWait idle ν) l
   rested {out} {γ} {i} {r} op ν c known own = moved n f c r (ν .request) idle here (omega arith) (c .due)
-      (have-turned n f c r (ν .request) idle (omega arith)
+      (have-withRequest n f c r (ν .request) idle (omega arith)
       (λ v m x. (inl (known v m .0), λ e. rest v (known v m .1 e))))
       tt
     where

@@ -13,32 +13,32 @@ use Rattle.history.specs.Message.{of, value, good}
 use Rattle.history.specs.Event.{Operation, update, scan, Round, round0, round1, round2, round3, done, shown, Rule}
 use Rattle.history.specs.Event.{direct}
 use Rattle.algorithm.specs.Algorithm.{Wait, idle, reading, writing, comparing, borrowing, Node, still, ended}
-use Rattle.algorithm.specs.Algorithm.{waiting, afterGood, afterFailed, agrees, quorum?, viewUpto, comparePass}
+use Rattle.algorithm.specs.Algorithm.{withWait, afterGood, afterFailed, agrees, quorum?, viewUpto, comparePass}
 use Rattle.algorithm.proofs.Cert.{Log, Logs}
 use Rattle.algorithm.proofs.Local.{Past, Settled, Local}
 use Rattle.algorithm.proofs.Grow.{upd-longer, settled-up}
 use Rattle.algorithm.proofs.Change.{stage-post}
-use Rattle.algorithm.proofs.Turn.{have-turned, moved}
+use Rattle.algorithm.proofs.Turn.{have-withRequest, moved}
 use Rattle.algorithm.proofs.Outcome.{Fine, fine-still}
 use Rattle.algorithm.proofs.Open.{onward, opened}
 use Rattle.algorithm.proofs.Compare.{cmp, known, final, posted, own-spread, spread-settled, rested}
 
 module _ (n f : ℕ) (half : f + f < n) {out : Logs} {γ : Past} {i r : ℕ} {l : Log} (ν : Node) {o : Operation} where
   module _ {rnd : Round} {t : ℕ} (many : n - f ≤ count (agrees i ν t) n) (top : ν .maxtag ≤ t) (rule : Rule) where
-    scan-ends : Local n f out γ i r scan (waiting (comparing o rnd t) ν) l
+    scan-ends : Local n f out γ i r scan (withWait (comparing o rnd t) ν) l
         → Fine n f out γ i r scan l (ended (shown rule (viewUpto n t (ν .all))) (good t (viewUpto n t (ν .all)) ∷ [])
-        (waiting idle ν))
+        (withWait idle ν))
     scan-ends c = record {
       kept = rested n f half scan ν c′ (λ v m. (known n f half ν c′ v m, c′ .have (value v) m .1)) (λ v e. absurd e);
       ended = (t, ν .all, final n f half ν c many top (good t (viewUpto n t (ν .all)) ∷ l) (more here));
     }
       where
-        c′ : Local n f out γ i r scan (waiting (comparing o rnd t) ν) (good t (viewUpto n t (ν .all)) ∷ l)
+        c′ : Local n f out γ i r scan (withWait (comparing o rnd t) ν) (good t (viewUpto n t (ν .all)) ∷ l)
         c′ = posted n f half ν c many top
 
-    update-ends : (p : ℕ) → r < t → Local n f out γ i r (update p) (waiting (comparing o rnd t) ν) l
+    update-ends : (p : ℕ) → r < t → Local n f out γ i r (update p) (withWait (comparing o rnd t) ν) l
         → Fine n f out γ i r (update p) l
-        (ended (done rule (viewUpto n t (ν .all))) (good t (viewUpto n t (ν .all)) ∷ []) (waiting idle ν))
+        (ended (done rule (viewUpto n t (ν .all))) (good t (viewUpto n t (ν .all)) ∷ []) (withWait idle ν))
     update-ends p lt c = record {
       kept = rested n f half (update p) ν c′ (λ v m. (known n f half ν c′ v m, c′ .have (value v) m .1))
           (λ v e. subst (Settled n f out) (sym e) settled);
@@ -52,17 +52,17 @@ module _ (n f : ℕ) (half : f + f < n) {out : Logs} {γ : Past} {i r : ℕ} {l 
       };
     }
       where
-        c′ : Local n f out γ i r (update p) (waiting (comparing o rnd t) ν) (good t (viewUpto n t (ν .all)) ∷ l)
+        c′ : Local n f out γ i r (update p) (withWait (comparing o rnd t) ν) (good t (viewUpto n t (ν .all)) ∷ l)
         c′ = posted n f half ν c many top
 
         settled : Settled n f out (of (suc r) i p)
         settled = spread-settled n f half (own-spread n f half ν c p refl lt t top)
 
   -- Round 0 was good, or failed: round 1 opens.
-  module _ {t : ℕ} (p : ℕ) (c : Local n f out γ i r (update p) (waiting (comparing o round0 t) ν) l) where
+  module _ {t : ℕ} (p : ℕ) (c : Local n f out γ i r (update p) (withWait (comparing o round0 t) ν) l) where
     first-good : n - f ≤ count (agrees i ν t) n → ν .maxtag ≤ t
         → Fine n f out γ i r (update p) l
-        (afterGood (update p) round0 t (viewUpto n t (ν .all)) (waiting (comparing o round0 t) ν))
+        (afterGood (update p) round0 t (viewUpto n t (ν .all)) (withWait (comparing o round0 t) ν))
     first-good many top =
         let view = viewUpto n t (ν .all) in
         let next = opened n f half ν (posted n f half ν c many top) round1 (max (suc t) (ν .maxtag))
@@ -72,15 +72,15 @@ module _ (n f : ℕ) (half : f + f < n) {out : Logs} {γ : Past} {i r : ℕ} {l 
         (List·Memᴰ·tail (cmp n f half ν c .held)) in
         record { kept = next .kept; ended = tt }
 
-    first-failed : Fine n f out γ i r (update p) l (afterFailed (update p) round0 t (waiting (comparing o round0 t) ν))
+    first-failed : Fine n f out γ i r (update p) l (afterFailed (update p) round0 t (withWait (comparing o round0 t) ν))
     first-failed = opened n f half ν c round1 (max (suc t) (ν .maxtag))
         (onward n f half (cmp n f half ν c .stage) round1 (max (suc t) (ν .maxtag))
         (omega (arith, cmp n f half ν c .stage .rise)) tt)
         (cmp n f half ν c .held)
 
-  compare-good : (op : Operation) (rnd : Round) {t : ℕ} → Local n f out γ i r op (waiting (comparing o rnd t) ν) l
+  compare-good : (op : Operation) (rnd : Round) {t : ℕ} → Local n f out γ i r op (withWait (comparing o rnd t) ν) l
       → n - f ≤ count (agrees i ν t) n → ν .maxtag ≤ t
-      → Fine n f out γ i r op l (afterGood op rnd t (viewUpto n t (ν .all)) (waiting (comparing o rnd t) ν))
+      → Fine n f out γ i r op l (afterGood op rnd t (viewUpto n t (ν .all)) (withWait (comparing o rnd t) ν))
   compare-good (update p) round0 c many top = first-good p c many top
   compare-good (update p) round1 c many top = update-ends many top (direct round1) p (cmp n f half ν c .stage .rise) c
   compare-good (update p) round2 c many top = update-ends many top (direct round2) p (cmp n f half ν c .stage .rise) c
@@ -90,13 +90,14 @@ module _ (n f : ℕ) (half : f + f < n) {out : Logs} {γ : Past} {i r : ℕ} {l 
   compare-good scan round2 c many top = scan-ends many top (direct round2) c
   compare-good scan round3 c many top = scan-ends many top (direct round3) c
 
-  third-failed : {op : Operation} {t : ℕ} → Local n f out γ i r op (waiting (comparing o round3 t) ν) l
-      → Fine n f out γ i r op l (still (waiting (borrowing op t) ν))
+  third-failed : {op : Operation} {t : ℕ} → Local n f out γ i r op (withWait (comparing o round3 t) ν) l
+      → Fine n f out γ i r op l (still (withWait (borrowing op t) ν))
   third-failed {op} {t} c = fine-still n f (moved n f c r (ν .request) (borrowing op t) here (omega arith) (c .due)
-      (have-turned n f c r (ν .request) (borrowing op t) (omega arith) (λ v m h. h)) (refl, cmp n f half ν c .stage))
+      (have-withRequest n f c r (ν .request) (borrowing op t) (omega arith) (λ v m h. h))
+      (refl, cmp n f half ν c .stage))
 
-  compare-failed : (op : Operation) (rnd : Round) {t : ℕ} → Local n f out γ i r op (waiting (comparing o rnd t) ν) l
-      → ¬ (ν .maxtag ≤ t) → Fine n f out γ i r op l (afterFailed op rnd t (waiting (comparing o rnd t) ν))
+  compare-failed : (op : Operation) (rnd : Round) {t : ℕ} → Local n f out γ i r op (withWait (comparing o rnd t) ν) l
+      → ¬ (ν .maxtag ≤ t) → Fine n f out γ i r op l (afterFailed op rnd t (withWait (comparing o rnd t) ν))
   compare-failed (update p) round0 c above = first-failed p c
   compare-failed (update p) round1 c above = opened n f half ν c round2 (ν .maxtag)
       (onward n f half (cmp n f half ν c .stage) round2 (ν .maxtag) (omega (arith, cmp n f half ν c .stage .rise))
@@ -117,15 +118,15 @@ module _ (n f : ℕ) (half : f + f < n) {out : Logs} {γ : Past} {i r : ℕ} {l 
   compare-failed scan round3 c above = third-failed c
 
 module _ (n f : ℕ) (half : f + f < n) {out : Logs} {γ : Past} {i r : ℕ} {op : Operation} {l : Log} where
-  agreed : (ν : Node) {o : Operation} {rnd : Round} {t : ℕ} → Local n f out γ i r op (waiting (comparing o rnd t) ν) l
+  agreed : (ν : Node) {o : Operation} {rnd : Round} {t : ℕ} → Local n f out γ i r op (withWait (comparing o rnd t) ν) l
       → n - f ≤ count (agrees i ν t) n → (d : Dec (ν .maxtag ≤ t))
-      → Fine n f out γ i r op l (ite d (afterGood op rnd t (viewUpto n t (ν .all)) (waiting (comparing o rnd t) ν))
-      (afterFailed op rnd t (waiting (comparing o rnd t) ν)))
+      → Fine n f out γ i r op l (ite d (afterGood op rnd t (viewUpto n t (ν .all)) (withWait (comparing o rnd t) ν))
+      (afterFailed op rnd t (withWait (comparing o rnd t) ν)))
   agreed ν {o} {rnd} c many (yes h) = compare-good n f half ν op rnd c many h
   agreed ν {o} {rnd} c many (no h) = compare-failed n f half ν op rnd c h
 
-  pub compare-pass : (ν : Node) (w : Wait) → Local n f out γ i r op (waiting w ν) l
-      → Fine n f out γ i r op l (comparePass n f i (waiting w ν) w)
+  pub compare-pass : (ν : Node) (w : Wait) → Local n f out γ i r op (withWait w ν) l
+      → Fine n f out γ i r op l (comparePass n f i (withWait w ν) w)
   compare-pass ν idle c = fine-still n f c
   compare-pass ν (reading o s u) c = fine-still n f c
   compare-pass ν (writing o rnd t s) c = fine-still n f c
@@ -140,4 +141,4 @@ module _ (n f : ℕ) (half : f + f < n) {out : Logs} {γ : Past} {i r : ℕ} {op
       ]
     where
       ν₀ : Node
-      ν₀ = waiting (comparing o rnd t) ν
+      ν₀ = withWait (comparing o rnd t) ν

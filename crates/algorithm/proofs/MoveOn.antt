@@ -10,8 +10,8 @@ use Rattle.logs.specs.Log.{push}
 use Rattle.history.specs.Message.{of, Message, read, write, value, good}
 use Rattle.history.specs.Event.{Operation, update, scan, direct, borrowed, Round, round0, round1, round2, round3, spent}
 use Rattle.algorithm.specs.Algorithm.{limit, Nodes, nobody, Wait, idle, reading, writing, comparing, borrowing}
-use Rattle.algorithm.specs.Algorithm.{Node, Step, ended, still, sending, _then_, waiting, asking, agrees, quorum?}
-use Rattle.algorithm.specs.Algorithm.{kept, viewUpto, opening, finish, afterRead, afterGood, afterFailed}
+use Rattle.algorithm.specs.Algorithm.{Node, Step, ended, still, sending, _then_, withWait, asking, agrees}
+use Rattle.algorithm.specs.Algorithm.{quorum?, kept, viewUpto, opening, finish, afterRead, afterGood, afterFailed}
 use Rattle.algorithm.specs.Algorithm.{readPass, writePass, comparePass, borrowPass, moveOn, react, messageStep}
 use Rattle.algorithm.specs.Algorithm.{beginStep}
 use Rattle.algorithm.proofs.Cert.{Log}
@@ -33,30 +33,30 @@ pub record Moves (n f i : ℕ) (P Q : Claim) (E : Final) : Type 0 where
   pub stays : (ν : Node) (l : Log) → P ν l → Q ν l
   -- No tag is left for the update.
   pub spends : (ν : Node) (l : Log) (p u : ℕ) (s : Nodes) → n - f ≤ count s n → max u (ν .maxtag) ≡ limit
-      → P (waiting (reading (update p) s u) ν) l → E spent (waiting idle ν) l
+      → P (withWait (reading (update p) s u) ν) l → E spent (withWait idle ν) l
   -- A quorum of read answers: round 0 of an update, round 1 of a scan.
   pub updates : (ν : Node) (l : Log) (p u : ℕ) (s : Nodes) → n - f ≤ count s n
-      → P (waiting (reading (update p) s u) ν) l → let t = max u (ν .maxtag) in
+      → P (withWait (reading (update p) s u) ν) l → let t = max u (ν .maxtag) in
       P (writes (update p) round0 t ν) (write (suc (ν .request)) t ∷ value (of (suc t) i p) ∷ l)
   pub scans : (ν : Node) (l : Log) (u : ℕ) (s : Nodes) → n - f ≤ count s n
-      → P (waiting (reading scan s u) ν) l
+      → P (withWait (reading scan s u) ν) l
       → let t = max u (ν .maxtag) in P (writes scan round1 t ν) (write (suc (ν .request)) t ∷ l)
   -- A quorum of write answers.
   pub compares : (ν : Node) (l : Log) (op : Operation) (r : Round) (t : ℕ) (s : Nodes) → n - f ≤ count s n
-      → P (waiting (writing op r t s) ν) l → P (waiting (comparing op r t) ν) l
+      → P (withWait (writing op r t s) ν) l → P (withWait (comparing op r t) ν) l
   -- A good round 0, a later good round, and a failed one.
-  pub passes : (ν : Node) (l : Log) (op : Operation) (t : ℕ) → ν .maxtag ≤ t → P (waiting (comparing op round0 t) ν) l
+  pub passes : (ν : Node) (l : Log) (op : Operation) (t : ℕ) → ν .maxtag ≤ t → P (withWait (comparing op round0 t) ν) l
       → Q (writes op round1 (suc t) ν) (write (suc (ν .request)) (suc t) ∷ good t (viewUpto n t (ν .all)) ∷ l)
   pub ends : (ν : Node) (l : Log) (op : Operation) (r : Round) (t : ℕ) → Last r → ν .maxtag ≤ t
-      → P (waiting (comparing op r t) ν) l → let view = viewUpto n t (ν .all) in
-      E (finish op (direct r) view) (waiting idle ν) (good t view ∷ l)
+      → P (withWait (comparing op r t) ν) l → let view = viewUpto n t (ν .all) in
+      E (finish op (direct r) view) (withWait idle ν) (good t view ∷ l)
   pub fails : (ν : Node) (l : Log) (op : Operation) (r r′ : Round) (t : ℕ) → t < ν .maxtag
-      → P (waiting (comparing op r t) ν) l → Q (writes op r′ (ν .maxtag) ν) (write (suc (ν .request)) (ν .maxtag) ∷ l)
+      → P (withWait (comparing op r t) ν) l → Q (writes op r′ (ν .maxtag) ν) (write (suc (ν .request)) (ν .maxtag) ∷ l)
   pub borrows : (ν : Node) (l : Log) (op : Operation) (t : ℕ) → t < ν .maxtag
-      → P (waiting (comparing op round3 t) ν) l → Q (waiting (borrowing op t) ν) l
+      → P (withWait (comparing op round3 t) ν) l → Q (withWait (borrowing op t) ν) l
   -- A view is lent.
-  pub lends : (ν : Node) (l : Log) (op : Operation) (t : ℕ) → Q (waiting (borrowing op t) ν) l
-      → E (finish op borrowed (kept n (ν .goods) .view)) (waiting idle ν) l
+  pub lends : (ν : Node) (l : Log) (op : Operation) (t : ℕ) → Q (withWait (borrowing op t) ν) l
+      → E (finish op borrowed (kept n (ν .goods) .view)) (withWait idle ν) l
 
 module _ {n f i : ℕ} {P Q : Claim} {E : Final} (c : Moves n f i P Q E) where
   abbrev Before : Log → Step → Type 0
@@ -65,7 +65,7 @@ module _ {n f i : ℕ} {P Q : Claim} {E : Final} (c : Moves n f i P Q E) where
   abbrev After : Log → Step → Type 0
   After l s = Leaves Q E l s
 
-  read-moves : (ν : Node) (l : Log) (w : Wait) → P (waiting w ν) l → Before l (readPass n f i (waiting w ν) w)
+  read-moves : (ν : Node) (l : Log) (w : Wait) → P (withWait w ν) l → Before l (readPass n f i (withWait w ν) w)
   read-moves ν l idle h = h
   read-moves ν l (writing op r t s) h = h
   read-moves ν l (comparing op r t) h = h
@@ -73,7 +73,7 @@ module _ {n f i : ℕ} {P Q : Claim} {E : Final} (c : Moves n f i P Q E) where
   read-moves ν l (reading scan s u) h = go (quorum? n f s)
     where
       ν′ : Node
-      ν′ = waiting (reading scan s u) ν
+      ν′ = withWait (reading scan s u) ν
 
       go : (d : Dec (n - f ≤ count s n)) → Before l (ite d (afterRead i (max u (ν .maxtag)) scan ν′) (still ν′))
       go (yes x) = c .scans ν l u s x h
@@ -84,16 +84,16 @@ module _ {n f i : ℕ} {P Q : Claim} {E : Final} (c : Moves n f i P Q E) where
       t = max u (ν .maxtag)
 
       ν′ : Node
-      ν′ = waiting (reading (update p) s u) ν
+      ν′ = withWait (reading (update p) s u) ν
 
       go : (d : Dec (n - f ≤ count s n)) (d′ : Dec (t ≡ limit)) → Before l (ite d (ite d′
-          (ended spent [] (waiting idle ν′))
+          (ended spent [] (withWait idle ν′))
           (sending (value (of (suc t) i p) ∷ []) ν′ then opening (update p) round0 t)) (still ν′))
       go (yes x) (yes y) = c .spends ν l p u s x y h
       go (yes x) (no y) = c .updates ν l p u s x h
       go (no x) d′ = h
 
-  write-moves : (ν : Node) (l : Log) (w : Wait) → P (waiting w ν) l → Before l (writePass n f (waiting w ν) w)
+  write-moves : (ν : Node) (l : Log) (w : Wait) → P (withWait w ν) l → Before l (writePass n f (withWait w ν) w)
   write-moves ν l idle h = h
   write-moves ν l (reading op s u) h = h
   write-moves ν l (comparing op r t) h = h
@@ -101,13 +101,13 @@ module _ {n f i : ℕ} {P Q : Claim} {E : Final} (c : Moves n f i P Q E) where
   write-moves ν l (writing op r t s) h = go (quorum? n f s)
     where
       go : (d : Dec (n - f ≤ count s n))
-          → Before l (ite d (still (waiting (comparing op r t) ν)) (still (waiting (writing op r t s) ν)))
+          → Before l (ite d (still (withWait (comparing op r t) ν)) (still (withWait (writing op r t s) ν)))
       go (yes x) = c .compares ν l op r t s x h
       go (no x) = h
 
   good-moves : (ν : Node) (l : Log) (op : Operation) (r : Round) (t : ℕ) → ν .maxtag ≤ t
-      → P (waiting (comparing op r t) ν) l
-      → After l (afterGood op r t (viewUpto n t (ν .all)) (waiting (comparing op r t) ν))
+      → P (withWait (comparing op r t) ν) l
+      → After l (afterGood op r t (viewUpto n t (ν .all)) (withWait (comparing op r t) ν))
   good-moves ν l op round0 t le h = subst
       (λ x. Q (writes op round1 x ν) (write (suc (ν .request)) x ∷ good t (viewUpto n t (ν .all)) ∷ l)) (omega arith)
       (c .passes ν l op t le h)
@@ -116,14 +116,14 @@ module _ {n f i : ℕ} {P Q : Claim} {E : Final} (c : Moves n f i P Q E) where
   good-moves ν l op round3 t le h = finished Q E op (direct round3) _ _ _ (c .ends ν l op round3 t tt le h)
 
   failed-moves : (ν : Node) (l : Log) (op : Operation) (r : Round) (t : ℕ) → t < ν .maxtag
-      → P (waiting (comparing op r t) ν) l → After l (afterFailed op r t (waiting (comparing op r t) ν))
+      → P (withWait (comparing op r t) ν) l → After l (afterFailed op r t (withWait (comparing op r t) ν))
   failed-moves ν l op round0 t lt h = subst (λ x. Q (writes op round1 x ν) (write (suc (ν .request)) x ∷ l))
       (omega arith) (c .fails ν l op round0 round1 t lt h)
   failed-moves ν l op round1 t lt h = c .fails ν l op round1 round2 t lt h
   failed-moves ν l op round2 t lt h = c .fails ν l op round2 round3 t lt h
   failed-moves ν l op round3 t lt h = c .borrows ν l op t lt h
 
-  compare-moves : (ν : Node) (l : Log) (w : Wait) → P (waiting w ν) l → After l (comparePass n f i (waiting w ν) w)
+  compare-moves : (ν : Node) (l : Log) (w : Wait) → P (withWait w ν) l → After l (comparePass n f i (withWait w ν) w)
   compare-moves ν l idle h = c .stays _ l h
   compare-moves ν l (reading op s u) h = c .stays _ l h
   compare-moves ν l (writing op r t s) h = c .stays _ l h
@@ -131,7 +131,7 @@ module _ {n f i : ℕ} {P Q : Claim} {E : Final} (c : Moves n f i P Q E) where
   compare-moves ν l (comparing op r t) h = go (quorum? n f (agrees i ν′ t)) (decLe (ν .maxtag) t)
     where
       ν′ : Node
-      ν′ = waiting (comparing op r t) ν
+      ν′ = withWait (comparing op r t) ν
 
       go : (d : Dec (n - f ≤ count (agrees i ν′ t) n)) (d′ : Dec (ν .maxtag ≤ t)) → After l
           (ite d (ite d′ (afterGood op r t (viewUpto n t (ν .all)) ν′) (afterFailed op r t ν′)) (still ν′))
@@ -139,7 +139,7 @@ module _ {n f i : ℕ} {P Q : Claim} {E : Final} (c : Moves n f i P Q E) where
       go (yes x) (no y) = failed-moves ν l op r t (omega arith) h
       go (no x) d′ = c .stays _ l h
 
-  borrow-moves : (ν : Node) (l : Log) (w : Wait) → Q (waiting w ν) l → After l (borrowPass n (waiting w ν) w)
+  borrow-moves : (ν : Node) (l : Log) (w : Wait) → Q (withWait w ν) l → After l (borrowPass n (withWait w ν) w)
   borrow-moves ν l idle h = h
   borrow-moves ν l (reading op s u) h = h
   borrow-moves ν l (writing op r t s) h = h
@@ -147,8 +147,8 @@ module _ {n f i : ℕ} {P Q : Claim} {E : Final} (c : Moves n f i P Q E) where
   borrow-moves ν l (borrowing op t) h = go (decLe t (kept n (ν .goods) .tag))
     where
       go : (d : Dec (t ≤ kept n (ν .goods) .tag)) → After l (ite d
-          (ended (finish op borrowed (kept n (ν .goods) .view)) [] (waiting idle ν))
-          (still (waiting (borrowing op t) ν)))
+          (ended (finish op borrowed (kept n (ν .goods) .view)) [] (withWait idle ν))
+          (still (withWait (borrowing op t) ν)))
       go (yes x) = finished Q E op borrowed _ _ _ (c .lends ν l op t h)
       go (no x) = h
 

@@ -8,12 +8,12 @@ use mathlib.Core.List.{_∷_, List·Memᴰ·head, List·Memᴰ·tail}
 use Rattle.logs.specs.Log.{_∈_, here, more}
 use Rattle.history.specs.Message.{Value, Message, write, value}
 use Rattle.history.specs.Event.{Operation, update, scan, Round, round0, round1, round2, round3}
-use Rattle.algorithm.specs.Algorithm.{nobody, Wait, writing, comparing, Node, waiting, opening}
+use Rattle.algorithm.specs.Algorithm.{nobody, Wait, writing, comparing, Node, withWait, opening}
 use Rattle.algorithm.proofs.Cert.{Log, Logs}
 use Rattle.algorithm.proofs.Local.{Past, Held, Rise, Have, Before, Stage, Local}
-use Rattle.algorithm.specs.Node.{turned}
+use Rattle.algorithm.specs.Node.{withRequest}
 use Rattle.algorithm.proofs.Change.{stage-post}
-use Rattle.algorithm.proofs.Turn.{have-turned, unused, moved}
+use Rattle.algorithm.proofs.Turn.{have-withRequest, unused, moved}
 use Rattle.algorithm.proofs.Outcome.{Fine}
 
 pub rise-le : (op : Operation) (rnd : Round) {r t : ℕ} → Rise op rnd r t → r ≤ t
@@ -40,9 +40,9 @@ module _ (n f : ℕ) (half : f + f < n) {out : Logs} {γ : Past} {i r : ℕ} {op
   }
 
   pub opened : (ν : Node) {o : Operation} {rnd₀ : Round} {t₀ : ℕ}
-      → Local n f out γ i r op (waiting (comparing o rnd₀ t₀) ν) l
+      → Local n f out γ i r op (withWait (comparing o rnd₀ t₀) ν) l
       → (rnd : Round) (t : ℕ) → Stage n f out γ i r op l rnd t → Held i r op l
-      → Fine n f out γ i r op l (opening op rnd t (waiting (comparing o rnd₀ t₀) ν))
+      → Fine n f out γ i r op l (opening op rnd t (withWait (comparing o rnd₀ t₀) ν))
   opened ν {o} {rnd₀} {t₀} c rnd t s h = record {
     ended = tt;
     kept = moved n f c r (suc (ν .request)) w (more here) (omega arith) (unused n f c, c .due) have (
@@ -60,15 +60,15 @@ module _ (n f : ℕ) (half : f + f < n) {out : Logs} {γ : Past} {i r : ℕ} {op
       w : Wait
       w = writing op rnd t nobody
 
-      old : (rnd : Round) (v : Value) → Have n f out (γ .base) i r op (waiting (comparing o rnd₀ t₀) ν) (value v)
-          → Have n f out (γ .base) i r op (turned (suc (ν .request)) (writing op rnd t nobody) ν) (value v)
+      old : (rnd : Round) (v : Value) → Have n f out (γ .base) i r op (withWait (comparing o rnd₀ t₀) ν) (value v)
+          → Have n f out (γ .base) i r op (withRequest (suc (ν .request)) (writing op rnd t nobody) ν) (value v)
       old round0 v (inl m, x) = (inl m, x)
       old round1 v (inl m, x) = (inl m, x)
       old round2 v (inl m, x) = (inl m, x)
       old round3 v (inl m, x) = (inl m, x)
 
       have : (m : Message) → m ∈ (write (suc (ν .request)) t ∷ l)
-          → Have n f out (γ .base) i r op (turned (suc (ν .request)) w ν) m
-      have m (List·Memᴰ·head e) = subst (Have n f out (γ .base) i r op (turned (suc (ν .request)) w ν)) (sym e)
+          → Have n f out (γ .base) i r op (withRequest (suc (ν .request)) w ν) m
+      have m (List·Memᴰ·head e) = subst (Have n f out (γ .base) i r op (withRequest (suc (ν .request)) w ν)) (sym e)
           (omega arith)
-      have m (List·Memᴰ·tail e) = have-turned n f c r (suc (ν .request)) w (omega arith) (λ v y x. old rnd v x) m e
+      have m (List·Memᴰ·tail e) = have-withRequest n f c r (suc (ν .request)) w (omega arith) (λ v y x. old rnd v x) m e

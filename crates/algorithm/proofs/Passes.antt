@@ -6,7 +6,7 @@ use Rattle.logs.specs.Log.{push}
 use Rattle.logs.proofs.Log.{push-append}
 use Rattle.history.specs.Message.{View, Message, read, readAnswer, write, writeAnswer, echo, value, good}
 use Rattle.history.specs.Event.{Operation, update, scan, Rule, Ending, none, done, shown, spent}
-use Rattle.algorithm.specs.Algorithm.{Wait, Node, Step, sending, then-by, _then_, waiting, finish, react}
+use Rattle.algorithm.specs.Algorithm.{Wait, Node, Step, sending, then-by, _then_, withWait, finish, react}
 use Rattle.algorithm.specs.Algorithm.{readPass, writePass, comparePass, borrowPass, moveOn}
 use Rattle.algorithm.proofs.Cert.{Log}
 use Rattle.algorithm.proofs.Cases.{raise-cases, receive-cases}
@@ -42,10 +42,10 @@ then-leaves P Q E s part l h next = go (s .ending) h
 
 -- The four passes, one after the other.
 pub move-leaves : (n f i : ℕ) (P Q R S T : Claim) (E : Final) (s : Step) (l : Log) → Leaves P E l s
-    → ((ν : Node) (l : Log) (w : Wait) → P (waiting w ν) l → Leaves Q E l (readPass n f i (waiting w ν) w))
-    → ((ν : Node) (l : Log) (w : Wait) → Q (waiting w ν) l → Leaves R E l (writePass n f (waiting w ν) w))
-    → ((ν : Node) (l : Log) (w : Wait) → R (waiting w ν) l → Leaves S E l (comparePass n f i (waiting w ν) w))
-    → ((ν : Node) (l : Log) (w : Wait) → S (waiting w ν) l → Leaves T E l (borrowPass n (waiting w ν) w))
+    → ((ν : Node) (l : Log) (w : Wait) → P (withWait w ν) l → Leaves Q E l (readPass n f i (withWait w ν) w))
+    → ((ν : Node) (l : Log) (w : Wait) → Q (withWait w ν) l → Leaves R E l (writePass n f (withWait w ν) w))
+    → ((ν : Node) (l : Log) (w : Wait) → R (withWait w ν) l → Leaves S E l (comparePass n f i (withWait w ν) w))
+    → ((ν : Node) (l : Log) (w : Wait) → S (withWait w ν) l → Leaves T E l (borrowPass n (withWait w ν) w))
     → Leaves T E l (moveOn n f i s)
 unfolding moveOn
 move-leaves n f i P Q R S T E s l h a b c d =

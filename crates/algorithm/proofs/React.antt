@@ -11,13 +11,13 @@ use Rattle.logs.specs.Log.{_∈_, _⊑_, here, push, Each}
 use Rattle.logs.proofs.Log.{⊑-trans, placed, comparable, cons-or, before-it, each-at}
 use Rattle.history.specs.Message.{Value, of, read, readAnswer, write, writeAnswer, echo, value}
 use Rattle.history.specs.Event.{Operation, update, scan, Round, round0, round1, round2, round3, none}
-use Rattle.algorithm.specs.Algorithm.{Nodes, Wait, reading, writing, Node, Step, waiting, has, raise}
+use Rattle.algorithm.specs.Algorithm.{Nodes, Wait, reading, writing, Node, Step, withWait, has, raise}
 use Rattle.algorithm.specs.Algorithm.{readAnswered, writeAnswered}
 use Rattle.algorithm.proofs.Cert.{Log, Logs}
 use Rattle.algorithm.proofs.Local.{Past, Held, WriteDue, Due, Have, ReadBy, WroteBy, Writes, Local}
 use Rattle.algorithm.proofs.Change.{handing, handed-by, post, raised}
 use Rattle.algorithm.proofs.Cases.{raise-by, read-cases, write-cases}
-use Rattle.algorithm.proofs.Turn.{taken, have-turned, moved}
+use Rattle.algorithm.proofs.Turn.{taken, have-withRequest, moved}
 
 module _ (n f : ℕ) where
   -- A step without an ending.
@@ -41,10 +41,10 @@ module _ (n f : ℕ) (half : f + f < n) where
       (dues : (k : ℕ) → Each (Due n f k out) (out k)) where
     -- A read answer counts.
     count-read : (ν : Node) (o : Operation) (s : Nodes) (u : ℕ) (k q t : ℕ) → (readAnswer i q t ∷ γ .got k) ⊑ out k
-        → q ≡ ν .request → Local n f out γ i r op (waiting (reading o s u) ν) l
-        → Local n f out γ i r op (waiting (reading o (upd s k true) (max u t)) ν) l
+        → q ≡ ν .request → Local n f out γ i r op (withWait (reading o s u) ν) l
+        → Local n f out γ i r op (withWait (reading o (upd s k true) (max u t)) ν) l
     count-read ν o s u k q t at e c = moved n f c r (ν .request) w′ here (omega arith) (c .due)
-        (have-turned n f c r (ν .request) w′ (omega arith) (λ v m h. h))
+        (have-withRequest n f c r (ν .request) w′ (omega arith) (λ v m h. h))
         (c .phase .0, upd-all (λ j b. b ≡ true → ReadBy γ (max u t) j) s k true (λ j ne. old j) (λ h. new))
       where
         w′ : Wait
@@ -65,16 +65,16 @@ module _ (n f : ℕ) (half : f + f < n) where
     pub read-counted : (ν : Node) → Local n f out γ i r op ν l → (k q t : ℕ) → (readAnswer i q t ∷ γ .got k) ⊑ out k
         → Local n f out γ i r op (readAnswered k q t ν (ν .wait)) l
     read-counted ν c k q t at =
-        read-cases (λ w. Local n f out γ i r op (waiting w ν) l) (λ z. Local n f out γ i r op z l) k q t ν (ν .wait) c
+        read-cases (λ w. Local n f out γ i r op (withWait w ν) l) (λ z. Local n f out γ i r op z l) k q t ν (ν .wait) c
         (λ is. c) (λ o s u e c. count-read ν o s u k q t at e c)
 
     -- A write answer counts.
     count-write : (ν : Node) (o : Operation) (rnd : Round) (u : ℕ) (s : Nodes) (k q t : ℕ)
         → (writeAnswer i q t ∷ γ .got k) ⊑ out k → q ≡ ν .request → t ≡ u
-        → Local n f out γ i r op (waiting (writing o rnd u s) ν) l
-        → Local n f out γ i r op (waiting (writing o rnd u (upd s k true)) ν) l
+        → Local n f out γ i r op (withWait (writing o rnd u s) ν) l
+        → Local n f out γ i r op (withWait (writing o rnd u (upd s k true)) ν) l
     count-write ν o rnd u s k q t at e e′ c = moved n f c r (ν .request) w′ here (omega arith) (c .due)
-        (have-turned n f c r (ν .request) w′ (omega arith) (value-has rnd)) (
+        (have-withRequest n f c r (ν .request) w′ (omega arith) (value-has rnd)) (
           c .phase .0,
           record {
             stage = p .stage;
@@ -112,8 +112,8 @@ module _ (n f : ℕ) (half : f + f < n) where
         )
 
         value-has : (rnd : Round) (v : Value) → value v ∈ l
-            → Have n f out (γ .base) i r op (waiting (writing o rnd u s) ν) (value v)
-            → Have n f out (γ .base) i r op (waiting (writing o rnd u (upd s k true)) ν) (value v)
+            → Have n f out (γ .base) i r op (withWait (writing o rnd u s) ν) (value v)
+            → Have n f out (γ .base) i r op (withWait (writing o rnd u (upd s k true)) ν) (value v)
         value-has round0 v m h = h
         value-has round1 v m h = h
         value-has round2 v m h = h
@@ -122,7 +122,7 @@ module _ (n f : ℕ) (half : f + f < n) where
     pub write-counted : (ν : Node) → Local n f out γ i r op ν l → (k q t : ℕ) → (writeAnswer i q t ∷ γ .got k) ⊑ out k
         → Local n f out γ i r op (writeAnswered k q t ν (ν .wait)) l
     write-counted ν c k q t at =
-        write-cases (λ w. Local n f out γ i r op (waiting w ν) l) (λ z. Local n f out γ i r op z l) k q t ν (ν .wait) c
+        write-cases (λ w. Local n f out γ i r op (withWait w ν) l) (λ z. Local n f out γ i r op z l) k q t ν (ν .wait) c
         (λ is. c) (λ o rnd u s e e′ c. count-write ν o rnd u s k q t at e e′ c)
 
   module _ {out : Logs} {γ : Past} {i r : ℕ} {op : Operation} {ν : Node} {l : Log} where

@@ -14,14 +14,14 @@ use Rattle.logs.proofs.Log.{⊑-trans, mem-up, placed, cons-or}
 use Rattle.history.specs.Message.{Value, of, Message, write, echo, value}
 use Rattle.history.specs.Event.{Operation, update, scan, round0, round1, spent}
 use Rattle.algorithm.specs.Algorithm.{limit, Nodes, nobody, Wait, idle, reading, writing, comparing, borrowing}
-use Rattle.algorithm.specs.Algorithm.{Node, still, ended, waiting, sending, _then_, opening, afterRead, quorum?}
+use Rattle.algorithm.specs.Algorithm.{Node, still, ended, withWait, sending, _then_, opening, afterRead, quorum?}
 use Rattle.algorithm.specs.Algorithm.{readPass}
 use Rattle.algorithm.proofs.Cert.{Log, Logs, value≢write}
 use Rattle.algorithm.proofs.Local.{Past, Under, ValueDue, Settled, Have, ReadBy, Local}
 use Rattle.algorithm.proofs.Grow.{settled-up}
-use Rattle.algorithm.specs.Node.{turned}
+use Rattle.algorithm.specs.Node.{withRequest}
 use Rattle.algorithm.proofs.Change.{known-value}
-use Rattle.algorithm.proofs.Turn.{have-turned, unused, moved}
+use Rattle.algorithm.proofs.Turn.{have-withRequest, unused, moved}
 use Rattle.algorithm.proofs.Outcome.{Fine, fine-still}
 
 -- The tag that the operation has read once the read answers have been looked at.
@@ -34,7 +34,7 @@ readTag n f r ν (borrowing op t) = r
 
 module _ (n f : ℕ) (half : f + f < n) where
   module _ {out : Logs} {γ : Past} {i r : ℕ} {op : Operation} {l : Log} (ν : Node) {o : Operation} {s : Nodes} {u : ℕ}
-      (c : Local n f out γ i r op (waiting (reading o s u) ν) l) (many : n - f ≤ count s n) (r′ : ℕ)
+      (c : Local n f out γ i r op (withWait (reading o s u) ν) l) (many : n - f ≤ count s n) (r′ : ℕ)
       (high : u ≤ r′) where
     reads : (k : ℕ) → s k ≡ true → ReadBy γ u k
     reads = c .phase .1
@@ -65,17 +65,17 @@ module _ (n f : ℕ) (half : f + f < n) where
     -- What the log says of the node when the operation waits for write answers, of round 0 of an update or 1 of a scan.
     values-known : (w : Wait) (q : ℕ) → ν .request ≤ q
         → ((v : Value) → v ∈ ν .all → (v .writer ≡ i → Settled n f out v × (v .tag ≤ r′))
-        → Have n f out (γ .base) i r′ op (turned q w ν) (value v))
-        → (m : Message) → m ∈ l → Have n f out (γ .base) i r′ op (turned q w ν) m
-    values-known w q h g = have-turned n f c r′ q w h (λ v m x. g v (known v m) (older v m))
+        → Have n f out (γ .base) i r′ op (withRequest q w ν) (value v))
+        → (m : Message) → m ∈ l → Have n f out (γ .base) i r′ op (withRequest q w ν) m
+    values-known w q h g = have-withRequest n f c r′ q w h (λ v m x. g v (known v m) (older v m))
 
   module _ (out : Logs) (γ : Past) (i r : ℕ) (l : Log) (ν : Node) (o : Operation) (s : Nodes) (u : ℕ)
       (many : n - f ≤ count s n) (r′ : ℕ) (high : u ≤ r′) where
     abbrev q : ℕ
     q = suc (ν .request)
 
-    scanned : Local n f out γ i r scan (waiting (reading o s u) ν) l
-        → Fine n f out γ i r′ scan l (opening scan round1 r′ (waiting (reading o s u) ν))
+    scanned : Local n f out γ i r scan (withWait (reading o s u) ν) l
+        → Fine n f out γ i r′ scan l (opening scan round1 r′ (withWait (reading o s u) ν))
     scanned c = record {
       ended = tt;
       kept = moved n f c r′ q w (more here) (omega arith) (unused n f c, c .due) have (
@@ -101,17 +101,17 @@ module _ (n f : ℕ) (half : f + f < n) where
         w : Wait
         w = writing scan round1 r′ nobody
 
-        have : (m : Message) → m ∈ (write q r′ ∷ l) → Have n f out (γ .base) i r′ scan (turned q w ν) m
-        have m (List·Memᴰ·head e) = subst (Have n f out (γ .base) i r′ scan (turned q w ν)) (sym e) (omega arith)
+        have : (m : Message) → m ∈ (write q r′ ∷ l) → Have n f out (γ .base) i r′ scan (withRequest q w ν) m
+        have m (List·Memᴰ·head e) = subst (Have n f out (γ .base) i r′ scan (withRequest q w ν)) (sym e) (omega arith)
         have m (List·Memᴰ·tail e) = values-known ν c many r′ high w q (omega arith)
             (λ v x y. (inl x, λ e. inr (y e))) m e
 
-    module _ (p : ℕ) (c : Local n f out γ i r (update p) (waiting (reading o s u) ν) l) where
+    module _ (p : ℕ) (c : Local n f out γ i r (update p) (withWait (reading o s u) ν) l) where
       abbrev own : Value
       own = of (suc r′) i p
 
       -- No tag is left.
-      without-tag : Fine n f out γ i r′ (update p) l (ended spent [] (waiting idle ν))
+      without-tag : Fine n f out γ i r′ (update p) l (ended spent [] (withWait idle ν))
       without-tag = record {
         ended = tt;
         kept = moved n f c r′ (ν .request) idle here (omega arith) (c .due)
@@ -130,10 +130,11 @@ module _ (n f : ℕ) (half : f + f < n) where
       w₀ = writing (update p) round0 r′ nobody
 
       have₀ : (m : Message) → m ∈ (write q r′ ∷ value own ∷ l)
-          → Have n f out (γ .base) i r′ (update p) (turned q w₀ ν) m
-      have₀ m (List·Memᴰ·head e) = subst (Have n f out (γ .base) i r′ (update p) (turned q w₀ ν)) (sym e) (omega arith)
+          → Have n f out (γ .base) i r′ (update p) (withRequest q w₀ ν) m
+      have₀ m (List·Memᴰ·head e) =
+          subst (Have n f out (γ .base) i r′ (update p) (withRequest q w₀ ν)) (sym e) (omega arith)
       have₀ m (List·Memᴰ·tail (List·Memᴰ·head e)) =
-          subst (Have n f out (γ .base) i r′ (update p) (turned q w₀ ν)) (sym e) (inr refl, λ e. inl refl)
+          subst (Have n f out (γ .base) i r′ (update p) (withRequest q w₀ ν)) (sym e) (inr refl, λ e. inl refl)
       have₀ m (List·Memᴰ·tail (List·Memᴰ·tail e)) =
           values-known ν c many r′ high w₀ q (omega arith) (λ v x y. (inl x, λ e. inr (y e))) m e
 
@@ -155,7 +156,7 @@ module _ (n f : ℕ) (half : f + f < n) where
           outer (inr y) = inner (cons-or y)
 
       updated : Fine n f out γ i r′ (update p) l
-          (sending (value own ∷ []) (waiting (reading o s u) ν) then opening (update p) round0 r′)
+          (sending (value own ∷ []) (withWait (reading o s u) ν) then opening (update p) round0 r′)
       updated = record {
         ended = tt;
         kept = moved n f c r′ q w₀ (more (more here)) (omega arith) (unused-own, (own-due, c .due)) have₀ (
@@ -184,29 +185,29 @@ module _ (n f : ℕ) (half : f + f < n) where
 
   after-read : {out : Logs} {γ : Past} {i r : ℕ} {l : Log} (ν : Node) {o : Operation} {s : Nodes} {u : ℕ}
       (op : Operation)
-      → Local n f out γ i r op (waiting (reading o s u) ν) l → n - f ≤ count s n → (r′ : ℕ) → u ≤ r′
-      → Fine n f out γ i r′ op l (afterRead i r′ op (waiting (reading o s u) ν))
+      → Local n f out γ i r op (withWait (reading o s u) ν) l → n - f ≤ count s n → (r′ : ℕ) → u ≤ r′
+      → Fine n f out γ i r′ op l (afterRead i r′ op (withWait (reading o s u) ν))
   after-read {out} {γ} {i} {r} {l} ν {o} {s} {u} scan c many r′ high = scanned out γ i r l ν o s u many r′ high c
   after-read {out} {γ} {i} {r} {l} ν {o} {s} {u} (update p) c many r′ high = elim (ℕ-discrete r′ limit)
-      as (λ d. Fine n f out γ i r′ (update p) l (ite d (ended spent [] (waiting idle ν))
-      (sending (value (of (suc r′) i p) ∷ []) (waiting (reading o s u) ν) then opening (update p) round0 r′))) [
+      as (λ d. Fine n f out γ i r′ (update p) l (ite d (ended spent [] (withWait idle ν))
+      (sending (value (of (suc r′) i p) ∷ []) (withWait (reading o s u) ν) then opening (update p) round0 r′))) [
         | yes e ↦ without-tag out γ i r l ν o s u many r′ high p c
         | no e ↦ updated out γ i r l ν o s u many r′ high p c
       ]
 
   -- The wait for read answers.
   pub read-pass : {out : Logs} {γ : Past} {i r : ℕ} {op : Operation} {l : Log} (ν : Node) (w : Wait)
-      → Local n f out γ i r op (waiting w ν) l
-      → Fine n f out γ i (readTag n f r ν w) op l (readPass n f i (waiting w ν) w)
+      → Local n f out γ i r op (withWait w ν) l
+      → Fine n f out γ i (readTag n f r ν w) op l (readPass n f i (withWait w ν) w)
   read-pass ν idle c = fine-still n f c
   read-pass ν (writing o rnd t s) c = fine-still n f c
   read-pass ν (comparing o rnd t) c = fine-still n f c
   read-pass ν (borrowing o t) c = fine-still n f c
   read-pass {out} {γ} {i} {r} {op} {l} ν (reading o s u) c = elim (quorum? n f s)
       as (λ d. Fine n f out γ i (ite d (max u (ν .maxtag)) r) op l
-      (ite d (afterRead i (max u (ν .maxtag)) o (waiting (reading o s u) ν)) (still (waiting (reading o s u) ν)))) [
+      (ite d (afterRead i (max u (ν .maxtag)) o (withWait (reading o s u) ν)) (still (withWait (reading o s u) ν)))) [
         | yes h ↦ subst (λ z. Fine n f out γ i (max u (ν .maxtag)) op l
-            (afterRead i (max u (ν .maxtag)) z (waiting (reading o s u) ν)))
+            (afterRead i (max u (ν .maxtag)) z (withWait (reading o s u) ν)))
             (sym (c .phase .0)) (after-read ν op c h (max u (ν .maxtag)) (omega arith))
         | no h ↦ fine-still n f c
       ]

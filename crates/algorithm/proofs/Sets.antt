@@ -8,7 +8,7 @@ use mathlib.Core.Bool.{Bool, true, false, false≢true, not, cond, decide, decid
 use mathlib.Core.List.{List, [], _∷_, List·Memᴰ·head, List·Memᴰ·tail}
 use Rattle.logs.specs.Log.{_∈_}
 use Rattle.history.specs.Message.{Value}
-use Rattle.algorithm.specs.Algorithm.{same, Good, Node, has, within, agrees, kept}
+use Rattle.algorithm.specs.Algorithm.{same, Good, Node, has, includedUpTo, agrees, kept}
 
 pub or-cases : (a b : Bool) → (a || b) ≡ true → (a ≡ true) ⊎ (b ≡ true)
 or-cases true b e = inl refl
@@ -48,22 +48,23 @@ unfolding has
 has-of {l} {v} (List·Memᴰ·head {x} {xs} e) = or-left (decide (same v x)) (has xs v) (decide-iff (same v x) .1 e)
 has-of {l} {v} (List·Memᴰ·tail {x} {xs} m) = or-right (decide (same v x)) (has xs v) (has-of m)
 
-pub within-to : (t : ℕ) (a b : List Value) → within t a b ≡ true → (v : Value) → v ∈ a → v .tag ≤ t → v ∈ b
-unfolding within
-within-to t (x ∷ a) b e v (List·Memᴰ·head d) h =
-    let (p, q) = and-both (cond (decide (decLe (x .tag) t)) (has b x) true) (within t a b) e in
+pub includedUpTo-to : (t : ℕ) (a b : List Value) → includedUpTo t a b ≡ true → (v : Value) → v ∈ a → v .tag ≤ t → v ∈ b
+unfolding includedUpTo
+includedUpTo-to t (x ∷ a) b e v (List·Memᴰ·head d) h =
+    let (p, q) = and-both (cond (decide (decLe (x .tag) t)) (has b x) true) (includedUpTo t a b) e in
     let low : x .tag ≤ t = subst (λ z. z .tag ≤ t) d h in
     let t? : decide (decLe (x .tag) t) ≡ true = decide-iff (decLe (x .tag) t) .1 low in
     let p′ : has b x ≡ true = subst (λ z. cond z (has b x) true ≡ true) t? p in
     subst (λ z. z ∈ b) (sym d) (has-to b x p′)
-within-to t (x ∷ a) b e v (List·Memᴰ·tail m) h =
-    within-to t a b (and-both (cond (decide (decLe (x .tag) t)) (has b x) true) (within t a b) e .1) v m h
+includedUpTo-to t (x ∷ a) b e v (List·Memᴰ·tail m) h =
+    includedUpTo-to t a b (and-both (cond (decide (decLe (x .tag) t)) (has b x) true) (includedUpTo t a b) e .1) v m h
 
-pub within-of : (t : ℕ) (a b : List Value) → ((v : Value) → v ∈ a → v .tag ≤ t → v ∈ b) → within t a b ≡ true
-unfolding within
-within-of t [] b h = refl
-within-of t (x ∷ a) b h = and-of (cond (decide (decLe (x .tag) t)) (has b x) true) (within t a b)
-    (go (decLe (x .tag) t)) (within-of t a b (λ v m low. h v (List·Memᴰ·tail m) low))
+pub includedUpTo-of : (t : ℕ) (a b : List Value) → ((v : Value) → v ∈ a → v .tag ≤ t → v ∈ b)
+    → includedUpTo t a b ≡ true
+unfolding includedUpTo
+includedUpTo-of t [] b h = refl
+includedUpTo-of t (x ∷ a) b h = and-of (cond (decide (decLe (x .tag) t)) (has b x) true) (includedUpTo t a b)
+    (go (decLe (x .tag) t)) (includedUpTo-of t a b (λ v m low. h v (List·Memᴰ·tail m) low))
   where
     go : (d : Dec (x .tag ≤ t)) → cond (decide d) (has b x) true ≡ true
     go d = case (decide d) refl
@@ -74,14 +75,15 @@ within-of t (x ∷ a) b h = and-of (cond (decide (decLe (x .tag) t)) (has b x) t
 
 -- A node that agrees, other than the own one, has sent the same values up to t.
 pub agrees-to : (i : ℕ) (ν : Node) (t k : ℕ) → agrees i ν t k ≡ true → k ≢ i
-    → (within t (ν .from k) (ν .all) ≡ true) × (within t (ν .all) (ν .from k) ≡ true)
+    → (includedUpTo t (ν .from k) (ν .all) ≡ true) × (includedUpTo t (ν .all) (ν .from k) ≡ true)
 agrees-to i ν t k e ne = go (or-cases (decide (ℕ-discrete k i))
-    (within t (ν .from k) (ν .all) && within t (ν .all) (ν .from k)) e)
+    (includedUpTo t (ν .from k) (ν .all) && includedUpTo t (ν .all) (ν .from k)) e)
   where
-    go : (decide (ℕ-discrete k i) ≡ true) ⊎ ((within t (ν .from k) (ν .all) && within t (ν .all) (ν .from k)) ≡ true)
-        → (within t (ν .from k) (ν .all) ≡ true) × (within t (ν .all) (ν .from k) ≡ true)
+    go : (decide (ℕ-discrete k i) ≡ true)
+        ⊎ ((includedUpTo t (ν .from k) (ν .all) && includedUpTo t (ν .all) (ν .from k)) ≡ true)
+        → (includedUpTo t (ν .from k) (ν .all) ≡ true) × (includedUpTo t (ν .all) (ν .from k) ≡ true)
     go (inl d) = absurd (ne (decide-iff (ℕ-discrete k i) .0 d))
-    go (inr d) = and-both (within t (ν .from k) (ν .all)) (within t (ν .all) (ν .from k)) d
+    go (inr d) = and-both (includedUpTo t (ν .from k) (ν .all)) (includedUpTo t (ν .all) (ν .from k)) d
 
 -- The kept good message is one of those received, if its tag is not 0.
 pub kept-in : (n : ℕ) (l : List Good) → 0 < kept n l .tag → kept n l ∈ l

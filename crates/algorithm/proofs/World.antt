@@ -10,7 +10,7 @@ use Rattle.logs.specs.Log.{_∈_, _⊑_, here, more, push}
 use Rattle.logs.proofs.Log.{⊑-cons, place, placed, push-append, push-up, each-at}
 use Rattle.history.specs.Message.{Message, read, readAnswer, write, writeAnswer, echo, value, good}
 use Rattle.history.specs.Event.{Operation, update, scan, Ending, none, done, shown, spent}
-use Rattle.algorithm.specs.Algorithm.{nobody, Wait, idle, reading, Node, Step, sending, then-by, _then_, waiting}
+use Rattle.algorithm.specs.Algorithm.{nobody, Wait, idle, reading, Node, Step, sending, then-by, _then_, withWait}
 use Rattle.algorithm.specs.Algorithm.{asking, readPass, writePass, comparePass, borrowPass, react, moveOn}
 use Rattle.algorithm.specs.Algorithm.{messageStep, beginStep}
 use Rattle.algorithm.proofs.Cert.{Log, Logs, _≼_, carry}
@@ -172,7 +172,7 @@ module _ (n f : ℕ) where
         c : Local n f (logs σ) (σ i .past) i (σ i .tag) (σ i .op) ν (σ i .log)
         c = inv i
 
-        old : (m : Message) → Have n f (logs σ) (σ i .past .base) i (σ i .tag) (σ i .op) (waiting idle ν) m
+        old : (m : Message) → Have n f (logs σ) (σ i .past .base) i (σ i .tag) (σ i .op) (withWait idle ν) m
             → Have n f (logs σ) (logs σ) i 0 op (asking w ν) m
         old (read q) h = omega arith
         old (write q t) h = omega arith
@@ -186,7 +186,7 @@ module _ (n f : ℕ) where
             → Have n f (logs σ) (logs σ) i 0 op (asking w ν) m
         have m (List·Memᴰ·head d) = subst (Have n f (logs σ) (logs σ) i 0 op (asking w ν)) (sym d) (omega arith)
         have m (List·Memᴰ·tail d) = old m (subst
-            (λ z. Have n f (logs σ) (σ i .past .base) i (σ i .tag) (σ i .op) (waiting z ν) m) e (c .have m d))
+            (λ z. Have n f (logs σ) (σ i .past .base) i (σ i .tag) (σ i .op) (withWait z ν) m) e (c .have m d))
 
         no-reads : (k q t : ℕ) → readAnswer i q t ∈ logs σ k → q < suc (ν .request)
         no-reads k q t m = let (p, at) = place m in

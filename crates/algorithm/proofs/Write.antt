@@ -11,11 +11,11 @@ use Rattle.logs.proofs.Log.{mem-up, ⊑-cons}
 use Rattle.history.specs.Message.{Value, value}
 use Rattle.history.specs.Event.{Operation, update, Round, round0}
 use Rattle.algorithm.specs.Algorithm.{Nodes, Wait, idle, reading, writing, comparing, borrowing, Node, still}
-use Rattle.algorithm.specs.Algorithm.{waiting, quorum?, writePass}
+use Rattle.algorithm.specs.Algorithm.{withWait, quorum?, writePass}
 use Rattle.algorithm.proofs.Cert.{Log, Logs}
 use Rattle.algorithm.proofs.Local.{Past, Own, Held, Pending, Writes, Local}
 use Rattle.algorithm.proofs.Grow.{held-up}
-use Rattle.algorithm.proofs.Turn.{have-turned, moved}
+use Rattle.algorithm.proofs.Turn.{have-withRequest, moved}
 use Rattle.algorithm.proofs.Outcome.{Fine, fine-still}
 
 module _ (n f : ℕ) (half : f + f < n) where
@@ -25,10 +25,10 @@ module _ (n f : ℕ) (half : f + f < n) where
         → v ∈ ν .all
     back (update p) a v got e h = got (subst (λ z. value z ∈ a) (sym e) h)
 
-    written : (rnd : Round) → Local n f out γ i r op (waiting (writing o rnd t s) ν) l
-        → Local n f out γ i r op (waiting (comparing o rnd t) ν) l
+    written : (rnd : Round) → Local n f out γ i r op (withWait (writing o rnd t s) ν) l
+        → Local n f out γ i r op (withWait (comparing o rnd t) ν) l
     written rnd c = moved n f c r (ν .request) (comparing o rnd t) here (omega arith) (c .due)
-        (have-turned n f c r (ν .request) (comparing o rnd t) (omega arith)
+        (have-withRequest n f c r (ν .request) (comparing o rnd t) (omega arith)
         (λ v m h. (inl (known rnd c v (h .0)), h .1))) (
           c .phase .0,
           record {
@@ -44,7 +44,7 @@ module _ (n f : ℕ) (half : f + f < n) where
         w : Writes n f out γ i r op (ν .request) l rnd t s
         w = c .phase .1
 
-        known : (rnd : Round) → Local n f out γ i r op (waiting (writing o rnd t s) ν) l → (v : Value)
+        known : (rnd : Round) → Local n f out γ i r op (withWait (writing o rnd t s) ν) l → (v : Value)
             → (v ∈ ν .all) ⊎ Pending i r op (writing o rnd t s) v → v ∈ ν .all
         known rnd c v (inl m) = m
         known round0 c v (inr e) =
@@ -53,14 +53,14 @@ module _ (n f : ℕ) (half : f + f < n) where
             back op a v (λ m. c .took k (value v) (mem-up (wrote .sits) m) .1) e (wrote .has)
 
   pub write-pass : {out : Logs} {γ : Past} {i r : ℕ} {op : Operation} {l : Log} (ν : Node) (w : Wait)
-      → Local n f out γ i r op (waiting w ν) l → Fine n f out γ i r op l (writePass n f (waiting w ν) w)
+      → Local n f out γ i r op (withWait w ν) l → Fine n f out γ i r op l (writePass n f (withWait w ν) w)
   write-pass ν idle c = fine-still n f c
   write-pass ν (reading o s u) c = fine-still n f c
   write-pass ν (comparing o rnd t) c = fine-still n f c
   write-pass ν (borrowing o t) c = fine-still n f c
   write-pass {out} {γ} {i} {r} {op} {l} ν (writing o rnd t s) c = elim (quorum? n f s)
       as (λ d. Fine n f out γ i r op l
-      (ite d (still (waiting (comparing o rnd t) ν)) (still (waiting (writing o rnd t s) ν)))) [
+      (ite d (still (withWait (comparing o rnd t) ν)) (still (withWait (writing o rnd t s) ν)))) [
         | yes h ↦ fine-still n f (written out γ i r op l ν o t s h rnd c)
         | no h ↦ fine-still n f c
       ]

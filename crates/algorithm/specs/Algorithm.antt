@@ -11,9 +11,9 @@ use Rattle.history.specs.Message.{Value, View, Message, read, readAnswer, write
 use Rattle.history.specs.Event.{Operation, update, scan, Round, round0, round1, round2, round3, Rule, direct, borrowed}
 use Rattle.history.specs.Event.{Ending, none, done, shown, spent}
 pub use Rattle.algorithm.specs.Node.{Nodes, nobody, Wait, idle, reading, writing, comparing, borrowing, Good}
-pub use Rattle.algorithm.specs.Node.{Node, fresh, turned, topping, holding, keep, waiting, asking, latest}
+pub use Rattle.algorithm.specs.Node.{Node, fresh, withRequest, topping, holding, keep, withWait, asking, latest}
 pub use Rattle.algorithm.specs.Node.{viewUpto, agrees, quorum?}
-unfoldable pub use Rattle.algorithm.specs.Node.{same, has, within, newest, highest, table, kept}
+unfoldable pub use Rattle.algorithm.specs.Node.{same, has, includedUpTo, newest, highest, table, kept}
 
 -- The largest tag, and the largest request number.
 unfoldable pub limit : ℕ
@@ -62,7 +62,7 @@ raise t ν = ite (decLt (ν .maxtag) t) (sending (echo t ∷ []) (topping t ν))
 -- sender's first; a write answer must have the written tag too.
 abbrev pub readAnswered : ℕ → ℕ → ℕ → Node → Wait → Node
 readAnswered k q t ν (reading op s u) =
-    ite (ℕ-discrete q (ν .request)) (cond (s k) ν (waiting (reading op (upd s k true) (max u t)) ν)) ν
+    ite (ℕ-discrete q (ν .request)) (cond (s k) ν (withWait (reading op (upd s k true) (max u t)) ν)) ν
 readAnswered k q t ν idle = ν
 readAnswered k q t ν (writing op r u s) = ν
 readAnswered k q t ν (comparing op r u) = ν
@@ -70,7 +70,7 @@ readAnswered k q t ν (borrowing op u) = ν
 
 abbrev pub writeAnswered : ℕ → ℕ → ℕ → Node → Wait → Node
 writeAnswered k q t ν (writing op r u s) =
-    ite (ℕ-discrete q (ν .request)) (ite (ℕ-discrete t u) (waiting (writing op r u (upd s k true)) ν) ν) ν
+    ite (ℕ-discrete q (ν .request)) (ite (ℕ-discrete t u) (withWait (writing op r u (upd s k true)) ν) ν) ν
 writeAnswered k q t ν idle = ν
 writeAnswered k q t ν (reading op s u) = ν
 writeAnswered k q t ν (comparing op r u) = ν
@@ -102,23 +102,23 @@ finish scan rule v = shown rule v
 -- spent.
 abbrev pub afterRead : ℕ → ℕ → Operation → Node → Step
 afterRead i u (update p) ν = ite (ℕ-discrete u limit)
-    (ended spent [] (waiting idle ν))
+    (ended spent [] (withWait idle ν))
     (sending (value (record { tag = suc u; writer = i; report = p }) ∷ []) ν then opening (update p) round0 u)
 afterRead i u scan ν = opening scan round1 u ν
 
 -- After a good round (lines 18 and 19; then 8 and 9 after round 0, and 24 and 25 after the others).
 abbrev pub afterGood : Operation → Round → ℕ → View → Node → Step
 afterGood op round0 t v ν = sending (good t v ∷ []) ν then opening op round1 (max (suc t) (ν .maxtag))
-afterGood op round1 t v ν = ended (finish op (direct round1) v) (good t v ∷ []) (waiting idle ν)
-afterGood op round2 t v ν = ended (finish op (direct round2) v) (good t v ∷ []) (waiting idle ν)
-afterGood op round3 t v ν = ended (finish op (direct round3) v) (good t v ∷ []) (waiting idle ν)
+afterGood op round1 t v ν = ended (finish op (direct round1) v) (good t v ∷ []) (withWait idle ν)
+afterGood op round2 t v ν = ended (finish op (direct round2) v) (good t v ∷ []) (withWait idle ν)
+afterGood op round3 t v ν = ended (finish op (direct round3) v) (good t v ∷ []) (withWait idle ν)
 
 -- After a failed round (line 21; then 8 and 9 after round 0, 28 and 23 after rounds 1 and 2, 26 to 29 after round 3).
 abbrev pub afterFailed : Operation → Round → ℕ → Node → Step
 afterFailed op round0 t ν = opening op round1 (max (suc t) (ν .maxtag)) ν
 afterFailed op round1 t ν = opening op round2 (ν .maxtag) ν
 afterFailed op round2 t ν = opening op round3 (ν .maxtag) ν
-afterFailed op round3 t ν = still (waiting (borrowing op t) ν)
+afterFailed op round3 t ν = still (withWait (borrowing op t) ν)
 
 -- Lines 36 and 37: a quorum has answered the read. Amendment 3: the own maxtag counts too.
 abbrev pub readPass : (n f i : ℕ) → Node → Wait → Step
@@ -130,7 +130,7 @@ readPass n f i ν (borrowing op t) = still ν
 
 -- Line 39: a quorum has answered the write.
 abbrev pub writePass : (n f : ℕ) → Node → Wait → Step
-writePass n f ν (writing op r t s) = ite (quorum? n f s) (still (waiting (comparing op r t) ν)) (still ν)
+writePass n f ν (writing op r t s) = ite (quorum? n f s) (still (withWait (comparing op r t) ν)) (still ν)
 writePass n f ν idle = still ν
 writePass n f ν (reading op s u) = still ν
 writePass n f ν (comparing op r t) = still ν
@@ -149,7 +149,7 @@ comparePass n f i ν (borrowing op t) = still ν
 -- Lines 29 and 30, with amendment 4: the view of the good message that is kept, once its tag is not below the round's.
 abbrev pub borrowPass : (n : ℕ) → Node → Wait → Step
 borrowPass n ν (borrowing op t) = ite (decLe t (kept n (ν .goods) .tag))
-    (ended (finish op borrowed (kept n (ν .goods) .view)) [] (waiting idle ν))
+    (ended (finish op borrowed (kept n (ν .goods) .view)) [] (withWait idle ν))
     (still ν)
 borrowPass n ν idle = still ν
 borrowPass n ν (reading op s u) = still ν

@@ -50,8 +50,8 @@ abbrev pub fresh : Node
 fresh = record { all = []; from = λ j. []; maxtag = 0; goods = []; request = 0; wait = idle }
 
 -- The node with another request number and wait, another maxtag, other values.
-abbrev pub turned : ℕ → Wait → Node → Node
-turned q w ν = record { all = ν .all; from = ν .from; maxtag = ν .maxtag; goods = ν .goods; request = q; wait = w }
+abbrev pub withRequest : ℕ → Wait → Node → Node
+withRequest q w ν = record { all = ν .all; from = ν .from; maxtag = ν .maxtag; goods = ν .goods; request = q; wait = w }
 
 abbrev pub topping : ℕ → Node → Node
 topping t ν =
@@ -72,11 +72,11 @@ keep t v ν = record {
 }
 
 -- The node with another wait, and with the next request number used besides.
-abbrev pub waiting : Wait → Node → Node
-waiting w ν = turned (ν .request) w ν
+abbrev pub withWait : Wait → Node → Node
+withWait w ν = withRequest (ν .request) w ν
 
 abbrev pub asking : Wait → Node → Node
-asking w ν = turned (suc (ν .request)) w ν
+asking w ν = withRequest (suc (ν .request)) w ν
 
 -- Sets of values.
 
@@ -98,9 +98,9 @@ has [] v = false
 has (x ∷ l) v = decide (same v x) || has l v
 
 -- Each value of the first list up to tag t is in the second.
-unfoldable pub within : ℕ → List Value → List Value → Bool
-within t [] b = true
-within t (v ∷ a) b = cond (decide (decLe (v .tag) t)) (has b v) true && within t a b
+unfoldable pub includedUpTo : ℕ → List Value → List Value → Bool
+includedUpTo t [] b = true
+includedUpTo t (v ∷ a) b = cond (decide (decLe (v .tag) t)) (has b v) true && includedUpTo t a b
 
 -- The newest value of writer w up to tag t (line 33).
 unfoldable pub newest : ℕ → ℕ → List Value → Entry
@@ -130,7 +130,7 @@ viewUpto n t l = table (λ w. newest w t l) n
 -- EQ of line 15 (definition 6): node k has sent this node the very values up to tag t that it has itself. It agrees
 -- with itself.
 abbrev pub agrees : ℕ → Node → ℕ → Nodes
-agrees i ν t k = decide (ℕ-discrete k i) || (within t (ν .from k) (ν .all) && within t (ν .all) (ν .from k))
+agrees i ν t k = decide (ℕ-discrete k i) || (includedUpTo t (ν .from k) (ν .all) && includedUpTo t (ν .all) (ν .from k))
 
 -- A quorum is n − f nodes (lines 15, 36 and 39).
 abbrev pub quorum? : (n f : ℕ) (s : Nodes) → Dec (n - f ≤ count s n)

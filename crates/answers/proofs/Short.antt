@@ -17,8 +17,8 @@ use Rattle.digits.proofs.DecimalBack.{length-decimal}
 use Rattle.digits.proofs.HexBack.{length-text}
 use Rattle.answers.specs.Answer.{doneIs, scanIs, spentIs, noIs, start, entry, entryAt, entries, feed, line, room}
 use Rattle.answers.specs.Answer.{wordRoom, startRoom, entryRoom}
-use Rattle.answers.specs.declared.Reply.{Reply}
-use Rattle.answers.specs.declared.Reply.the-variants.{Done, Scan, Spent, No, Nothing}
+use Rattle.answers.specs.declared.Printed.{Printed}
+use Rattle.answers.specs.declared.Printed.the-variants.{Done, Scan, Spent, No, Nothing}
 
 start-short : (e : ℕ) (w : List ℕ) (c : ℕ) → length w ≤ wordRoom → length (start e w c) ≤ startRoom
 unfolding start
@@ -44,7 +44,7 @@ entries-short n v =
     let l : length (join k (entryAt v)) ≤ entryRoom * k = join-short k entryRoom (entryAt v) (λ i. entry-short _ _) in
     omega arith
 
-pub line-short : (e : ℕ) (r : Reply) (n : ℕ) (v : View) → length (line e r n v) ≤ room
+pub line-short : (e : ℕ) (r : Printed) (n : ℕ) (v : View) → length (line e r n v) ≤ room
 unfolding line
 line-short e (Done c) n v = simp length-append (omega (arith, start-short e doneIs c (omega arith)))
 line-short e (Scan c) n v =

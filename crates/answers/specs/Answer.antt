@@ -12,8 +12,8 @@ use Rattle.view.specs.Size.{nodes, reportSize}
 use Rattle.view.specs.declared.View.{View}
 use Rattle.digits.specs.Decimal.{decimal}
 use Rattle.digits.specs.Hex.{hexText, hexSize}
-use Rattle.answers.specs.declared.Reply.{Reply}
-use Rattle.answers.specs.declared.Reply.the-variants.{Done, Scan, Spent, No, Nothing}
+use Rattle.answers.specs.declared.Printed.{Printed}
+use Rattle.answers.specs.declared.Printed.the-variants.{Done, Scan, Spent, No, Nothing}
 
 -- the words, each between two spaces
 abbrev pub doneIs : List ℕ
@@ -62,7 +62,7 @@ abbrev pub feed : List ℕ
 feed = 10 ∷ []
 
 -- what event e prints, in a cluster of n nodes; v is the view of a scan that ended
-unfoldable pub line : (e : ℕ) → Reply → (n : ℕ) → View → List ℕ
+unfoldable pub line : (e : ℕ) → Printed → (n : ℕ) → View → List ℕ
 line e (Done c) n v = start e doneIs c ++ feed
 line e (Scan c) n v = start e scanIs c ++ entries n v ++ feed
 line e (Spent c) n v = start e spentIs c ++ feed

@@ -29,7 +29,7 @@ const ENTRY_ROOM: usize = 1 + 2 * REPORT;
 pub const ROOM: usize = START_ROOM + ENTRY_ROOM * NODES + 1;
 
 // What is printed of an event: the ending of an operation at a node, a refusal's number, or nothing.
-pub enum Reply {
+pub enum Printed {
     Done(usize),
     Scan(usize),
     Spent(usize),
@@ -112,20 +112,20 @@ fn put_short(out: &mut [u8], at: usize, event: u64, word: &[u8], x: u64) -> usiz
 }
 
 // Writes the line of an event; the other bytes stay.
-pub fn put_line(out: &mut [u8], at: usize, event: u64, reply: Reply, n: usize, v: View) -> usize
+pub fn put_line(out: &mut [u8], at: usize, event: u64, reply: Printed, n: usize, v: View) -> usize
     requires { ⌜ at + room ≤ length (now out) ⌝ }
     ensures { λ r. ⌜ (now (out .exit) ≡ put (now (out .entry)) at (line event reply n v))
         × (r ≡ at + length (line event reply n v)) ⌝ }
 {
     match reply {
-        Reply::Done(c) => put_short(out, at, event, b" done ", c as u64),
-        Reply::Scan(c) => {
+        Printed::Done(c) => put_short(out, at, event, b" done ", c as u64),
+        Printed::Scan(c) => {
             let k = put_start(out, at, event, b" scan ", c as u64);
             let e = put_entries(out, k, least(n, NODES), v);
             put_feed(out, e)
         }
-        Reply::Spent(c) => put_short(out, at, event, b" spent ", c as u64),
-        Reply::No(k) => put_short(out, at, event, b" no ", k as u64),
-        Reply::Nothing => at,
+        Printed::Spent(c) => put_short(out, at, event, b" spent ", c as u64),
+        Printed::No(k) => put_short(out, at, event, b" no ", k as u64),
+        Printed::Nothing => at,
     }
 }

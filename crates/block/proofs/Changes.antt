@@ -21,8 +21,8 @@ use Rattle.region.specs.Channel.{channelSize, slotSize, push, pop, clear}
 use Rattle.region.specs.Record.{recordSize, recordBytes}
 use Rattle.region.proofs.Waiting.{length-push, length-pop, length-clear}
 use Rattle.region.proofs.Saved.{length-recordBytes}
-use Rattle.block.specs.Block.{blockSize, channelPlace, hasStopped, recordIn, channelIn, onChannel, keep, takeOff}
-use Rattle.block.specs.Block.{receive, halt}
+use Rattle.block.specs.Block.{blockSize, channelPlace, hasStopped, recordIn, channelIn, onChannel, keepRecord}
+use Rattle.block.specs.Block.{takeOff, receive, halt}
 use Rattle.block.specs.Block.{recordPlace}
 
 -- A block of the right length, and a change of a channel that keeps its length.
@@ -65,27 +65,28 @@ module _ (k : List ℕ) (size : length k ≡ blockSize) (d : Node) (heard : leng
       put-over (part k recordPlace recordSize) (recordBytes d)
       (length-recordBytes d heard ∙ sym (length-part k recordPlace recordSize (omega arith)))
 
-  kept : keep d k ≡ put k recordPlace (recordBytes d)
-  unfolding keep
+  kept : keepRecord d k ≡ put k recordPlace (recordBytes d)
+  unfolding keepRecord
   kept = ap (λ (t : List ℕ). put k recordPlace t) over
 
-  pub keep-length : length (keep d k) ≡ blockSize
-  keep-length = ap length kept ∙ length-put k recordPlace (recordBytes d) (omega (arith, length-recordBytes d heard))
+  pub keepRecord-length : length (keepRecord d k) ≡ blockSize
+  keepRecord-length =
+      ap length kept ∙ length-put k recordPlace (recordBytes d) (omega (arith, length-recordBytes d heard))
       ∙ size
 
-  pub keep-flag : getD (keep d k) 0 0 ≡ getD k 0 0
-  keep-flag =
+  pub keepRecord-flag : getD (keepRecord d k) 0 0 ≡ getD k 0 0
+  keepRecord-flag =
       ap (λ (t : List ℕ). getD t 0 0) kept ∙ getD-other k recordPlace (recordBytes d) 0 (omega arith) (λ q. omega arith)
 
-  pub keep-record : recordIn (keep d k) ≡ recordBytes d
+  pub keepRecord-record : recordIn (keepRecord d k) ≡ recordBytes d
   unfolding recordIn
-  keep-record =
+  keepRecord-record =
       ap (λ (t : List ℕ). part t recordPlace recordSize) kept
       ∙ part-same k recordPlace (recordBytes d) recordSize (omega arith) (length-recordBytes d heard)
 
-  pub keep-channel : (a : ℕ) → channelIn (keep d k) a ≡ channelIn k a
+  pub keepRecord-channel : (a : ℕ) → channelIn (keepRecord d k) a ≡ channelIn k a
   unfolding channelIn
-  keep-channel a =
+  keepRecord-channel a =
       ap (λ (t : List ℕ). part t (channelPlace a) channelSize) kept
       ∙ part-other k recordPlace (recordBytes d) (channelPlace a) channelSize (omega arith) (λ q. omega arith)
       (λ q. omega (arith, length-recordBytes d heard))

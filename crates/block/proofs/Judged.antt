@@ -23,7 +23,7 @@ use Rattle.view.specs.View.{tagAt, reportAt, reportWord, viewOf, entryOkAt, vie
 use Rattle.view.specs.declared.Report.{Report}
 use Rattle.view.proofs.ReportBytes.{none-zero}
 use Rattle.table.specs.Loop.{either, all}
-use Rattle.table.specs.Table.{at, tagOf, reportOf as reportIn, entryOk, entryWithin, within, heardWithin, cells}
+use Rattle.table.specs.Table.{at, tagOf, reportOf as reportIn, entryOk, entryWithin, viewWithin, heardWithin, cells}
 use Rattle.record.specs.Usable.{roundTag, numbersWithin, numbersOk, tablesOk, usable}
 use Rattle.region.specs.Record.{heardPlace, viewIn, waitIn, recordOf, codesKnown, nPlace, ownPlace, maxtagPlace, lastIn}
 use Rattle.region.specs.Record.{requestPlace, keptPlace, atmaxIn, atroundIn, keptIn}
@@ -70,8 +70,8 @@ all-allTo (suc k) p q h =
     ap₂ both (h k (omega arith) ∙ ap p e) (all-allTo k p q (λ i l. h i (omega arith)))
 
 pub view-within : (t : ℕ) (b : List ℕ) → Bytes b → length b ≡ viewSize nodes → viewOk nodes t b
-    ≡ within t (viewOf nodes b)
-unfolding viewOk within viewOf
+    ≡ viewWithin t (viewOf nodes b)
+unfolding viewOk viewWithin viewOf
 view-within t b h l = all-allTo nodes (entryWithin t (viewOf nodes b)) (entryOkAt t b) (λ i m.
     let e : i + 1 - 1 ≡ i = omega arith in
     let s = part b (entrySize * i + tagSize) reportSize in
@@ -91,8 +91,9 @@ sizesWithin n own = both (both (leb 1 n) (leb n nodes)) (both (leb 1 own) (leb o
 
 abbrev pub tablesWithin : (maxtag round kept : ℕ) → List ℕ → Bool
 tablesWithin maxtag round kept r =
-    both (both (heardWithin (words cells r heardPlace)) (within limit (viewIn r lastIn)))
-    (both (both (within maxtag (viewIn r atmaxIn)) (within round (viewIn r atroundIn))) (within kept (viewIn r keptIn)))
+    both (both (heardWithin (words cells r heardPlace)) (viewWithin limit (viewIn r lastIn)))
+    (both (both (viewWithin maxtag (viewIn r atmaxIn)) (viewWithin round (viewIn r atroundIn)))
+    (viewWithin kept (viewIn r keptIn)))
 
 abbrev judgedAs : (n own : ℕ) → List ℕ → Bool
 judgedAs n own r =

@@ -57,8 +57,8 @@ onChannel a f k = change (channelPlace a) channelSize f k
 
 -- The changes of a block: another record; one message from node a less; one more, unless the node has stopped; and the
 -- stop, which empties the channels from 1 to n.
-unfoldable pub keep : Node → List ℕ → List ℕ
-keep c k = change recordPlace recordSize (λ r. put r 0 (recordBytes c)) k
+unfoldable pub keepRecord : Node → List ℕ → List ℕ
+keepRecord c k = change recordPlace recordSize (λ r. put r 0 (recordBytes c)) k
 
 unfoldable pub takeOff : ℕ → List ℕ → List ℕ
 takeOff a k = onChannel a pop k

@@ -28,7 +28,7 @@ ghost use lib.ListN.{length};
 ghost use Rattle.octets.specs.Test.{both};
 ghost use Rattle.octets.specs.Word.{words};
 ghost use Rattle.view.specs.Size.{limit, nodes};
-ghost use Rattle.table.specs.Table.{within, heardWithin, cells};
+ghost use Rattle.table.specs.Table.{viewWithin, heardWithin, cells};
 ghost use Rattle.region.specs.Record.{recordSize, heardPlace, viewIn, lastIn, atmaxIn, atroundIn, keptIn, views};
 ghost use Rattle.block.specs.Block.{recordSound};
 
@@ -52,7 +52,7 @@ fn heard_sound(r: &[u8]) -> bool
 // Whether view i has no tag above `top` and no report beside tag 0.
 fn view_sound(r: &[u8], i: usize, top: u64) -> bool
     requires { ⌜ (length (now r) ≡ recordSize) × (i < views) ⌝ }
-    ensures { λ t. ⌜ t ≡ within top (viewIn (now (r .entry)) i) ⌝ }
+    ensures { λ t. ⌜ t ≡ viewWithin top (viewIn (now (r .entry)) i) ⌝ }
 {
     let at = VIEWS_PLACE + VIEW * i;
     let end = at + VIEW;
@@ -63,10 +63,11 @@ fn view_sound(r: &[u8], i: usize, top: u64) -> bool
 fn tables_sound(r: &[u8], maxtag: u64, round: u64, kept: u64) -> bool
     requires { ⌜ length (now r) ≡ recordSize ⌝ }
     ensures { λ t. ⌜ t ≡ both
-        (both (heardWithin (words cells (now (r .entry)) heardPlace)) (within limit (viewIn (now (r .entry)) lastIn)))
-        (both (both (within maxtag (viewIn (now (r .entry)) atmaxIn))
-        (within round (viewIn (now (r .entry)) atroundIn)))
-        (within kept (viewIn (now (r .entry)) keptIn))) ⌝ }
+        (both (heardWithin (words cells (now (r .entry)) heardPlace))
+        (viewWithin limit (viewIn (now (r .entry)) lastIn)))
+        (both (both (viewWithin maxtag (viewIn (now (r .entry)) atmaxIn))
+        (viewWithin round (viewIn (now (r .entry)) atroundIn)))
+        (viewWithin kept (viewIn (now (r .entry)) keptIn))) ⌝ }
 {
     and(
         and(heard_sound(r), view_sound(r, LAST_IN, LIMIT)),

@@ -14,7 +14,7 @@ ghost use lib.ListN.{length};
 ghost use Rattle.view.specs.Size.{nodes};
 ghost use Rattle.region.specs.Channel.{slotSize, first};
 ghost use Rattle.region.specs.Record.{recordSize, recordOf, recordBytes};
-ghost use Rattle.block.specs.Block.{blockSize, hasStopped, recordIn, channelIn, waitingIn, keep, takeOff};
+ghost use Rattle.block.specs.Block.{blockSize, hasStopped, recordIn, channelIn, waitingIn, keepRecord, takeOff};
 ghost use Rattle.block.specs.Block.{receive, halt, channelsSound, blockSound};
 
 // Where the parts of a block stand, and its bytes.
@@ -56,7 +56,7 @@ pub fn first_in(k: &[u8], a: usize) -> &[u8]
 // Writes another record.
 pub fn keep_node(k: &mut [u8], c: Node)
     requires { ⌜ length (now k) ≡ blockSize ⌝ }
-    ensures { λ _. ⌜ now (k .exit) ≡ keep c (now (k .entry)) ⌝ }
+    ensures { λ _. ⌜ now (k .exit) ≡ keepRecord c (now (k .entry)) ⌝ }
 {
     region::stored::save(&mut k[RECORD_PLACE..CHANNELS_PLACE], c);
 }
@@ -73,7 +73,7 @@ pub fn copy_record(k: &[u8], r: &mut [u8])
 pub fn keep_record(k: &mut [u8], r: &[u8])
     requires { ⌜ (length (now k) ≡ blockSize) × (length (now r) ≡ recordSize)
         × (now r ≡ recordBytes (recordOf (now r))) ⌝ }
-    ensures { λ _. ⌜ now (k .exit) ≡ keep (recordOf (now (r .entry))) (now (k .entry)) ⌝ }
+    ensures { λ _. ⌜ now (k .exit) ≡ keepRecord (recordOf (now (r .entry))) (now (k .entry)) ⌝ }
 {
     octets::put_bytes(k, RECORD_PLACE, r);
 }

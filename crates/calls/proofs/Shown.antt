@@ -18,20 +18,20 @@ use Rattle.step.specs.declared.Ending.the-variants.{None, Done, Scan, Spent}
 use Rattle.step.specs.declared.Step.{Step}
 use Rattle.step.specs.Move.{messageStep, beginStep}
 use Rattle.step.specs.Stale.{staleMessage}
-use Rattle.step.specs.Told.{told, shown}
+use Rattle.step.specs.Told.{told, toldView}
 use Rattle.step.proofs.Numbers.{on-pick}
 use Rattle.step.proofs.Theorems as step
 use Rattle.calls.specs.Entry.{leastOutput, letOut, beside, taken, begin, message}
-use Rattle.calls.specs.Outcome.{Outcome}
+use Rattle.calls.specs.Outcome.{CallResult}
 use Rattle.calls.specs.Shown as claim
 use Rattle.record.specs.Record.{faultsOf}
 
 module _ (n : ℕ) (h : n ≤ nodes) where
-  abbrev Shows : Outcome → Type 0
-  Shows r = AbsentPast n (shown (r .answer))
+  abbrev Shows : CallResult → Type 0
+  Shows r = AbsentPast n (toldView (r .answer))
 
   -- only the ending of a scan shows a view
-  by-ending : (e : Ending) (v : View) → AbsentPast n v → AbsentPast n (shown (told (result e) v))
+  by-ending : (e : Ending) (v : View) → AbsentPast n v → AbsentPast n (toldView (told (result e) v))
   by-ending None v a = none-absent n h
   by-ending (Done r) v a = none-absent n h
   by-ending (Scan r) v a = a

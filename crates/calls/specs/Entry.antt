@@ -24,17 +24,17 @@ use Rattle.step.specs.Move.{messageStep, beginStep}
 use Rattle.step.specs.Stale.{staleMessage}
 use Rattle.step.specs.Told.{told}
 use Rattle.calls.specs.Bytes.{outBytes}
-use Rattle.calls.specs.Outcome.{Outcome}
+use Rattle.calls.specs.Outcome.{CallResult}
 
 -- the least length of an output buffer
 abbrev pub leastOutput : ℕ
 leastOutput = 512
 
-abbrev pub refuse : ℕ → Node → List ℕ → Outcome
+abbrev pub refuse : ℕ → Node → List ℕ → CallResult
 refuse k c out = record { answer = told (refused k) noView; node = c; length = 0; out = out }
 
 -- the step's messages stand in order from the buffer's start, the other bytes are untouched
-unfoldable pub letOut : Step → List ℕ → Outcome
+unfoldable pub letOut : Step → List ℕ → CallResult
 letOut s out =
     record {
       answer = told (result (s .ending)) (s .view);
@@ -45,7 +45,7 @@ letOut s out =
 
 -- Fresh node, which has no output buffer. 1: n not 1 to 16, or own number not 1 to n. The record beside that refusal is
 -- no usable one.
-unfoldable pub fresh : ℕ → ℕ → Outcome
+unfoldable pub fresh : ℕ → ℕ → CallResult
 fresh n own =
     pick (isSize n)
     (pick (both (leb 1 own) (leb own n))
@@ -55,7 +55,7 @@ fresh n own =
 
 -- Begin. 12: output buffer too short. 2: record unusable. 5: an operation is open. 6: fewer than five request
 -- numbers left.
-unfoldable pub begin : Node → Operation → List ℕ → Outcome
+unfoldable pub begin : Node → Operation → List ℕ → CallResult
 begin c o out =
     pick (ltb (length out) leastOutput) (refuse 12 c out)
     (pick (usable c)
@@ -74,14 +74,14 @@ beside n v (Value t w p) = noView
 beside n v (Good t) = viewOf n v
 
 -- by what was read: the answer, and the bytes v of its view
-unfoldable pub taken : Node → ℕ → List ℕ → List ℕ → Answer Message → Outcome
+unfoldable pub taken : Node → ℕ → List ℕ → List ℕ → Answer Message → CallResult
 taken c s v out (refused k) = refuse 7 c out
 taken c s v out (result m) =
     pick (staleMessage c s m) (refuse 9 c out)
     (letOut (messageStep (faultsOf c) c s m (beside (c .n) v m)) out)
 
 -- Message. 12, 2 as above. 3: sender not 1 to n. 7: not of the layout. 9: see staleMessage.
-unfoldable pub message : Node → ℕ → List ℕ → List ℕ → Outcome
+unfoldable pub message : Node → ℕ → List ℕ → List ℕ → CallResult
 message c s b out =
     pick (ltb (length out) leastOutput) (refuse 12 c out)
     (pick (usable c)

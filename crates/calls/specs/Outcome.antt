@@ -5,7 +5,7 @@ use Rattle.record.specs.declared.Node.{Node}
 use Rattle.step.specs.Told.{Told}
 
 -- What is told, the record, how many bytes of messages stand at the start of the output buffer, and the whole buffer.
-pub record Outcome : Type 0 where
+pub record CallResult : Type 0 where
   pub answer : Told
   pub node : Node
   pub length : ℕ

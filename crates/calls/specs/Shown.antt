@@ -7,13 +7,13 @@ use Rattle.view.specs.Size.{nodes}
 use Rattle.view.specs.View.{AbsentPast}
 use Rattle.record.specs.declared.Node.{Node}
 use Rattle.record.specs.declared.Operation.{Operation}
-use Rattle.step.specs.Told.{shown}
+use Rattle.step.specs.Told.{toldView}
 use Rattle.calls.specs.Entry.{begin, message}
 
 abbrev pub BeginAbsent : Type 0
 BeginAbsent = (c : Node) (o : Operation) (out : List ℕ) → c .n ≤ nodes
-    → AbsentPast (c .n) (shown (begin c o out .answer))
+    → AbsentPast (c .n) (toldView (begin c o out .answer))
 
 abbrev pub MessageAbsent : Type 0
 MessageAbsent = (c : Node) (s : ℕ) (b out : List ℕ) → c .n ≤ nodes
-    → AbsentPast (c .n) (shown (message c s b out .answer))
+    → AbsentPast (c .n) (toldView (message c s b out .answer))

@@ -7,7 +7,7 @@ use lib.ListN.{length, length-replicate}
 use Rattle.view.specs.Report.{noReport}
 use Rattle.view.specs.Size.{limit, nodes}
 use Rattle.view.specs.View.{noView}
-use Rattle.table.specs.Quorum.{size, isQuorum, agreeing}
+use Rattle.table.specs.Quorum.{setSize, isQuorum, agreeing}
 use Rattle.record.specs.declared.Node.{Node}
 use Rattle.record.specs.declared.Operation.{Operation}
 use Rattle.record.specs.declared.Operation.the-variants.{Update, Scan}
@@ -35,10 +35,10 @@ module _ (f : ℕ) (s : Step) (z : Held s) where
   read-holds : (w : Wait) → Held (readPass f s (s .node) w)
   unfolding readPass afterRead opened
   read-holds (Reading (Update p) a m) =
-      on-pick Held (isQuorum (s .node .n) f (size (s .node .n) a)) _ _
+      on-pick Held (isQuorum (s .node .n) f (setSize (s .node .n) a)) _ _
       (λ e. on-pick Held (eqb (max m (s .node .maxtag)) limit) _ _ (λ e. sized-none) (λ e. sized-newest _ _ _)) (λ e. z)
   read-holds (Reading Scan a m) =
-      on-pick Held (isQuorum (s .node .n) f (size (s .node .n) a)) _ _ (λ e. sized-newest _ _ _) (λ e. z)
+      on-pick Held (isQuorum (s .node .n) f (setSize (s .node .n) a)) _ _ (λ e. sized-newest _ _ _) (λ e. z)
   read-holds Idle = z
   read-holds (Writing k i r a) = z
   read-holds (Comparing k i r) = z
@@ -46,7 +46,7 @@ module _ (f : ℕ) (s : Step) (z : Held s) where
 
   write-holds : (w : Wait) → Held (writePass f s (s .node) w)
   unfolding writePass
-  write-holds (Writing k i r a) = on-pick Held (isQuorum (s .node .n) f (size (s .node .n) a)) _ _ (λ e. z) (λ e. z)
+  write-holds (Writing k i r a) = on-pick Held (isQuorum (s .node .n) f (setSize (s .node .n) a)) _ _ (λ e. z) (λ e. z)
   write-holds Idle = z
   write-holds (Reading o a m) = z
   write-holds (Comparing k i r) = z

@@ -1,6 +1,6 @@
 // A message handed to a node: the step is done on a copy of the bytes of its record, and written where nothing is
 // refused.
-use events::Answer;
+use events::Reply;
 use events::answered;
 use events::refused;
 use layout::copy_record_at;
@@ -57,7 +57,7 @@ fn hand_on<'a>(
     m: Message,
     x: Extent,
     r: &'a mut [u8],
-) -> Answer
+) -> Reply
     requires { ⌜ Ready n a c (now b) × (lawful n m (viewOf n (viewAt n (first (channel (now b) a c)))) ≡ true)
         × (length (now r) ≡ recordSize) ⌝ }
     ensures { λ t. ⌜ tells t (now (b .exit))
@@ -77,7 +77,7 @@ fn hand_on<'a>(
     answered(room, is_cut(x), ending, e.view)
 }
 
-pub(crate) fn hand_over(b: &mut [u8], n: usize, a: usize, c: usize, m: Message, x: Extent) -> Answer
+pub(crate) fn hand_over(b: &mut [u8], n: usize, a: usize, c: usize, m: Message, x: Extent) -> Reply
     requires { ⌜ Ready n a c (now b) × (lawful n m (viewOf n (viewAt n (first (channel (now b) a c)))) ≡ true) ⌝ }
     ensures { λ r. ⌜ tells r (now (b .exit))
         (handOver n a c x (now (b .entry)) (first (channel (now (b .entry)) a c)) m) ⌝ }

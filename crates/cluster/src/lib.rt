@@ -3,7 +3,7 @@
 mod handing;
 
 use block::BLOCK;
-use events::Answer;
+use events::Reply;
 use events::answered;
 use events::given;
 use events::refused;
@@ -42,7 +42,7 @@ ghost use Rattle.octets.specs.Loop.{upTo};
 ghost use Rattle.view.specs.Size.{nodes};
 ghost use Rattle.record.specs.Record.{blank};
 ghost use Rattle.region.specs.Record.{recordSize};
-ghost use Rattle.block.specs.Block.{keep};
+ghost use Rattle.block.specs.Block.{keepRecord};
 ghost use Rattle.layout.specs.Layout.{clusterSize, onBlock};
 ghost use Rattle.events.specs.Event.{admission as admissionOf, openIn};
 ghost use Rattle.events.specs.Event.{fresh as freshEvent, begin as beginEvent, deliver as deliverEvent};
@@ -53,7 +53,7 @@ ghost use Rattle.events.specs.Ready.{Ready};
 // A fresh record in every block.
 fn blank_blocks(b: &mut [u8], n: usize)
     requires { ⌜ (n ≤ nodes) × (length (now b) ≡ clusterSize n) ⌝ }
-    ensures { λ _. ⌜ now (b .exit) ≡ upTo n (λ i. onBlock (i + 1) (keep (blank n (i + 1)))) (now (b .entry)) ⌝ }
+    ensures { λ _. ⌜ now (b .exit) ≡ upTo n (λ i. onBlock (i + 1) (keepRecord (blank n (i + 1)))) (now (b .entry)) ⌝ }
 {
     let mut i = 0;
     while i < n {
@@ -63,7 +63,7 @@ fn blank_blocks(b: &mut [u8], n: usize)
 }
 
 // Makes the lent bytes a fresh cluster of n nodes, or refuses with 1, 12.
-pub fn fresh(n: usize, b: &mut [u8]) -> Answer
+pub fn fresh(n: usize, b: &mut [u8]) -> Reply
     ensures { λ r. ⌜ tells r (now (b .exit)) (freshEvent n (now (b .entry))) ⌝ }
 {
     if !and(1 <= n, n <= NODES) {
@@ -87,7 +87,7 @@ fn open_on<'a>(
     o: Operation,
     x: Extent,
     r: &'a mut [u8],
-) -> Answer
+) -> Reply
     requires { ⌜ Ready n c c (now b) × (length (now r) ≡ recordSize) ⌝ }
     ensures { λ t. ⌜ tells t (now (b .exit)) (openIn n c o x (now (b .entry))) ⌝ }
 {
@@ -107,7 +107,7 @@ fn open_on<'a>(
     answered(room, is_cut(x), ending, e.view)
 }
 
-fn open_at(b: &mut [u8], n: usize, c: usize, o: Operation, x: Extent) -> Answer
+fn open_at(b: &mut [u8], n: usize, c: usize, o: Operation, x: Extent) -> Reply
     requires { ⌜ Ready n c c (now b) ⌝ }
     ensures { λ r. ⌜ tells r (now (b .exit)) (openIn n c o x (now (b .entry))) ⌝ }
 {
@@ -136,7 +136,7 @@ fn admission(b: &[u8], a: usize, c: usize) -> u8
 }
 
 // Begins an operation at node c, or refuses with 12, 2, 3, 4, 5, 6, 10, 11.
-pub fn begin(b: &mut [u8], c: usize, o: Operation, x: Extent) -> Answer
+pub fn begin(b: &mut [u8], c: usize, o: Operation, x: Extent) -> Reply
     ensures { λ r. ⌜ tells r (now (b .exit)) (beginEvent c o x (now (b .entry))) ⌝ }
 {
     let k = admission(b, c, c);
@@ -148,7 +148,7 @@ pub fn begin(b: &mut [u8], c: usize, o: Operation, x: Extent) -> Answer
 }
 
 // Delivers what has waited longest on the channel from a to c, or refuses with 12, 2, 3, 4, 8, 7, 9, 10, 11.
-pub fn deliver(b: &mut [u8], a: usize, c: usize, x: Extent) -> Answer
+pub fn deliver(b: &mut [u8], a: usize, c: usize, x: Extent) -> Reply
     ensures { λ r. ⌜ tells r (now (b .exit)) (deliverEvent a c x (now (b .entry))) ⌝ }
 {
     let k = admission(b, a, c);
@@ -166,7 +166,7 @@ pub fn deliver(b: &mut [u8], a: usize, c: usize, x: Extent) -> Answer
 }
 
 // Stops node c, or refuses with 12, 2, 3, 4, 10.
-pub fn stop(b: &mut [u8], c: usize) -> Answer
+pub fn stop(b: &mut [u8], c: usize) -> Reply
     ensures { λ r. ⌜ tells r (now (b .exit)) (stopEvent c (now (b .entry))) ⌝ }
 {
     let k = admission(b, c, c);

@@ -1,7 +1,7 @@
 // The numbers that stand for enums at the border to C: codes of answers, the numbers and the report of a message, the
 // extent of a cut; and the view of a scan that ended, written into lent memory.
-use events::Answer;
 use events::Outcome;
+use events::Reply;
 use outgoing::Extent;
 use step::Ending;
 use step::Rule;
@@ -16,7 +16,7 @@ ghost use Prim.Native.Nat.{_≤_};
 ghost use Rattle.octets.specs.Answer.{result};
 ghost use Rattle.view.specs.declared.View.{View};
 ghost use Rattle.step.specs.Told.{told};
-ghost use Rattle.events.specs.Outcome.{said, toldBy};
+ghost use Rattle.events.specs.Outcome.{answerOf, toldBy};
 ghost use Rattle.codes.specs.Code.{numbers, reportIn, messageOf};
 ghost use Rattle.codes.specs.Code.{extentOf, ruleCode, ruleIn, eventCode, eventView};
 
@@ -53,8 +53,8 @@ fn ending_code(e: Ending) -> u8
 }
 
 // The code of an event's answer.
-pub fn event_code(r: Answer) -> u8
-    ensures { λ k. ⌜ k ≡ eventCode (toldBy r) (ruleIn (said (r .outcome))) ⌝ }
+pub fn event_code(r: Reply) -> u8
+    ensures { λ k. ⌜ k ≡ eventCode (toldBy r) (ruleIn (answerOf (r .outcome))) ⌝ }
 {
     let outcome = r.outcome;
     match outcome {
@@ -64,7 +64,7 @@ pub fn event_code(r: Answer) -> u8
 }
 
 // Writes the view of a scan that ended.
-pub fn show(r: Answer, out: &mut [u8; VIEW])
+pub fn show(r: Reply, out: &mut [u8; VIEW])
     ensures { λ _. ⌜ now (out .exit) ≡ eventView (toldBy r) (now (out .entry)) ⌝ }
 {
     let outcome = r.outcome;

@@ -10,9 +10,9 @@ use mathlib.Core.List.{List, [], _∷_, List·Memᴰ·head, List·Memᴰ·tail}
 use Rattle.logs.specs.Log.{_∈_}
 use Rattle.history.specs.Message.{Value}
 use Rattle.history.specs.Order.{OneTo}
-use Rattle.algorithm.specs.Algorithm.{Node, newest, within, agrees}
+use Rattle.algorithm.specs.Algorithm.{Node, newest, includedUpTo, agrees}
 use Rattle.algorithm.specs.Node.{highest, latest}
-use Rattle.algorithm.proofs.Sets.{or-cases, or-left, or-right, and-both, and-of, within-to, within-of}
+use Rattle.algorithm.proofs.Sets.{or-cases, or-left, or-right, and-both, and-of, includedUpTo-to, includedUpTo-of}
 pub use Rattle.eqaso.specs.Bounded.{UpTo, Bounded, BoundedNode, Arrives}
 use Rattle.eqaso.proofs.Newest.{entry, newest-value, newest-above, newest-same, newest-then}
 use Rattle.eqaso.proofs.Newest.{newest-beyond, latest-above, latest-then, newest-latest}
@@ -64,17 +64,21 @@ module _ {n : ℕ} {all : List Value} {from : ℕ → List Value} {maxtag : ℕ}
   abbrev pub Covers : (t k : ℕ) → Type 0
   Covers t k = (w : ℕ) → OneTo n w → newest w t all .tag ≤ latest w (from k) .tag
 
-  pub agree-by-tags : (t k : ℕ) → ((within t (from k) all ≡ true) × (within t all (from k) ≡ true)) ↔ Covers t k
+  pub agree-by-tags : (t k : ℕ) → ((includedUpTo t (from k) all ≡ true) × (includedUpTo t all (from k) ≡ true))
+      ↔ Covers t k
   agree-by-tags t k = (
     λ (x, y) w o. covers y w,
-    λ h.
-        (within-of t (from k) all (λ v m q. b .known k v m), within-of t all (from k) (λ v m q. has-sent h v m q)),
+    λ h. (
+      includedUpTo-of t (from k) all (λ v m q. b .known k v m),
+      includedUpTo-of t all (from k)
+          (λ v m q. has-sent h v m q),
+    ),
   )
     where
-      covers : within t all (from k) ≡ true → (w : ℕ) → newest w t all .tag ≤ latest w (from k) .tag
+      covers : includedUpTo t all (from k) ≡ true → (w : ℕ) → newest w t all .tag ≤ latest w (from k) .tag
       covers y w = elim (decLt 0 (newest w t all .tag)) [
         | yes d ↦ let (v, m, p, q, e) = newest-value w t all d in
-            rw e (latest-above w (within-to t all (from k) y v m q) p)
+            rw e (latest-above w (includedUpTo-to t all (from k) y v m q) p)
         | no d ↦ omega arith
       ]
 
@@ -91,10 +95,10 @@ pub agrees-by-tags : {n : ℕ} (i : ℕ) (ν : Node) (b : BoundedNode n ν) (t k
 agrees-by-tags i ν b t k = (λ e. to (or-cases (decide (ℕ-discrete k i)) same e), of)
   where
     theirs : Bool
-    theirs = within t (ν .from k) (ν .all)
+    theirs = includedUpTo t (ν .from k) (ν .all)
 
     ours : Bool
-    ours = within t (ν .all) (ν .from k)
+    ours = includedUpTo t (ν .all) (ν .from k)
 
     same : Bool
     same = theirs && ours

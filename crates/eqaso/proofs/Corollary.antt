@@ -7,7 +7,7 @@ use mathlib.Core.Path.{_≡_, _∙_, subst}
 use Rattle.order.specs.Sequence.{before}
 use Rattle.history.specs.Message.{absent}
 use Rattle.history.specs.Event.{done, spent}
-use Rattle.history.specs.Trace.{Trace, Begun, updating, scanning, begun, Fate, unfinished, ended, fate, tagAt, viewOf}
+use Rattle.history.specs.Trace.{Trace, Begun, updating, scanning, begun, Fate, unfinished, ended, fate, tagAt, fateView}
 use Rattle.history.specs.Trace.{entryAt}
 use Rattle.history.specs.Order.{OneTo, Finished, IsScan, PlacedBy, EndedBefore, SingleOrder}
 use Rattle.history.specs.Views.{HasView, viewIn}
@@ -22,7 +22,7 @@ scan-placed tr s (scanning c) x h f = f
 
 pub scan-without-updates : {n : ℕ} {tr : Trace} → SingleOrder n tr
     → ((u c p : ℕ) → ¬ (begun tr u ≡ updating c p)) → (s : ℕ) → IsScan (begun tr s) → Finished (fate tr s)
-    → (w : ℕ) → OneTo n w → entryAt (viewOf (fate tr s)) w ≡ absent
+    → (w : ℕ) → OneTo n w → entryAt (fateView (fate tr s)) w ≡ absent
 scan-without-updates {n} {tr} o no-update s scan end w one =
     o .legal s (o .members s .1 (scan-placed tr s (begun tr s) (fate tr s) scan end)) scan w one
     ∙ written-none tr w (before ℕ-discrete s (o .line)) absent (λ u i (p, e). no-update u w p e)

@@ -13,7 +13,7 @@ use Rattle.history.specs.Message.{Value, of, View, Message, write, value, good}
 use Rattle.history.specs.Event.{Operation, update, scan, Rule, direct, borrowed, Round, round0, round1, round3, Ending}
 use Rattle.history.specs.Event.{none, done, shown, spent}
 use Rattle.algorithm.specs.Algorithm.{Nodes, nobody, Wait, idle, reading, writing, comparing, borrowing, Node}
-use Rattle.algorithm.specs.Algorithm.{waiting, quorum?, finish}
+use Rattle.algorithm.specs.Algorithm.{withWait, quorum?, finish}
 use Rattle.algorithm.proofs.Cert.{Log, IsValue, value≢write}
 use Rattle.algorithm.proofs.Read.{readTag}
 use Rattle.algorithm.proofs.Passes.{Claim}
@@ -163,7 +163,7 @@ module _ (K : Value → Type 0) where
     compared ν l h (inl a) = later-not-reading (ν .wait) h (a .reads)
     compared ν l h (inr ((o, rnd, t, e), x)) = subst Later e h
 
-    spends : (ν : Node) (l : Log) (o : Operation) (s : Nodes) (u : ℕ) → Asks (waiting (reading o s u) ν) l
+    spends : (ν : Node) (l : Log) (o : Operation) (s : Nodes) (u : ℕ) → Asks (withWait (reading o s u) ν) l
         → Unit {0} × Only K l
     spends ν l o s u (inl a) = (tt, a .only)
     spends ν l o s u (inr (o′, x)) = absurd (not-reading o′ tt)
@@ -177,7 +177,7 @@ module _ (K : Value → Type 0) where
         own v (List·Memᴰ·tail (List·Memᴰ·tail m)) = inl (only v m)
 
     updates : (ν : Node) (l : Log) (p u : ℕ) (s : Nodes) → n - f ≤ count s n
-        → Asks (waiting (reading (update p) s u) ν) l
+        → Asks (withWait (reading (update p) s u) ν) l
         → let t = max u (ν .maxtag) in Opened (writing (update p) round0 t nobody)
         × Makes i r′ op K (write (suc (ν .request)) t ∷ value (of (suc t) i p) ∷ l)
     updates ν l p u s q (inr (o, x)) = absurd (not-reading o tt)
@@ -189,7 +189,7 @@ module _ (K : Value → Type 0) where
               (subst (λ z. Makes i t z K l′) (a .same-op) (makes l p (suc (ν .request)) t (a .only))),
         )
 
-    scans : (ν : Node) (l : Log) (u : ℕ) (s : Nodes) → n - f ≤ count s n → Asks (waiting (reading scan s u) ν) l
+    scans : (ν : Node) (l : Log) (u : ℕ) (s : Nodes) → n - f ≤ count s n → Asks (withWait (reading scan s u) ν) l
         → let t = max u (ν .maxtag) in Opened (writing scan round1 t nobody)
         × Makes i r′ op K (write (suc (ν .request)) t ∷ l)
     scans ν l u s q (inr (o, x)) = absurd (not-reading o tt)
@@ -202,7 +202,7 @@ module _ (K : Value → Type 0) where
 
     -- A round that has just opened has no quorum.
     opened : (ν : Node) (l : Log) (o : Operation) (rnd : Round) (t : ℕ) (s : Nodes) → n - f ≤ count s n
-        → Asks (waiting (writing o rnd t s) ν) l → ⊥
+        → Asks (withWait (writing o rnd t s) ν) l → ⊥
     opened ν l o rnd t s q (inl a) = a .reads
     opened ν l o rnd t s q (inr ((o′, rnd′, t′, e), x)) =
         omega (arith, subst (λ z. n - f ≤ count z n) (ap answered e) q, count-none n)
@@ -214,9 +214,9 @@ module _ (K : Value → Type 0) where
       updates = λ ν l p u s q h. inr (updates ν l p u s q h);
       scans = λ ν l u s q h. inr (scans ν l u s q h);
       compares = λ ν l o rnd t s q h. absurd (opened ν l o rnd t s q h);
-      passes = λ ν l o t le h. absurd (compared (waiting (comparing o round0 t) ν) l tt h);
-      ends = λ ν l o rnd t z le h. absurd (compared (waiting (comparing o rnd t) ν) l tt h);
-      fails = λ ν l o rnd rnd′ t lt h. absurd (compared (waiting (comparing o rnd t) ν) l tt h);
-      borrows = λ ν l o t lt h. absurd (compared (waiting (comparing o round3 t) ν) l tt h);
-      lends = λ ν l o t h. absurd (compared (waiting (borrowing o t) ν) l tt h);
+      passes = λ ν l o t le h. absurd (compared (withWait (comparing o round0 t) ν) l tt h);
+      ends = λ ν l o rnd t z le h. absurd (compared (withWait (comparing o rnd t) ν) l tt h);
+      fails = λ ν l o rnd rnd′ t lt h. absurd (compared (withWait (comparing o rnd t) ν) l tt h);
+      borrows = λ ν l o t lt h. absurd (compared (withWait (comparing o round3 t) ν) l tt h);
+      lends = λ ν l o t h. absurd (compared (withWait (borrowing o t) ν) l tt h);
     }

@@ -13,8 +13,8 @@ use Rattle.order.proofs.Select.{select, select-from, select-to, select-once}
 use Rattle.order.proofs.Total.{total, total-mono, total-tight}
 use Rattle.history.specs.Message.{View}
 use Rattle.history.specs.Event.{done, shown, spent}
-use Rattle.history.specs.Trace.{Trace, Begun, nothing, updating, scanning, begun, Fate, unfinished, ended, fate, viewOf}
-use Rattle.history.specs.Trace.{entryAt}
+use Rattle.history.specs.Trace.{Trace, Begun, nothing, updating, scanning, begun, Fate, unfinished, ended, fate}
+use Rattle.history.specs.Trace.{fateView, entryAt}
 use Rattle.history.specs.Order.{OneTo, Finished, IsScan, PlacedBy, Placed, EndedBefore}
 use Rattle.history.specs.Views.{HasView, viewIn}
 use Rattle.eqaso.proofs.Book.{tagOf, plain}
@@ -86,10 +86,10 @@ module _ (n : ℕ) (tr : Trace) (F : Facts n (length tr) (plain tr)) where
     pub is : IsScan (begun tr t)
     pub finished : Finished (fate tr t)
     pub viewed : HasView (fate tr t)
-    pub same : viewIn (fate tr t) ≡ viewOf (fate tr t)
+    pub same : viewIn (fate tr t) ≡ fateView (fate tr t)
 
   scan-by : (t : ℕ) (b : Begun) (x : Fate) → PlacedBy tr t b x → Fit n b x (tagOf tr t b) → kindOf b ≡ scan
-      → IsScan b × Finished x × HasView x × (viewIn x ≡ viewOf x)
+      → IsScan b × Finished x × HasView x × (viewIn x ≡ fateView x)
   scan-by t (updating c p) x h g k = absurd (subst IsScanKind (sym k) tt)
   scan-by t (scanning c) (ended i (shown r v)) h g k = (tt, tt, tt, refl)
 

@@ -14,7 +14,7 @@ use Rattle.logs.proofs.Log.{mem-up}
 use Rattle.history.specs.Message.{Value, Message, read, readAnswer, write, writeAnswer, echo, value, good}
 use Rattle.history.specs.Event.{Operation, update, scan, round0, round1}
 use Rattle.algorithm.specs.Algorithm.{nobody, Wait, idle, reading, writing, comparing, borrowing, Good, Node, sending}
-use Rattle.algorithm.specs.Algorithm.{_then_, waiting, asking, kept, keep, react, messageStep, beginStep}
+use Rattle.algorithm.specs.Algorithm.{_then_, withWait, asking, kept, keep, react, messageStep, beginStep}
 use Rattle.algorithm.proofs.Cert.{Log, Logs}
 use Rattle.algorithm.proofs.Meant.{Meant, Others}
 use Rattle.algorithm.specs.Node.{topping, holding}
@@ -107,8 +107,8 @@ module _ (n : ℕ) where
 
     -- A wait in which no answers are awaited.
     silent : (w : Wait) (l′ : Log) → l ⊑ l′ → ((k : ℕ) → ReadCounted k w) → ((k t : ℕ) → WriteCounted k t w)
-        → Asks (ν .request) l′ w → Live i got (waiting w ν) l′
-    silent w l′ up x y a = changed (waiting w ν) l′ (omega arith) up (inr (refl, λ k z. x k, λ k t z. y k t)) a
+        → Asks (ν .request) l′ w → Live i got (withWait w ν) l′
+    silent w l′ up x y a = changed (withWait w ν) l′ (omega arith) up (inr (refl, λ k z. x k, λ k t z. y k t)) a
 
     -- A new request.
     asked : (w : Wait) (l′ : Log) → l ⊑ l′ → Asks (suc (ν .request)) l′ w → Live i got (asking w ν) l′
@@ -147,10 +147,10 @@ module _ (n : ℕ) where
   react-live k (read q) ν l c h =
       (same-wait c (ν .all) (ν .from) (ν .maxtag) _ (more here), λ e. (ν .maxtag, List·Memᴰ·head refl))
   react-live {i} {got} k (readAnswer to q t) ν l c h =
-      read-cases (λ w. Live i got (waiting w ν) l) (λ ν. Reacts i got k (readAnswer to q t) ν l) k q t ν (ν .wait) c
+      read-cases (λ w. Live i got (withWait w ν) l) (λ ν. Reacts i got k (readAnswer to q t) ν l) k q t ν (ν .wait) c
       (λ is. (c, λ x. (h x, is)))
       (λ op s u e c. (
-        changed c (waiting (reading op (upd s k true) (max u t)) ν) l (omega arith) here
+        changed c (withWait (reading op (upd s k true) (max u t)) ν) l (omega arith) here
             (inr (refl, counted-more s k, λ j u x. tt)) (c .asks),
         λ x. (h x, λ y. upd-same s k true),
       ))
@@ -160,10 +160,10 @@ module _ (n : ℕ) where
       (same-wait c (ν .all) (ν .from) t _ (more (more here)), λ e. List·Memᴰ·head refl)
       (same-wait c (ν .all) (ν .from) (ν .maxtag) _ (more here), λ e. List·Memᴰ·head refl)
   react-live {i} {got} k (writeAnswer to q t) ν l c h =
-      write-cases (λ w. Live i got (waiting w ν) l) (λ ν. Reacts i got k (writeAnswer to q t) ν l) k q t ν (ν .wait) c
+      write-cases (λ w. Live i got (withWait w ν) l) (λ ν. Reacts i got k (writeAnswer to q t) ν l) k q t ν (ν .wait) c
       (λ is. (c, λ x. (h x, is)))
       (λ op r u s e d c. (
-        changed c (waiting (writing op r u (upd s k true)) ν) l (omega arith) here
+        changed c (withWait (writing op r u (upd s k true)) ν) l (omega arith) here
             (inr (refl, λ j x. tt, λ j v x z. counted-more s k j (x z))) (c .asks),
         λ x. (h x, λ y z. upd-same s k true),
       ))

@@ -12,9 +12,9 @@ use Rattle.logs.specs.Log.{_∈_, push}
 use Rattle.history.specs.Message.{of, View, Message, read, readAnswer, write, writeAnswer, echo, value, good}
 use Rattle.history.specs.Event.{Operation, update, scan, round0, round1}
 use Rattle.algorithm.specs.Algorithm.{nobody, Wait, idle, reading, writing, comparing, borrowing, Node, sending}
-use Rattle.algorithm.specs.Algorithm.{_then_, waiting, viewUpto, react, messageStep, beginStep}
+use Rattle.algorithm.specs.Algorithm.{_then_, withWait, viewUpto, react, messageStep, beginStep}
 use Rattle.algorithm.proofs.Cert.{Log}
-use Rattle.algorithm.specs.Node.{turned, topping}
+use Rattle.algorithm.specs.Node.{withRequest, topping}
 use Rattle.algorithm.proofs.Cases.{raise-cases, receive-cases, read-cases, write-cases}
 use Rattle.algorithm.proofs.Passes.{left}
 use Rattle.algorithm.proofs.MoveOn.{Moves, writes, message-leaves, begin-leaves}
@@ -84,7 +84,7 @@ module _ (M : ℕ) where
   more-said m h old x (List·Memᴰ·tail i) = old x i
 
   -- Another wait and request number; one more message.
-  turn : {ν : Node} {l : Log} (w : Wait) (q : ℕ) → Low M w → Marked M ν l → Marked M (turned q w ν) l
+  turn : {ν : Node} {l : Log} (w : Wait) (q : ℕ) → Low M w → Marked M ν l → Marked M (withRequest q w ν) l
   turn w q h c = record { top = c .top; low = h; said = c .said }
 
   post : {ν : Node} {l : Log} (m : Message) → Below M m → Marked M ν l → Marked M ν (m ∷ l)
@@ -99,13 +99,13 @@ module _ (M : ℕ) where
       → Marked M (react k m ν .node) (push (react k m ν .sent) l)
   react-marked k (read q) ν l h c = post (readAnswer k q (ν .maxtag)) (c .top) c
   react-marked k (readAnswer to q t) ν l h c =
-      read-cases (λ w. Marked M (waiting w ν) l) (λ ν. Marked M ν l) k q t ν (ν .wait) c (λ is. c)
+      read-cases (λ w. Marked M (withWait w ν) l) (λ ν. Marked M ν l) k q t ν (ν .wait) c (λ is. c)
       (λ op s u e c. turn (reading op (upd s k true) (max u t)) (ν .request) (omega (arith, c .low)) c)
   react-marked k (write q t) ν l h c = raise-cases
       (λ s. let z = s then sending (writeAnswer k q t ∷ []) in Marked M (z .node) (push (z .sent) l)) t ν
       (post (writeAnswer k q t) tt (topped t h c)) (post (writeAnswer k q t) tt c)
   react-marked k (writeAnswer to q t) ν l h c =
-      write-cases (λ w. Marked M (waiting w ν) l) (λ ν. Marked M ν l) k q t ν (ν .wait) c (λ is. c)
+      write-cases (λ w. Marked M (withWait w ν) l) (λ ν. Marked M ν l) k q t ν (ν .wait) c (λ is. c)
       (λ op r u s e d c. turn (writing op r u (upd s k true)) (ν .request) (c .low) c)
   react-marked k (echo t) ν l h c = raise-cases (λ s. Marked M (s .node) (push (s .sent) l)) t ν (topped t h c) c
   react-marked k (value v) ν l h c = receive-cases (λ s. Marked M (s .node) (push (s .sent) l)) k v ν
@@ -137,7 +137,7 @@ module _ (M : ℕ) where
   }
     where
       passes : (ν : Node) (l : Log) (op : Operation) (t : ℕ) → ν .maxtag ≤ t
-          → Marked M (waiting (comparing op round0 t) ν) l
+          → Marked M (withWait (comparing op round0 t) ν) l
           → Left (writes op round1 (suc t) ν) (write (suc (ν .request)) (suc t) ∷ good t (viewUpto n t (ν .all)) ∷ l)
       passes ν l op t h c = go (decLt t M)
         where
@@ -156,8 +156,8 @@ module _ (M : ℕ) where
             opened = omega arith;
           })
 
-      lends : (ν : Node) (l : Log) (op : Operation) (t : ℕ) → Left (waiting (borrowing op t) ν) l
-          → Left (waiting idle ν) l
+      lends : (ν : Node) (l : Log) (op : Operation) (t : ℕ) → Left (withWait (borrowing op t) ν) l
+          → Left (withWait idle ν) l
       lends ν l op t (inl c) = inl (turn idle (ν .request) tt c)
       lends ν l op t (inr x) = absurd (x .opened)
 

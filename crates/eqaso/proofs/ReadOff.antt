@@ -9,7 +9,7 @@ use Rattle.history.specs.Message.{absent}
 use Rattle.history.specs.Event.{round1, done, shown, direct, sentTo}
 use Rattle.history.specs.Trace.{updating, scanning, begun, unfinished, ended, firstEnding, fate, tagsSent, ownTags}
 use Rattle.history.specs.Trace.{largest, firstAbove, tagAt}
-use Rattle.algorithm.specs.Algorithm.{same, limit, has, within, newest, table, kept, moveOn}
+use Rattle.algorithm.specs.Algorithm.{same, limit, has, includedUpTo, newest, table, kept, moveOn}
 use Rattle.eqaso.specs.Cluster.{entries, roomy, event, traceFrom, trace}
 use Rattle.eqaso.specs.Claims.{sixteen}
 use Rattle.eqaso.proofs.Runs.{session, cut-but-shown}
@@ -21,7 +21,7 @@ session-read : (begun (trace 1 0 sixteen session) 0 ≡ updating 1 7)
     × (tagAt (trace 1 0 sixteen session) 0 1 ≡ 1)
     × (begun (trace 1 0 sixteen session) 12 ≡ scanning 1)
     × (fate (trace 1 0 sixteen session) 12 ≡ ended 16 (shown (direct round1) (record { tag = 1; report = 7 } ∷ [])))
-unfolding traceFrom event roomy sentTo entries moveOn kept table newest within has limit same upd upd2 count
+unfolding traceFrom event roomy sentTo entries moveOn kept table newest includedUpTo has limit same upd upd2 count
     ℕ-discrete decLe decLt decide firstEnding tagsSent ownTags largest firstAbove
 session-read = (refl, refl, refl, refl, refl)
 
@@ -29,12 +29,12 @@ session-read = (refl, refl, refl, refl, refl)
 cut-read : (begun (trace 3 1 sixteen cut-but-shown) 0 ≡ updating 3 3)
     × (fate (trace 3 1 sixteen cut-but-shown) 0 ≡ unfinished)
     × (tagAt (trace 3 1 sixteen cut-but-shown) 0 3 ≡ 1)
-unfolding traceFrom event roomy sentTo entries moveOn kept table newest within has limit same upd upd2 count
+unfolding traceFrom event roomy sentTo entries moveOn kept table newest includedUpTo has limit same upd upd2 count
     ℕ-discrete decLe decLt decide firstEnding tagsSent ownTags largest firstAbove
 cut-read = (refl, refl, refl)
 
 shown-read : fate (trace 3 1 sixteen cut-but-shown) 31
     ≡ ended 42 (shown (direct round1) (absent ∷ record { tag = 1; report = 2 } ∷ record { tag = 1; report = 3 } ∷ []))
-unfolding traceFrom event roomy sentTo entries moveOn kept table newest within has limit same upd upd2 count
+unfolding traceFrom event roomy sentTo entries moveOn kept table newest includedUpTo has limit same upd upd2 count
     ℕ-discrete decLe decLt decide firstEnding
 shown-read = refl

@@ -10,7 +10,7 @@ use Rattle.logs.proofs.Count.{count-none}
 use Rattle.history.specs.Message.{of, View, Message, read, value}
 use Rattle.history.specs.Event.{Operation, update, scan, direct, borrowed, Round, round0, round1, round2, round3, spent}
 use Rattle.algorithm.specs.Algorithm.{limit, nobody, Wait, idle, reading, writing, comparing, borrowing, Node, Step}
-use Rattle.algorithm.specs.Algorithm.{still, sending, ended, _then_, opening, waiting, asking, agrees, quorum?, kept}
+use Rattle.algorithm.specs.Algorithm.{still, sending, ended, _then_, opening, withWait, asking, agrees, quorum?, kept}
 use Rattle.algorithm.specs.Algorithm.{viewUpto, finish, afterRead, afterGood, afterFailed, readPass, writePass}
 use Rattle.algorithm.specs.Algorithm.{comparePass, borrowPass, moveOn, react, messageStep, beginStep}
 use Rattle.algorithm.proofs.Cert.{Log}
@@ -46,12 +46,12 @@ module _ (n f i : ℕ) where
     after-read : (u : ℕ) (op : Operation) (ν : Node) (l : Log) → After false false false l (afterRead i u op ν)
     after-read u scan ν l = tt
     after-read u (update p) ν l = elim (ℕ-discrete u limit)
-        as (λ d. After false false false l (ite d (ended spent [] (waiting idle ν)) own)) [ yes h ↦ tt | no h ↦ tt ]
+        as (λ d. After false false false l (ite d (ended spent [] (withWait idle ν)) own)) [ yes h ↦ tt | no h ↦ tt ]
       where
         own : Step
         own = sending (value (of (suc u) i p) ∷ []) ν then opening (update p) round0 u
 
-    read-tried : (ν : Node) (l : Log) (w : Wait) → After false false false l (readPass n f i (waiting w ν) w)
+    read-tried : (ν : Node) (l : Log) (w : Wait) → After false false false l (readPass n f i (withWait w ν) w)
     read-tried ν l idle = tt
     read-tried ν l (writing op r t s) = tt
     read-tried ν l (comparing op r t) = tt
@@ -59,15 +59,15 @@ module _ (n f i : ℕ) where
     read-tried ν l (reading op s u) = go (quorum? n f s)
       where
         ν′ : Node
-        ν′ = waiting (reading op s u) ν
+        ν′ = withWait (reading op s u) ν
 
         go : (d : Dec (n - f ≤ count s n))
             → After false false false l (ite d (afterRead i (max u (ν .maxtag)) op ν′) (still ν′))
         go (yes h) = after-read (max u (ν .maxtag)) op ν′ l
         go (no h) = few s h
 
-    write-tried : (ν : Node) (l : Log) (w : Wait) → Tried false false false (waiting w ν) w
-        → After true false false l (writePass n f (waiting w ν) w)
+    write-tried : (ν : Node) (l : Log) (w : Wait) → Tried false false false (withWait w ν) w
+        → After true false false l (writePass n f (withWait w ν) w)
     write-tried ν l idle h = tt
     write-tried ν l (reading op s u) h = h
     write-tried ν l (comparing op r t) h = tt
@@ -75,10 +75,10 @@ module _ (n f i : ℕ) where
     write-tried ν l (writing op r t s) h = go (quorum? n f s)
       where
         ν′ : Node
-        ν′ = waiting (writing op r t s) ν
+        ν′ = withWait (writing op r t s) ν
 
         go : (d : Dec (n - f ≤ count s n))
-            → After true false false l (ite d (still (waiting (comparing op r t) ν′)) (still ν′))
+            → After true false false l (ite d (still (withWait (comparing op r t) ν′)) (still ν′))
         go (yes h) = tt
         go (no h) = few s h
 
@@ -99,8 +99,8 @@ module _ (n f i : ℕ) where
     after-failed op round2 t ν l = none-yet
     after-failed op round3 t ν l = tt
 
-    compare-tried : (ν : Node) (l : Log) (w : Wait) → Tried true false false (waiting w ν) w
-        → After true true false l (comparePass n f i (waiting w ν) w)
+    compare-tried : (ν : Node) (l : Log) (w : Wait) → Tried true false false (withWait w ν) w
+        → After true true false l (comparePass n f i (withWait w ν) w)
     compare-tried ν l idle h = tt
     compare-tried ν l (reading op s u) h = h
     compare-tried ν l (writing op r t s) h = h
@@ -108,7 +108,7 @@ module _ (n f i : ℕ) where
     compare-tried ν l (comparing op r t) h = go (quorum? n f (agrees i ν′ t)) (decLe (ν .maxtag) t)
       where
         ν′ : Node
-        ν′ = waiting (comparing op r t) ν
+        ν′ = withWait (comparing op r t) ν
 
         go : (d : Dec (n - f ≤ count (agrees i ν′ t) n)) (e : Dec (ν .maxtag ≤ t)) → After true true false l
             (ite d (ite e (afterGood op r t (viewUpto n t (ν .all)) ν′) (afterFailed op r t ν′)) (still ν′))
@@ -116,8 +116,8 @@ module _ (n f i : ℕ) where
         go (yes h) (no g) = after-failed op r t ν′ l
         go (no h) e = few (agrees i ν′ t) h
 
-    borrow-tried : (ν : Node) (l : Log) (w : Wait) → Tried true true false (waiting w ν) w
-        → After true true true l (borrowPass n (waiting w ν) w)
+    borrow-tried : (ν : Node) (l : Log) (w : Wait) → Tried true true false (withWait w ν) w
+        → After true true true l (borrowPass n (withWait w ν) w)
     borrow-tried ν l idle h = tt
     borrow-tried ν l (reading op s u) h = h
     borrow-tried ν l (writing op r t s) h = h
@@ -125,8 +125,8 @@ module _ (n f i : ℕ) where
     borrow-tried ν l (borrowing op t) h = go op (decLe t (kept n (ν .goods) .tag))
       where
         go : (op : Operation) (d : Dec (t ≤ kept n (ν .goods) .tag)) → After true true true l (ite d
-            (ended (finish op borrowed (kept n (ν .goods) .view)) [] (waiting idle (waiting (borrowing op t) ν)))
-            (still (waiting (borrowing op t) ν)))
+            (ended (finish op borrowed (kept n (ν .goods) .view)) [] (withWait idle (withWait (borrowing op t) ν)))
+            (still (withWait (borrowing op t) ν)))
         go (update p) (yes h) = tt
         go scan (yes h) = tt
         go op (no h) = omega arith

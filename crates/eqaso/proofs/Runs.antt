@@ -11,18 +11,18 @@ use Rattle.logs.specs.Count.{count}
 use Rattle.logs.specs.Update.{upd, upd2}
 use Rattle.history.specs.Message.{Entry, absent}
 use Rattle.history.specs.Event.{update, scan, round1, none, done, shown, spent, direct, borrowed, Event, begin, deliver}
-use Rattle.history.specs.Event.{whole, cut, Answer, refused, accepted, Sent, sentTo}
+use Rattle.history.specs.Event.{whole, cut, Response, refused, accepted, Sent, sentTo}
 use Rattle.history.specs.Trace.{Trace}
-use Rattle.algorithm.specs.Algorithm.{same, limit, has, within, newest, table, kept, moveOn}
+use Rattle.algorithm.specs.Algorithm.{same, limit, has, includedUpTo, newest, table, kept, moveOn}
 use Rattle.eqaso.specs.Cluster.{entries, roomy, event, traceFrom, trace}
 use Rattle.eqaso.specs.Claims.{sixteen}
 
 -- What a run tells its clients: the events, counted from 1, that were refused or gave an ending.
 pub record Told : Type 0 where
   pub event : ℕ
-  pub answer : Answer
+  pub answer : Response
 
-abbrev tell : ℕ → Answer → List Told → List Told
+abbrev tell : ℕ → Response → List Told → List Told
 tell k (refused c) l = record { event = k; answer = refused c } ∷ l
 tell k (accepted none) l = l
 tell k (accepted (done r v)) l = record { event = k; answer = accepted (done r v) } ∷ l
@@ -41,7 +41,7 @@ letOut (o ∷ os) = o .sent ++ letOut os
 abbrev hand : ℕ → ℕ → Event
 hand a b = deliver a b whole
 
-abbrev at : ℕ → Answer → Told
+abbrev at : ℕ → Response → Told
 at k a = record { event = k; answer = a }
 
 abbrev entry : ℕ → ℕ → Entry
@@ -54,13 +54,13 @@ session = (begin 1 (update 7) whole ∷ replicate 11 (hand 1 1)) ++ (begin 1 sca
 session-told : told 1 (trace 1 0 sixteen session) ≡
     at 11 (accepted (done (direct round1) (entry 1 7 ∷ []))) ∷ at 17 (accepted (shown (direct round1) (entry 1 7 ∷ [])))
     ∷ at 19 (refused 8) ∷ []
-unfolding traceFrom event roomy sentTo entries moveOn kept table newest within has limit same upd upd2 count ℕ-discrete
-    decLe decLt decide told
+unfolding traceFrom event roomy sentTo entries moveOn kept table newest includedUpTo has limit same upd upd2 count
+    ℕ-discrete decLe decLt decide told
 session-told = refl
 
 session-sends : length (letOut (trace 1 0 sixteen (begin 1 (update 7) whole ∷ replicate 11 (hand 1 1)))) ≡ 11
-unfolding traceFrom event roomy sentTo entries moveOn kept table newest within has limit same upd upd2 count ℕ-discrete
-    decLe decLt decide letOut
+unfolding traceFrom event roomy sentTo entries moveOn kept table newest includedUpTo has limit same upd upd2 count
+    ℕ-discrete decLe decLt decide letOut
 session-sends = refl
 
 -- Two nodes: the scan of node 1 fails three rounds beside updates of node 2, and borrows the view of one of them.
@@ -82,8 +82,8 @@ borrowing-told : told 1 (trace 2 0 sixteen borrowing) ≡
     at 29 (accepted (done (direct round1) (absent ∷ entry 1 1 ∷ [])))
     ∷ at 60 (accepted (done (direct round1) (absent ∷ entry 2 2 ∷ [])))
     ∷ at 89 (accepted (shown borrowed (absent ∷ entry 2 2 ∷ []))) ∷ []
-unfolding traceFrom event roomy sentTo entries moveOn kept table newest within has limit same upd upd2 count ℕ-discrete
-    decLe decLt decide told
+unfolding traceFrom event roomy sentTo entries moveOn kept table newest includedUpTo has limit same upd upd2 count
+    ℕ-discrete decLe decLt decide told
 borrowing-told = refl
 
 -- Five nodes: node 3 stops after one entry of its value, to node 1; nothing of it goes to the others.
@@ -96,8 +96,8 @@ cutting =
 cutting-told : told 1 (trace 5 2 sixteen cutting) ≡
     at 9 (refused 8) ∷ at 10 (refused 8) ∷ at 11 (refused 8) ∷ at 13 (refused 8) ∷ at 14 (refused 8) ∷
     at 16 (refused 8) ∷ at 17 (refused 8) ∷ at 18 (refused 4) ∷ []
-unfolding traceFrom event roomy sentTo entries moveOn kept table newest within has limit same upd upd2 count ℕ-discrete
-    decLe decLt decide told
+unfolding traceFrom event roomy sentTo entries moveOn kept table newest includedUpTo has limit same upd upd2 count
+    ℕ-discrete decLe decLt decide told
 cutting-told = refl
 
 -- Three nodes: node 3 stops after one entry of its value. Node 1 passes it on, and a scan shows it.
@@ -113,6 +113,6 @@ cut-but-shown =
 cut-but-shown-told : told 1 (trace 3 1 sixteen cut-but-shown) ≡
     at 29 (accepted (done (direct round1) (absent ∷ entry 1 2 ∷ entry 1 3 ∷ [])))
     ∷ at 43 (accepted (shown (direct round1) (absent ∷ entry 1 2 ∷ entry 1 3 ∷ []))) ∷ []
-unfolding traceFrom event roomy sentTo entries moveOn kept table newest within has limit same upd upd2 count ℕ-discrete
-    decLe decLt decide told
+unfolding traceFrom event roomy sentTo entries moveOn kept table newest includedUpTo has limit same upd upd2 count
+    ℕ-discrete decLe decLt decide told
 cut-but-shown-told = refl

@@ -8,7 +8,7 @@ use Rattle.logs.specs.Log.{push}
 use Rattle.history.specs.Message.{View, Message}
 use Rattle.history.specs.Event.{Operation, update, scan, Rule, Ending, none, done, shown, spent}
 use Rattle.algorithm.specs.Algorithm.{limit, Wait, idle, reading, Node, Step, sending, ended, then-by, _then_}
-use Rattle.algorithm.specs.Algorithm.{waiting, quorum?, finish, readPass, writePass, comparePass, borrowPass, moveOn}
+use Rattle.algorithm.specs.Algorithm.{withWait, quorum?, finish, readPass, writePass, comparePass, borrowPass, moveOn}
 use Rattle.algorithm.specs.Algorithm.{react, messageStep}
 use Rattle.algorithm.proofs.Passes.{Claim, Final, On, react-open}
 use Rattle.algorithm.proofs.MoveOn.{Moves, message-leaves}
@@ -67,7 +67,7 @@ spent-then n f i s goes-on last = subst (λ e. Ended (record { node = s .node; s
     rest t = then-by (sending (s .sent) (s .node)) t none then (λ ν. writePass n f ν (ν .wait))
         then (λ ν. comparePass n f i ν (ν .wait)) then (λ ν. borrowPass n ν (ν .wait))
 
-    read-spent : (ν : Node) (w : Wait) → ReadLast n f ν w → readPass n f i ν w ≡ ended spent [] (waiting idle ν)
+    read-spent : (ν : Node) (w : Wait) → ReadLast n f ν w → readPass n f i ν w ≡ ended spent [] (withWait idle ν)
     read-spent ν (reading (update p) s u) (q, e) =
         if-pos (quorum? n f s) q _ _ ∙ if-pos (ℕ-discrete (max u (ν .maxtag)) limit) e _ _
 

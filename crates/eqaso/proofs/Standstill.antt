@@ -10,11 +10,11 @@ use Rattle.logs.proofs.Count.{count-mono}
 use Rattle.logs.specs.Log.{_∈_}
 use Rattle.history.specs.Message.{Value, View, Message, read, readAnswer, write, writeAnswer, value, good}
 use Rattle.history.specs.Order.{OneTo}
-use Rattle.algorithm.specs.Algorithm.{Wait, idle, reading, writing, comparing, borrowing, Node, waiting, agrees}
+use Rattle.algorithm.specs.Algorithm.{Wait, idle, reading, writing, comparing, borrowing, Node, withWait, agrees}
 use Rattle.algorithm.proofs.Cert.{Logs}
 use Rattle.algorithm.proofs.Local.{Took}
 use Rattle.algorithm.proofs.Meant.{Meant}
-use Rattle.algorithm.proofs.Sets.{or-right, and-of, within-of}
+use Rattle.algorithm.proofs.Sets.{or-right, and-of, includedUpTo-of}
 use Rattle.eqaso.proofs.Rest.{Rests}
 use Rattle.eqaso.proofs.Live.{Live}
 
@@ -60,15 +60,16 @@ module _ (n f : ℕ) (stands : ℕ → Bool) (nodes : ℕ → Node) (log : Logs)
     -- What node i holds, node k has passed on to it.
     agree : (i k t : ℕ) → Stands i → Stands k → agrees i (nodes i) t k ≡ true
     agree i k t hi hk = or-right (decide (ℕ-discrete k i)) _ (and-of _ _
-        (within-of t (nodes i .from k) (nodes i .all) (λ v m lo. D .took i hi k (value v) (D .heard i hi k v m) .1))
-        (within-of t (nodes i .all) (nodes i .from k) (λ v m lo.
+        (includedUpTo-of t (nodes i .from k) (nodes i .all)
+        (λ v m lo. D .took i hi k (value v) (D .heard i hi k v m) .1))
+        (includedUpTo-of t (nodes i .all) (nodes i .from k) (λ v m lo.
         let there = D .took k hk i (value v) (D .handed k i hk hi (value v) (D .sent i hi v m) tt) .1 in
         D .took i hi k (value v) (D .handed i k hi hk (value v) (D .sent k hk v there) tt) .0)))
 
     -- By the wait of the node.
-    by-wait : (i : ℕ) → Stands i → (ν : Node) (w : Wait) → Rests n f i (waiting w ν)
-        → Live n i (got i) (waiting w ν) (log i)
-        → Lent (got i) w → ((t k : ℕ) → Stands k → agrees i (waiting w ν) t k ≡ true) → w ≡ idle
+    by-wait : (i : ℕ) → Stands i → (ν : Node) (w : Wait) → Rests n f i (withWait w ν)
+        → Live n i (got i) (withWait w ν) (log i)
+        → Lent (got i) w → ((t k : ℕ) → Stands k → agrees i (withWait w ν) t k ≡ true) → w ≡ idle
     by-wait i hi ν idle r c lent agree = refl
     by-wait i hi ν (reading op s u) r c lent agree = absurd (too-many s (λ k hk.
         let (t, a) = read-back i k (ν .request) hi hk (c .asks) in c .replied k _ a refl .1 refl) r)

@@ -11,7 +11,7 @@ use lib.ListN.{length, take}
 use Rattle.logs.specs.Count.{count}
 use Rattle.logs.specs.Update.{upd, upd2}
 use Rattle.history.specs.Message.{Message}
-use Rattle.history.specs.Event.{Operation, Extent, whole, cut, Event, begin, deliver, stop, Ending, none, Answer}
+use Rattle.history.specs.Event.{Operation, Extent, whole, cut, Event, begin, deliver, stop, Ending, none, Response}
 use Rattle.history.specs.Event.{refused, accepted, Sent, sentTo}
 use Rattle.history.specs.Trace.{Seen, Trace}
 use Rattle.algorithm.specs.Address.{Address, one, all, address}
@@ -30,7 +30,7 @@ start = record { nodes = λ c. fresh; stopped = λ c. false; channel = λ a b. [
 -- What an event does: the cluster after it, its answer, and the messages let out, in order.
 pub record Result : Type 0 where
   pub cluster : Cluster
-  pub answer : Answer
+  pub answer : Response
   pub sent : List Sent
 
 abbrev pub refuse : ℕ → Cluster → Result

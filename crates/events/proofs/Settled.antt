@@ -17,9 +17,9 @@ use Rattle.step.proofs.Waits.{begin-asks}
 use Rattle.layout.specs.Layout.{stated, faultsIn, node}
 use Rattle.outgoing.specs.Outgoing.{isCut, mayCut, hasRoom, released}
 use Rattle.outgoing.specs.declared.Extent.{Extent}
-use Rattle.events.specs.declared.Answer.{Answer}
+use Rattle.events.specs.declared.Reply.{Reply}
 use Rattle.events.specs.Event.{refuse, demand, commit, settle, openIn}
-use Rattle.events.specs.Outcome.{said, tells}
+use Rattle.events.specs.Outcome.{answerOf, tells}
 use Rattle.events.proofs.Told.{gives}
 
 module _ (n a c : ℕ) (x : Extent) (s : Step) (found b : List ℕ) where
@@ -33,15 +33,15 @@ module _ (n a c : ℕ) (x : Extent) (s : Step) (found b : List ℕ) where
   settle-commits h = rw h refl
 
   -- what the code tells, by whether there was room (t), and the bytes z that it left
-  pub settle-told : {t cut : Bool} {z : List ℕ} (r : Answer) → t ≡ hasRoom n a c x (s .node) (s .outbox) found
+  pub settle-told : {t cut : Bool} {z : List ℕ} (r : Reply) → t ≡ hasRoom n a c x (s .node) (s .outbox) found
       → z ≡ pick t (released n a c x (s .node) (s .outbox) found) b → cut ≡ isCut x
-      → said (r .outcome) ≡ pick t (result (pick cut None (s .ending))) (refused 11)
+      → answerOf (r .outcome) ≡ pick t (result (pick cut None (s .ending))) (refused 11)
       → r .view ≡ pick t (pick cut noView (s .view)) noView → tells r z (settle n a c x s found b)
   unfolding settle
   settle-told {t} {cut} {z} r judged left e answer shown = rw (sym judged) (go t left answer shown)
     where
       go : (u : Bool) → z ≡ pick u (released n a c x (s .node) (s .outbox) found) b
-          → said (r .outcome) ≡ pick u (result (pick cut None (s .ending))) (refused 11)
+          → answerOf (r .outcome) ≡ pick u (result (pick cut None (s .ending))) (refused 11)
           → r .view ≡ pick u (pick cut noView (s .view)) noView
           → tells r z (demand u 11 b (commit n a c x s found))
       go true q h v =

@@ -12,28 +12,28 @@ use Rattle.view.specs.View.{noView}
 use Rattle.record.specs.Record.{blank}
 use Rattle.step.specs.Told.{told}
 use Rattle.step.specs.declared.Ending.the-variants.{None}
-use Rattle.block.specs.Block.{keep}
+use Rattle.block.specs.Block.{keepRecord}
 use Rattle.layout.specs.Layout.{clusterSize, onBlock}
-use Rattle.events.specs.declared.Answer.{Answer}
+use Rattle.events.specs.declared.Reply.{Reply}
 use Rattle.events.specs.declared.Outcome.the-variants.{Refused}
 use Rattle.events.specs.Event.{Result, refuse, freshBytes, fresh}
-use Rattle.events.specs.Outcome.{said, tells}
+use Rattle.events.specs.Outcome.{answerOf, tells}
 
 -- the same event in another form
-pub becomes : (r : Answer) (b : List ℕ) {e f : Result} → e ≡ f → tells r b f → tells r b e
+pub becomes : (r : Reply) (b : List ℕ) {e f : Result} → e ≡ f → tells r b f → tells r b e
 becomes r b p t = subst (tells r b) (sym p) t
 
 -- what is told follows from the answer and the view
-pub gives : (r : Answer) (b : List ℕ) {e f : Result} → e ≡ f → said (r .outcome) ≡ f .answer → r .view ≡ f .view
+pub gives : (r : Reply) (b : List ℕ) {e f : Result} → e ≡ f → answerOf (r .outcome) ≡ f .answer → r .view ≡ f .view
     → b ≡ f .bytes → tells r b e
 gives r b p a v z = becomes r b p (ap₂ told a v, a, v, z)
 
 -- a refusal that left the bytes as they were
-pub leaves : (k : ℕ) {r : Answer} {b b₀ : List ℕ} {e : Result} → e ≡ refuse k b₀ → b ≡ b₀
+pub leaves : (k : ℕ) {r : Reply} {b b₀ : List ℕ} {e : Result} → e ≡ refuse k b₀ → b ≡ b₀
     → r ≡ record { outcome = Refused k; view = noView } → tells r b e
-leaves k {r} {b} p z q = gives r b p (ap (λ (x : Answer). said (x .outcome)) q) (ap (λ (x : Answer). x .view) q) z
+leaves k {r} {b} p z q = gives r b p (ap (λ (x : Reply). answerOf (x .outcome)) q) (ap (λ (x : Reply). x .view) q) z
 
-pub refuses : (k : ℕ) {r : Answer} {b : List ℕ} {e : Result} → e ≡ refuse k b
+pub refuses : (k : ℕ) {r : Reply} {b : List ℕ} {e : Result} → e ≡ refuse k b
     → r ≡ record { outcome = Refused k; view = noView } → tells r b e
 refuses k p q = leaves k p refl q
 
@@ -53,6 +53,6 @@ module _ (n : ℕ) (b : List ℕ) where
 
   -- zeros, then n, then a fresh record in every block
   pub fresh-bytes : {z y : List ℕ} → z ≡ replicate (length b) 0
-      → y ≡ upTo n (λ i. onBlock (i + 1) (keep (blank n (i + 1)))) (set z 0 n) → y ≡ freshBytes n (length b)
+      → y ≡ upTo n (λ i. onBlock (i + 1) (keepRecord (blank n (i + 1)))) (set z 0 n) → y ≡ freshBytes n (length b)
   unfolding freshBytes
-  fresh-bytes e q = q ∙ ap (λ (t : List ℕ). upTo n (λ i. onBlock (i + 1) (keep (blank n (i + 1)))) (set t 0 n)) e
+  fresh-bytes e q = q ∙ ap (λ (t : List ℕ). upTo n (λ i. onBlock (i + 1) (keepRecord (blank n (i + 1)))) (set t 0 n)) e

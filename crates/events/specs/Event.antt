@@ -22,11 +22,11 @@ use Rattle.step.specs.declared.Step.{Step}
 use Rattle.step.specs.declared.Ending.{Ending}
 use Rattle.step.specs.declared.Ending.the-variants.{None}
 use Rattle.region.specs.Channel.{countOf, first}
-use Rattle.block.specs.Block.{keep, takeOff}
+use Rattle.block.specs.Block.{keepRecord, takeOff}
 use Rattle.layout.specs.Layout.{clusterSize, statedPlace, stated, faultsIn, stopped, node, channel, onBlock}
 use Rattle.layout.specs.Layout.{fits, sound, isNode}
 use Rattle.outgoing.specs.Entries.{Entry, entries}
-use Rattle.outgoing.specs.Outgoing.{within, isCut, mayCut, hasRoom, released}
+use Rattle.outgoing.specs.Outgoing.{shortened, isCut, mayCut, hasRoom, released}
 use Rattle.outgoing.specs.declared.Extent.{Extent}
 
 -- What an event does. The view is that of the operation that it ends.
@@ -67,7 +67,7 @@ commit n a c x s found =
       bytes = released n a c x (s .node) (s .outbox) found;
       answer = result (pick (isCut x) None (s .ending));
       view = pick (isCut x) noView (s .view);
-      sent = within x (entries n a (s .outbox));
+      sent = shortened x (entries n a (s .outbox));
     }
 
 -- 11 is judged on the channels as the event would leave them.
@@ -108,7 +108,8 @@ deliver a c x b = admitted a c b (deliverIn (stated b) a c x b)
 
 -- A fresh cluster of n nodes in lent bytes: nobody has stopped, nothing waits, and every record is fresh.
 unfoldable pub freshBytes : (n length : ℕ) → List ℕ
-freshBytes n length = upTo n (λ i. onBlock (i + 1) (keep (blank n (i + 1)))) (set (replicate length 0) statedPlace n)
+freshBytes n length =
+    upTo n (λ i. onBlock (i + 1) (keepRecord (blank n (i + 1)))) (set (replicate length 0) statedPlace n)
 
 unfoldable pub fresh : ℕ → List ℕ → Result
 fresh n b =

@@ -8,7 +8,7 @@ ghost use Rattle.octets.specs.Test.{pick};
 ghost use Rattle.view.specs.View.{noView};
 ghost use Rattle.step.specs.declared.Ending.the-variants.{None};
 ghost use Rattle.events.specs.declared.Outcome.the-variants.{Refused};
-ghost use Rattle.events.specs.Outcome.{said};
+ghost use Rattle.events.specs.Outcome.{answerOf};
 
 // A refusal by its number in document 01, or the ending that an accepted event gives.
 pub enum Outcome {
@@ -17,39 +17,39 @@ pub enum Outcome {
 }
 
 // The answer of an event, with the view of the operation that it ended.
-pub struct Answer {
+pub struct Reply {
     pub outcome: Outcome,
     pub view: View,
 }
 
-pub fn refused(k: u8) -> Answer
+pub fn refused(k: u8) -> Reply
     ensures { λ r. ⌜ r ≡ record { outcome = Refused k; view = noView } ⌝ }
 {
-    Answer {
+    Reply {
         outcome: Outcome::Refused(k),
         view: view::absent(),
     }
 }
 
 // What an accepted event answers: a cut one does not give its ending.
-pub fn given(cut: bool, ending: Ending, view: View) -> Answer
-    ensures { λ r. ⌜ (said (r .outcome) ≡ result (pick cut None ending)) × (r .view ≡ pick cut noView view) ⌝ }
+pub fn given(cut: bool, ending: Ending, view: View) -> Reply
+    ensures { λ r. ⌜ (answerOf (r .outcome) ≡ result (pick cut None ending)) × (r .view ≡ pick cut noView view) ⌝ }
 {
     if cut {
-        return Answer {
+        return Reply {
             outcome: Outcome::Accepted(Ending::None),
             view: view::absent(),
         };
     }
-    Answer {
+    Reply {
         outcome: Outcome::Accepted(ending),
         view: view,
     }
 }
 
 // What an event that steps a node answers: 11 where a channel had no room.
-pub fn answered(room: bool, cut: bool, ending: Ending, view: View) -> Answer
-    ensures { λ r. ⌜ (said (r .outcome) ≡ pick room (result (pick cut None ending)) (refused 11))
+pub fn answered(room: bool, cut: bool, ending: Ending, view: View) -> Reply
+    ensures { λ r. ⌜ (answerOf (r .outcome) ≡ pick room (result (pick cut None ending)) (refused 11))
         × (r .view ≡ pick room (pick cut noView view) noView) ⌝ }
 {
     if room {

@@ -23,7 +23,7 @@ use Rattle.view.specs.View.{tagAt, reportAt, viewOk, entryOkAt}
 use Rattle.view.proofs.ViewBytes.{ok-report}
 use Rattle.view.specs.declared.Report.{Report}
 use Rattle.figures.specs.declared.Totals.{Totals}
-use Rattle.figures.specs.Figures.{shown, total, totals}
+use Rattle.figures.specs.Figures.{countedReport, total, totals}
 use Rattle.figures.specs.Plain.{plain}
 
 same-test : (x y : Bool) → (x ≡ true → y ≡ true) → (y ≡ true → x ≡ true) → x ≡ y
@@ -115,9 +115,9 @@ plain-view n v h l e =
     allTo-all n (entryOkAt limit v) (λ i m. plain-entry v i h (omega arith) (allTo-at n (plainAt v) i e m))
 
 -- an entry of a valid view shows its report, which is none beside tag 0
-pub shown-is : (n : ℕ) (v : List ℕ) → viewOk n limit v ≡ true → Bytes v → 16 * n ≤ length v → (i : ℕ) → i < n
-    → reportAt v i ≡ shown v i
-shown-is n v ok h l i m = elim (ℕ-discrete (tagAt v i) 0) [
+pub countedReport-is : (n : ℕ) (v : List ℕ) → viewOk n limit v ≡ true → Bytes v → 16 * n ≤ length v → (i : ℕ) → i < n
+    → reportAt v i ≡ countedReport v i
+countedReport-is n v ok h l i m = elim (ℕ-discrete (tagAt v i) 0) [
   | yes e ↦ ok-report n limit v ok i m h l e ∙ sym (ap (λ (t : Bool). pick t noReport (reportAt v i))
       (eq-eqb (tagAt v i) 0 e))
   | no e ↦ sym (ap (λ (t : Bool). pick t noReport (reportAt v i)) (ne-eqb (tagAt v i) 0 e))
@@ -140,16 +140,16 @@ pub record Count (count : Report → ℕ) : Type 0 where
   pub none : count noReport ≡ 0
   pub most : (b : List ℕ) → Bytes b → count (reportOf b) ≤ 65535
 
-shown-most : (count : Report → ℕ) → Count count → (t : Bool) (b : List ℕ) → Bytes b → count
+countedReport-most : (count : Report → ℕ) → Count count → (t : Bool) (b : List ℕ) → Bytes b → count
     (pick t noReport (reportOf b)) ≤ 65535
-shown-most count c true b h = rw (c .none) (omega arith)
-shown-most count c false b h = c .most b h
+countedReport-most count c true b h = rw (c .none) (omega arith)
+countedReport-most count c false b h = c .most b h
 
 pub total-fits : (count : Report → ℕ) (n : ℕ) (v : List ℕ) → Count count → Bytes v → n ≤ 16 → total count n v < 2 ^ 32
 total-fits count n v c h l =
     let m : total count n v ≤ n * 65535 =
-    sumTo-le n 65535 (λ i. count (shown v i))
-    (λ i. shown-most count c (eqb (tagAt v i) 0) (part v (16 * i + 8) 8) (part-bytes v (16 * i + 8) 8 h)) in
+    sumTo-le n 65535 (λ i. count (countedReport v i))
+    (λ i. countedReport-most count c (eqb (tagAt v i) 0) (part v (16 * i + 8) 8) (part-bytes v (16 * i + 8) 8 h)) in
     omega arith
 
 -- each of the four sums fits 32 bits

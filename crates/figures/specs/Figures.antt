@@ -15,12 +15,12 @@ use Rattle.figures.specs.declared.Summed.{Summed}
 use Rattle.figures.specs.declared.Summed.the-variants.{Sums, Refused}
 
 -- the report that entry i shows: none beside tag 0
-abbrev pub shown : List ℕ → ℕ → Report
-shown v i = pick (eqb (tagAt v i) 0) noReport (reportAt v i)
+abbrev pub countedReport : List ℕ → ℕ → Report
+countedReport v i = pick (eqb (tagAt v i) 0) noReport (reportAt v i)
 
 -- the sum of one count over n entries
 abbrev pub total : (Report → ℕ) → ℕ → List ℕ → ℕ
-total count n v = sumTo n (λ i. count (shown v i))
+total count n v = sumTo n (λ i. count (countedReport v i))
 
 unfoldable pub totals : ℕ → List ℕ → Totals
 totals n v =

@@ -39,9 +39,9 @@ pub data Ending : Type 0 where
   spent : Ending
 
 -- A refusal by its number in document 01, or the ending that the event gives.
-pub data Answer : Type 0 where
-  refused : ℕ → Answer
-  accepted : Ending → Answer
+pub data Response : Type 0 where
+  refused : ℕ → Response
+  accepted : Ending → Response
 
 -- A message let out to one node.
 pub record Sent : Type 0 where

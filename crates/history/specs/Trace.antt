@@ -10,12 +10,12 @@ use lib.ListN.{take, drop, getD}
 use Rattle.history.specs.Message.{Entry, absent, View, Message, read, readAnswer, write, writeAnswer, echo, value}
 use Rattle.history.specs.Message.{good}
 use Rattle.history.specs.Event.{update, scan, Ending, none, done, shown, spent, whole, cut, Event, begin, deliver}
-use Rattle.history.specs.Event.{stop, Answer, refused, accepted, Sent, sentTo}
+use Rattle.history.specs.Event.{stop, Response, refused, accepted, Sent, sentTo}
 
 -- One event of a list as seen from outside.
 pub record Seen : Type 0 where
   pub event : Event
-  pub answer : Answer
+  pub answer : Response
   pub sent : List Sent
 
 abbrev pub Trace : Type 0
@@ -39,7 +39,7 @@ pub data Begun : Type 0 where
   updating : (node report : ℕ) → Begun
   scanning : (node : ℕ) → Begun
 
-abbrev pub begunBy : Event → Answer → Begun
+abbrev pub begunBy : Event → Response → Begun
 begunBy e (refused k) = nothing
 begunBy (begin c (update p) x) (accepted e) = updating c p
 begunBy (begin c scan x) (accepted e) = scanning c
@@ -50,7 +50,7 @@ abbrev pub begun : Trace → ℕ → Begun
 begun tr t = begunBy (at tr t .event) (at tr t .answer)
 
 -- The ending that an event gives at node c.
-abbrev pub endingOf : Answer → Ending
+abbrev pub endingOf : Response → Ending
 endingOf (refused k) = none
 endingOf (accepted e) = e
 
@@ -130,12 +130,12 @@ writesBy tr t w (scanning c) old = old
 writesBy tr t w (updating c p) old = cond (decide (ℕ-discrete c w)) (record { tag = tagAt tr t c; report = p }) old
 
 -- The view that a scan ended with; the empty one for all else.
-abbrev pub viewOf : Fate → View
-viewOf unfinished = []
-viewOf (ended k none) = []
-viewOf (ended k (done r v)) = []
-viewOf (ended k (shown r v)) = v
-viewOf (ended k spent) = []
+abbrev pub fateView : Fate → View
+fateView unfinished = []
+fateView (ended k none) = []
+fateView (ended k (done r v)) = []
+fateView (ended k (shown r v)) = v
+fateView (ended k spent) = []
 
 -- What a view has of node w, from 1 to n.
 abbrev pub entryAt : View → ℕ → Entry
@@ -149,7 +149,7 @@ stopsIn (deliver a b whole) c = false
 stopsIn (deliver a b (cut m)) c = decide (ℕ-discrete b c)
 stopsIn (stop a) c = decide (ℕ-discrete a c)
 
-abbrev pub stopsBy : Event → Answer → ℕ → Bool
+abbrev pub stopsBy : Event → Response → ℕ → Bool
 stopsBy e (refused k) c = false
 stopsBy e (accepted x) c = stopsIn e c
 
@@ -163,7 +163,7 @@ letOutTo [] a b = []
 letOutTo (o ∷ os) a b = cond (decide (ℕ-discrete (handler (o .event)) a)) (sentTo b (o .sent)) [] ++ letOutTo os a b
 
 -- How many messages were handed over from node a to node b.
-abbrev pub handedIn : Event → Answer → ℕ → ℕ → ℕ
+abbrev pub handedIn : Event → Response → ℕ → ℕ → ℕ
 handedIn e (refused k) a b = 0
 handedIn (begin c op x) (accepted e) a b = 0
 handedIn (stop c) (accepted e) a b = 0

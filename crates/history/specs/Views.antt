@@ -6,7 +6,7 @@ use mathlib.Core.List.{[]}
 use Rattle.logs.specs.Log.{_∈_}
 use Rattle.history.specs.Message.{absent, View, good}
 use Rattle.history.specs.Event.{none, done, shown, spent}
-use Rattle.history.specs.Trace.{Trace, updating, begun, Fate, unfinished, ended, fate, tagAt, viewOf, entryAt}
+use Rattle.history.specs.Trace.{Trace, updating, begun, Fate, unfinished, ended, fate, tagAt, fateView, entryAt}
 use Rattle.history.specs.Trace.{letOutTo}
 use Rattle.history.specs.Order.{OneTo, Finished, IsScan, EndedBefore}
 
@@ -26,7 +26,7 @@ RoundsComparable n tr = (a b c d t u : ℕ) (v x : View) → good t v ∈ letOut
 -- Where no update was begun, every scan shows no report of any node.
 abbrev pub ShowsAbsence : ℕ → Trace → Type 0
 ShowsAbsence n tr = ((u c p : ℕ) → ¬ (begun tr u ≡ updating c p)) → (s : ℕ) → IsScan (begun tr s) → Finished (fate tr s)
-    → (w : ℕ) → OneTo n w → entryAt (viewOf (fate tr s)) w ≡ absent
+    → (w : ℕ) → OneTo n w → entryAt (fateView (fate tr s)) w ≡ absent
 
 -- The operation ended with a view, an update or a scan, and the view; the empty one for all else.
 abbrev pub HasView : Fate → Type 0

@@ -14,17 +14,17 @@ use Rattle.octets.specs.Test.{pick, both}
 use Rattle.lines.specs.Grammar.{eventOf, nodesOf, isNumber, numberOf}
 use Rattle.lines.specs.declared.Line.the-variants.{Bad}
 use Rattle.lines.proofs.OnlyLegal.{long-bad, long-no-nodes}
-use Rattle.input.specs.Carry.{most, within, carryOf, pushed, push, eventIn, nodesIn}
+use Rattle.input.specs.Carry.{most, carryUpTo, carryOf, pushed, push, eventIn, nodesIn}
 use Rattle.input.specs.declared.Carry.{Carry}
 
 abbrev kept : List ℕ → ℕ → Carry
 kept b k = record { bytes = b; size = k }
 
 module _ (m : ℕ) where
-  short : (l : List ℕ) → length l ≤ m → within m l ≡ kept (l ++ replicate (m - length l) 0) (length l)
+  short : (l : List ℕ) → length l ≤ m → carryUpTo m l ≡ kept (l ++ replicate (m - length l) 0) (length l)
   short l h = simp (le-leb (length l) m h, take-all m l h)
 
-  long : (l : List ℕ) → m < length l → within m l ≡ kept (take m l) (suc m)
+  long : (l : List ℕ) → m < length l → carryUpTo m l ≡ kept (take m l) (suc m)
   long l h =
       let e : m - length l ≡ 0 = omega arith in
       simp (lt-leb (length l) m h, e, append-nil)
@@ -38,13 +38,13 @@ module _ (m : ℕ) where
   longer : (l : List ℕ) (x : ℕ) → length (l ++ (x ∷ [])) ≡ length l + 1
   longer l x = length-append l (x ∷ [])
 
-  push-within : (l : List ℕ) (x : ℕ) → pushed m (within m l) x ≡ within m (l ++ (x ∷ []))
-  push-within l x = elim (decLe m (length l)) [ yes h ↦ full h | no h ↦ room (lt-of-not-le h) ]
+  push-carryUpTo : (l : List ℕ) (x : ℕ) → pushed m (carryUpTo m l) x ≡ carryUpTo m (l ++ (x ∷ []))
+  push-carryUpTo l x = elim (decLe m (length l)) [ yes h ↦ full h | no h ↦ room (lt-of-not-le h) ]
     where
       r : List ℕ
       r = l ++ (x ∷ [])
 
-      room : length l < m → pushed m (within m l) x ≡ within m r
+      room : length l < m → pushed m (carryUpTo m l) x ≡ carryUpTo m r
       room h =
           let n : length r ≡ length l + 1 = longer l x in
           let z : List ℕ = replicate (m - length r) 0 in
@@ -56,52 +56,52 @@ module _ (m : ℕ) where
           (sym n) ∙ sym (short r (omega arith))
 
       -- the bytes that are kept of a line as long as they are, or longer
-      front : m ≤ length l → within m l .bytes ≡ take m l
+      front : m ≤ length l → carryUpTo m l .bytes ≡ take m l
       front h =
           let e : m - length l ≡ 0 = omega arith in
           ap (λ (k : ℕ). take m l ++ replicate k 0) e ∙ append-nil (take m l)
 
-      size : m ≤ length l → m ≤ within m l .size
+      size : m ≤ length l → m ≤ carryUpTo m l .size
       size h = elim (decLe (length l) m) [
         | yes k ↦ rw (le-leb (length l) m k) h
         | no k ↦ rw (lt-leb (length l) m
             (lt-of-not-le k)) (omega arith)
       ]
 
-      full : m ≤ length l → pushed m (within m l) x ≡ within m r
+      full : m ≤ length l → pushed m (carryUpTo m l) x ≡ carryUpTo m r
       full h =
           let n : length r ≡ length l + 1 = longer l x in
-          push-full (within m l .bytes) (within m l .size) x (size h)
+          push-full (carryUpTo m l .bytes) (carryUpTo m l .size) x (size h)
           ∙ ap (λ (b : List ℕ). kept b (suc m)) (front h ∙ sym (take-append-le m l (x ∷ []) h))
           ∙ sym (long r (omega arith))
 
 -- one byte more of a line
 pub push-carry : (l : List ℕ) (x : ℕ) → push (carryOf l) x ≡ carryOf (l ++ (x ∷ []))
 unfolding push carryOf
-push-carry l x = push-within most l x
+push-carry l x = push-carryUpTo most l x
 
 -- ---- reading
 
 -- a line that is kept whole, by a reader f that answers z for each longer one
-read-within : {A : Type 0} (m : ℕ) (f : List ℕ → A) (z : A) → ((l : List ℕ) → m < length l → f l ≡ z) → (l : List ℕ)
-    → pick (leb (within m l .size) m) (f (take (within m l .size) (within m l .bytes))) z ≡ f l
-read-within {A = A} m f z over l = elim (decLe (length l) m) [ yes h ↦ whole h | no h ↦ cut (lt-of-not-le h) ]
+read-carryUpTo : {A : Type 0} (m : ℕ) (f : List ℕ → A) (z : A) → ((l : List ℕ) → m < length l → f l ≡ z) → (l : List ℕ)
+    → pick (leb (carryUpTo m l .size) m) (f (take (carryUpTo m l .size) (carryUpTo m l .bytes))) z ≡ f l
+read-carryUpTo {A = A} m f z over l = elim (decLe (length l) m) [ yes h ↦ whole h | no h ↦ cut (lt-of-not-le h) ]
   where
     reads : Carry → A
     reads c = pick (leb (c .size) m) (f (take (c .size) (c .bytes))) z
 
-    whole : length l ≤ m → reads (within m l) ≡ f l
+    whole : length l ≤ m → reads (carryUpTo m l) ≡ f l
     whole h =
         ap reads (short m l h)
         ∙ simp (le-leb (length l) m h, take-append-seam l (replicate (m - length l) 0))
 
-    cut : m < length l → reads (within m l) ≡ f l
+    cut : m < length l → reads (carryUpTo m l) ≡ f l
     cut h = ap reads (long m l h) ∙ simp (lt-leb (suc m) m (omega arith)) (sym (over l h))
 
 pub event-carry : (l : List ℕ) → eventIn (carryOf l) ≡ eventOf l
 unfolding eventIn carryOf
-event-carry l = read-within most eventOf Bad (λ k h. long-bad k (omega arith)) l
+event-carry l = read-carryUpTo most eventOf Bad (λ k h. long-bad k (omega arith)) l
 
 pub nodes-carry : (l : List ℕ) → nodesIn (carryOf l) ≡ nodesOf l
 unfolding nodesIn carryOf
-nodes-carry l = read-within most nodesOf 0 (λ k h. long-no-nodes k (omega arith)) l
+nodes-carry l = read-carryUpTo most nodesOf 0 (λ k h. long-no-nodes k (omega arith)) l

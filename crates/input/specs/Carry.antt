@@ -14,12 +14,12 @@ abbrev pub most : ℕ
 most = 40
 
 -- of the line l, where the first m bytes are kept
-abbrev pub within : (m : ℕ) → List ℕ → Carry
-within m l =
+abbrev pub carryUpTo : (m : ℕ) → List ℕ → Carry
+carryUpTo m l =
     record { bytes = take m l ++ replicate (m - length l) 0; size = pick (leb (length l) m) (length l) (suc m) }
 
 unfoldable pub carryOf : List ℕ → Carry
-carryOf l = within most l
+carryOf l = carryUpTo most l
 
 -- one byte more
 abbrev pub pushed : (m : ℕ) → Carry → ℕ → Carry

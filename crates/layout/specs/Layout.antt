@@ -24,8 +24,8 @@ blocksPlace = statedPlace + 1
 abbrev pub clusterSize : ℕ → ℕ
 clusterSize n = blocksPlace + blockSize * n
 
-unfoldable pub size : ℕ → ℕ
-size n = pick (isSize n) (clusterSize n) 0
+unfoldable pub sizeFor : ℕ → ℕ
+sizeFor n = pick (isSize n) (clusterSize n) 0
 
 abbrev pub blockPlace : ℕ → ℕ
 blockPlace c = blocksPlace + blockSize * (c - 1)

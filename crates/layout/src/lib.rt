@@ -13,8 +13,8 @@ ghost use Rattle.view.specs.Size.{nodes};
 ghost use Rattle.table.specs.Loop.{all, count};
 ghost use Rattle.region.specs.Channel.{slotSize, countOf, first};
 ghost use Rattle.region.specs.Record.{recordSize, recordOf, recordBytes};
-ghost use Rattle.block.specs.Block.{recordIn, keep, takeOff, receive, halt, blockSound};
-ghost use Rattle.layout.specs.Layout.{clusterSize, size as sizeOf, stated, faultsIn, block, stopped, channel};
+ghost use Rattle.block.specs.Block.{recordIn, keepRecord, takeOff, receive, halt, blockSound};
+ghost use Rattle.layout.specs.Layout.{clusterSize, sizeFor, stated, faultsIn, block, stopped, channel};
 ghost use Rattle.layout.specs.Layout.{onBlock, fits, sound, isNode};
 
 // Where n is stated, and where the blocks stand.
@@ -24,7 +24,7 @@ pub const BLOCKS_PLACE: usize = STATED_PLACE + 1;
 
 // The bytes to lend for a cluster of n nodes; 0 where there may be none.
 pub fn size(n: usize) -> usize
-    ensures { λ r. ⌜ r ≡ sizeOf n ⌝ }
+    ensures { λ r. ⌜ r ≡ sizeFor n ⌝ }
 {
     if and(1 <= n, n <= NODES) {
         BLOCKS_PLACE + BLOCK * n
@@ -101,7 +101,7 @@ pub fn take_off_at(b: &mut [u8], a: usize, c: usize)
 // Writes another record of node c.
 pub fn keep_at(b: &mut [u8], c: usize, d: Node)
     requires { ⌜ (1 ≤ c) × (clusterSize c ≤ length (now b)) ⌝ }
-    ensures { λ _. ⌜ now (b .exit) ≡ onBlock c (keep d) (now (b .entry)) ⌝ }
+    ensures { λ _. ⌜ now (b .exit) ≡ onBlock c (keepRecord d) (now (b .entry)) ⌝ }
 {
     let at = BLOCKS_PLACE + BLOCK * (c - 1);
     let end = at + BLOCK;
@@ -122,7 +122,7 @@ pub fn copy_record_at(b: &[u8], c: usize, r: &mut [u8])
 pub fn keep_record_at(b: &mut [u8], c: usize, r: &[u8])
     requires { ⌜ (1 ≤ c) × (clusterSize c ≤ length (now b)) × (length (now r) ≡ recordSize)
         × (now r ≡ recordBytes (recordOf (now r))) ⌝ }
-    ensures { λ _. ⌜ now (b .exit) ≡ onBlock c (keep (recordOf (now (r .entry)))) (now (b .entry)) ⌝ }
+    ensures { λ _. ⌜ now (b .exit) ≡ onBlock c (keepRecord (recordOf (now (r .entry)))) (now (b .entry)) ⌝ }
 {
     let at = BLOCKS_PLACE + BLOCK * (c - 1);
     let end = at + BLOCK;

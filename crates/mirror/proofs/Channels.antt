@@ -8,7 +8,7 @@ use mathlib.Core.Bool.{Bool, true, false, cond, decide}
 use mathlib.Core.List.{List, [], _∷_, _++_, map, map-append, append-nil, append-assoc}
 use lib.ListN.{length, take}
 use borrow.Author.Tests.{eq-eqb, ne-eqb}
-use Rattle.table.specs.Loop.{tab}
+use Rattle.table.specs.Loop.{numbered}
 use Rattle.view.specs.declared.View.{View}
 use Rattle.wire.specs.declared.Message.{Message}
 use Rattle.wire.specs.declared.Message.the-variants.{Read, ReadAnswer, Write, WriteAnswer, Echo, Value, Good}
@@ -100,22 +100,22 @@ same-goTo n d (e ∷ l) = elim (ℕ-discrete (e .to) d) [
 ]
 
 -- The entries of messages are the same.
-same-tab : (n m : ℕ) (f : ℕ → Entry) → map (mail m) (tab n f) ≡ A.table (λ b. mail m (f b)) n
-unfolding tab A.table
-same-tab zero m f = refl
-same-tab (suc n) m f = map-append (mail m) (tab n f) (f (suc n) ∷ [])
-    ∙ ap (λ l. l ++ (mail m (f (suc n)) ∷ [])) (same-tab n m f)
+same-numbered : (n m : ℕ) (f : ℕ → Entry) → map (mail m) (numbered n f) ≡ A.table (λ b. mail m (f b)) n
+unfolding numbered A.table
+same-numbered zero m f = refl
+same-numbered (suc n) m f = map-append (mail m) (numbered n f) (f (suc n) ∷ [])
+    ∙ ap (λ l. l ++ (mail m (f (suc n)) ∷ [])) (same-numbered n m f)
 
 same-addressed : (n a : ℕ) (v : View) (m : Message)
     → map (mail n) (addressed n a v m) ≡ K.addressed n (messageOf n a v m)
 unfolding addressed
-same-addressed n a v (Read q) = same-tab n n (entry v (Read q))
+same-addressed n a v (Read q) = same-numbered n n (entry v (Read q))
 same-addressed n a v (ReadAnswer q t) = refl
-same-addressed n a v (Write q t) = same-tab n n (entry v (Write q t))
+same-addressed n a v (Write q t) = same-numbered n n (entry v (Write q t))
 same-addressed n a v (WriteAnswer q t) = refl
-same-addressed n a v (Echo t) = same-tab n n (entry v (Echo t))
-same-addressed n a v (Value t w p) = same-tab n n (entry v (Value t w p))
-same-addressed n a v (Good t) = same-tab n n (entry v (Good t))
+same-addressed n a v (Echo t) = same-numbered n n (entry v (Echo t))
+same-addressed n a v (Value t w p) = same-numbered n n (entry v (Value t w p))
+same-addressed n a v (Good t) = same-numbered n n (entry v (Good t))
 
 pub same-entries : (n a : ℕ) (v : View) (l : List Message)
     → map (mail n) (entriesOf n a v l) ≡ K.entries n (map (messageOf n a v) l)

@@ -41,7 +41,7 @@ module _ (n c : ℕ) where
           → Encodes n c s m
       go (refused k) e h = absurd (subst IsResult (sym h) tt)
       go (result p) e h = let f = front-only n s (p .0) (p .1) e in record {
-        said = p .0;
+        message = p .0;
         view = viewAt n s;
         layout = f .allowed-is;
         bytes = ap (λ k. take k s) (sym (f .long)) ∙ f .bytes;

@@ -8,7 +8,7 @@ use mathlib.Core.List.{List, [], _∷_, _++_, List·Memᴰ·head, List·Memᴰ·
 use lib.ListN.{take}
 use Rattle.logs.specs.Log.{_∈_}
 use Rattle.octets.specs.Test.{pick}
-use Rattle.table.specs.Loop.{tab}
+use Rattle.table.specs.Loop.{numbered}
 use Rattle.view.specs.View.{viewBytes}
 use Rattle.view.specs.declared.View.{View}
 use Rattle.wire.specs.Layout.{allowed}
@@ -34,19 +34,20 @@ module _ (n : ℕ) where
   fits-take (suc m) (a ∷ l) f e (List·Memᴰ·tail x) = fits-take m l (λ y z. f y (List·Memᴰ·tail z)) e x
 
   module _ (a : ℕ) (o : OneTo n a) (v : View) where
-    fits-tab : (k : ℕ) → k ≤ n → (m : Message) → allowed n m (viewBytes n v) ≡ true → Fits (tab k (entry v m))
-    unfolding tab
-    fits-tab zero l m ok = λ e x. elim x [ ]
-    fits-tab (suc k) l m ok = fits-append (tab k (entry v m)) (entry v m (suc k) ∷ []) (fits-tab k (omega arith) m ok)
+    fits-numbered : (k : ℕ) → k ≤ n → (m : Message) → allowed n m (viewBytes n v) ≡ true → Fits (numbered k (entry v m))
+    unfolding numbered
+    fits-numbered zero l m ok = λ e x. elim x [ ]
+    fits-numbered (suc k) l m ok =
+        fits-append (numbered k (entry v m)) (entry v m (suc k) ∷ []) (fits-numbered k (omega arith) m ok)
         (fits-one (entry v m (suc k)) (record { to = (omega arith, omega arith); layout = ok }))
 
     fits-addressed : (m : Message) → allowed n m (viewBytes n v) ≡ true → Fits (addressed n a v m)
     unfolding addressed
     fits-addressed m ok = go (isAnswer m)
       where
-        go : (b : Bool) → Fits (pick b (entry v m a ∷ []) (tab n (entry v m)))
+        go : (b : Bool) → Fits (pick b (entry v m a ∷ []) (numbered n (entry v m)))
         go true = fits-one (entry v m a) (record { to = o; layout = ok })
-        go false = fits-tab n (omega arith) m ok
+        go false = fits-numbered n (omega arith) m ok
 
     pub fits-entries : (l : List Message) → ((m : Message) → m ∈ l → allowed n m (viewBytes n v) ≡ true)
         → Fits (entriesOf n a v l)

@@ -17,7 +17,7 @@ use Rattle.view.specs.Size.{nodes}
 use Rattle.record.specs.Record.{blank}
 use Rattle.record.proofs.Fresh.{fresh-usable}
 use Rattle.region.specs.Channel.{slotSize, channelSize, countOf, oldest, slotAt, waiting}
-use Rattle.block.specs.Block.{blockSize, channelPlace, hasStopped, channelIn, keep}
+use Rattle.block.specs.Block.{blockSize, channelPlace, hasStopped, channelIn, keepRecord}
 use Rattle.layout.specs.Layout.{clusterSize, blockPlace, stated, block, onBlock}
 use Rattle.events.specs.Event as E
 use Rattle.history.specs.Order.{OneTo}
@@ -92,7 +92,7 @@ module _ (n : ℕ) (low : 1 ≤ n) (small : n ≤ nodes) where
     there = omega (arith, made .long)
 
     written : List ℕ → List ℕ
-    written = keep (blank n (m + 1))
+    written = keepRecord (blank n (m + 1))
 
     block-made : Says n (m + 1) (written (block b (m + 1))) A.fresh false (λ a. [])
     unfolding written
@@ -117,10 +117,10 @@ module _ (n : ℕ) (low : 1 ≤ n) (small : n ≤ nodes) where
           (made .zeros c o (omega arith));
     }
 
-  made-all : (m : ℕ) → m ≤ n → Made m (upTo m (λ i. onBlock (i + 1) (keep (blank n (i + 1)))) start)
+  made-all : (m : ℕ) → m ≤ n → Made m (upTo m (λ i. onBlock (i + 1) (keepRecord (blank n (i + 1)))) start)
   unfolding upTo written
   made-all zero h = made-none
-  made-all (suc m) h = made-more m h (upTo m (λ i. onBlock (i + 1) (keep (blank n (i + 1)))) start)
+  made-all (suc m) h = made-more m h (upTo m (λ i. onBlock (i + 1) (keepRecord (blank n (i + 1)))) start)
       (made-all m (omega arith))
 
   none-stopped : (m : ℕ) → C.count (λ c. false) m ≡ 0

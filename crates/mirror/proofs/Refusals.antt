@@ -13,11 +13,11 @@ use Rattle.history.specs.Message as M
 use Rattle.history.specs.Event as H
 use Rattle.algorithm.specs.Algorithm as A
 use Rattle.eqaso.specs.Cluster as K
-use Rattle.mirror.specs.SameResult.{answerOf, SameResult}
+use Rattle.mirror.specs.SameResult.{responseOf, SameResult}
 use Rattle.mirror.specs.Run.{inRun, ComesUp}
 
 -- The same of the algorithm's answer.
-abbrev Given : H.Answer → Type 0
+abbrev Given : H.Response → Type 0
 Given (H.accepted e) = Unit {0}
 Given (H.refused k) = inRun k ≡ true
 
@@ -62,6 +62,6 @@ pub comes-up : (n f : ℕ) (room : ℕ → Bool) (σ : K.Cluster) (e : H.Event) 
     → SameResult n r (K.event n f room e σ) → ComesUp (r .answer)
 comes-up n f room σ e r same = go (r .answer) (r .view) (same .answer)
   where
-    go : (x : Answer Ending) (v : View) → answerOf n v x ≡ K.event n f room e σ .answer → ComesUp x
+    go : (x : Answer Ending) (v : View) → responseOf n v x ≡ K.event n f room e σ .answer → ComesUp x
     go (result y) v h = tt
     go (refused k) v h = subst Given (sym h) (answers n f room σ e .given)

@@ -22,8 +22,8 @@ use Rattle.region.specs.Channel.{channelSize, clear, waiting}
 use Rattle.region.specs.Record.{recordOf}
 use Rattle.region.proofs.Back.{record-back}
 use Rattle.region.proofs.Waiting.{waiting-clear, length-clear, length-waiting}
-use Rattle.block.specs.Block.{blockSize, hasStopped, recordIn, channelIn, onChannel, keep}
-use Rattle.block.proofs.Changes.{channel-length, channel-same, keep-length, keep-record}
+use Rattle.block.specs.Block.{blockSize, hasStopped, recordIn, channelIn, onChannel, keepRecord}
+use Rattle.block.proofs.Changes.{channel-length, channel-same, keepRecord-length, keepRecord-record}
 use Rattle.layout.specs.Layout.{clusterSize, block, node, onBlock}
 use Rattle.layout.proofs.Blocks.{block-same}
 use Rattle.outgoing.specs.declared.Extent.the-variants.{Whole}
@@ -136,7 +136,7 @@ module _ (b : List ℕ) (long : length b ≡ clusterSize 1) where
           ∙ waiting-clear (λ s. s) (channelIn k 1) (omega (arith, channel-size k size 1 (omega arith) (omega arith)))
 
   -- The record is always the fresh one, with no report in it. The stop byte and the channels are as they were.
-  pub remembers-out : ¬ Demand2Of 1 (showing (onBlock 1 (keep (blank 1 1))) (houseOf 1 b))
+  pub remembers-out : ¬ Demand2Of 1 (showing (onBlock 1 (keepRecord (blank 1 1))) (houseOf 1 b))
   remembers-out d =
       let wrong : _≡_ {A = ℕ} 0 1 = sym (ap (λ e. e .tag) (follows-fresh 1 1 .last 1 one) ∙ no-last)
       ∙ ap (λ c. tagOf (c .last) 1) (sym is) ∙ ap (λ e. e .tag) (d .remembers posting 1 one .last 1 one) ∙ last-tag in
@@ -148,10 +148,10 @@ module _ (b : List ℕ) (long : length b ≡ clusterSize 1) where
       size-posted : length (block (bytesAfter 1 b posting) 1) ≡ blockSize
       size-posted = block-size 1 (omega arith) (omega arith) b long posting 1 one
 
-      is : node (onBlock 1 (keep (blank 1 1)) (bytesAfter 1 b posting)) 1 ≡ blank 1 1
+      is : node (onBlock 1 (keepRecord (blank 1 1)) (bytesAfter 1 b posting)) 1 ≡ blank 1 1
       is = ap (λ t. recordOf (recordIn t)) (changed 1 (omega arith) (omega arith) b long posting 1 one
-          (keep (blank 1 1)) (keep-length (block (bytesAfter 1 b posting) 1) size-posted (blank 1 1) heard))
-          ∙ ap recordOf (keep-record (block (bytesAfter 1 b posting) 1) size-posted (blank 1 1) heard)
+          (keepRecord (blank 1 1)) (keepRecord-length (block (bytesAfter 1 b posting) 1) size-posted (blank 1 1) heard))
+          ∙ ap recordOf (keepRecord-record (block (bytesAfter 1 b posting) 1) size-posted (blank 1 1) heard)
           ∙ record-back (blank 1 1) (sized-node (follows-fresh 1 1))
 
 -- Something is left in the channel from node 1 to node 2 of three where node 2 has stopped.

@@ -53,11 +53,11 @@ absent-past-out h d =
     omega (arith, wrong)
 
 -- A trace tells every refusal as 3, which may come up; what waits does not depend on a refusal's number.
-abbrev toldAs3 : H.Answer → H.Answer
+abbrev toldAs3 : H.Response → H.Response
 toldAs3 (H.refused k) = H.refused 3
 toldAs3 (H.accepted e) = H.accepted e
 
-abbrev number : H.Answer → ℕ
+abbrev number : H.Response → ℕ
 number (H.refused k) = k
 number (H.accepted e) = 0
 

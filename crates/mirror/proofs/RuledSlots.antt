@@ -26,19 +26,19 @@ IsRead (M.value v) = ⊥
 IsRead (M.good t v) = ⊥
 
 -- Only a read means a read.
-said-read : (q : ℕ) (v : View) (m : Message) → messageOf 1 1 v m ≡ M.read q → m ≡ Read q
-said-read q v (Read r) e = let h : r ≡ q = cc e in ap Read h
-said-read q v (ReadAnswer r t) e = absurd (subst IsRead (sym e) tt)
-said-read q v (Write r t) e = absurd (subst IsRead (sym e) tt)
-said-read q v (WriteAnswer r t) e = absurd (subst IsRead (sym e) tt)
-said-read q v (Echo t) e = absurd (subst IsRead (sym e) tt)
-said-read q v (Value t w p) e = absurd (subst IsRead (sym e) tt)
-said-read q v (Good t) e = absurd (subst IsRead (sym e) tt)
+message-read : (q : ℕ) (v : View) (m : Message) → messageOf 1 1 v m ≡ M.read q → m ≡ Read q
+message-read q v (Read r) e = let h : r ≡ q = cc e in ap Read h
+message-read q v (ReadAnswer r t) e = absurd (subst IsRead (sym e) tt)
+message-read q v (Write r t) e = absurd (subst IsRead (sym e) tt)
+message-read q v (WriteAnswer r t) e = absurd (subst IsRead (sym e) tt)
+message-read q v (Echo t) e = absurd (subst IsRead (sym e) tt)
+message-read q v (Value t w p) e = absurd (subst IsRead (sym e) tt)
+message-read q v (Good t) e = absurd (subst IsRead (sym e) tt)
 
 -- A slot without bytes. A read with number 1 is allowed and means what it should, but is not there.
 pub bytes-out : ¬ Encodes 1 1 [] (M.read 1)
 unfolding encode
-bytes-out e = none (e .said) (e .view) (e .bytes)
+bytes-out e = none (e .message) (e .view) (e .bytes)
   where
     none : (m : Message) (v : List ℕ) → take (length (encode m v)) [] ≡ encode m v → ⊥
     none (Read q) v h = subst IsNil h tt
@@ -53,7 +53,7 @@ bytes-out e = none (e .said) (e .view) (e .bytes)
 pub means-out : ¬ Encodes 1 1 (encode (Read 2) []) (M.read 1)
 unfolding encode
 means-out e = other (e .view) (subst (λ m. take (length (encode m (e .view))) (encode (Read 2) []) ≡ encode m (e .view))
-    (said-read 1 (viewOf 1 (e .view)) (e .said) (e .means)) (e .bytes))
+    (message-read 1 (viewOf 1 (e .view)) (e .message) (e .means)) (e .bytes))
   where
     other : (v : List ℕ) → take (length (encode (Read 1) v)) (encode (Read 2) []) ≡ encode (Read 1) v → ⊥
     other v h = let last : _≡_ {A = ℕ} 2 1 = ap (λ l. getD l 14 0) h in omega (arith, last)
@@ -62,7 +62,7 @@ means-out e = other (e .view) (subst (λ m. take (length (encode m (e .view))) (
 pub layout-out : ¬ Encodes 1 1 (encode (Read 0) []) (M.read 0)
 unfolding allowed
 layout-out e = zero (e .view) (subst (λ m. allowed 1 m (e .view) ≡ true)
-    (said-read 0 (viewOf 1 (e .view)) (e .said) (e .means)) (e .layout))
+    (message-read 0 (viewOf 1 (e .view)) (e .message) (e .means)) (e .layout))
   where
     zero : (v : List ℕ) → allowed 1 (Read 0) v ≡ true → ⊥
     zero v h = false≢true h

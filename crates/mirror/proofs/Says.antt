@@ -18,14 +18,15 @@ use Rattle.record.specs.declared.Node.{Node}
 use Rattle.region.specs.Channel.{capacity, channelSize, slotSize, countOf, first, push, pop, waiting}
 use Rattle.region.specs.Record.{recordOf, recordBytes}
 use Rattle.region.proofs.Waiting.{waiting-push, waiting-pop, length-waiting, length-push, length-pop}
-use Rattle.block.specs.Block.{blockSize, hasStopped, channelIn, recordSound, onChannel, keep, takeOff, receive, halt}
+use Rattle.block.specs.Block.{blockSize, hasStopped, channelIn, recordSound, onChannel, keepRecord, takeOff, receive}
+use Rattle.block.specs.Block.{halt}
 use Rattle.history.specs.Message as M
 use Rattle.history.specs.Order.{OneTo}
 use Rattle.algorithm.specs.Algorithm as A
 use Rattle.refine.specs.Follows.{Follows, Sized as SizedView}
 use Rattle.mirror.specs.Mirrors.{meant, Says}
 use Rattle.block.proofs.Changes.{channel-length, channel-flag, channel-record, channel-same, channel-other}
-use Rattle.block.proofs.Changes.{keep-length, keep-flag, keep-record, keep-channel}
+use Rattle.block.proofs.Changes.{keepRecord-length, keepRecord-flag, keepRecord-record, keepRecord-channel}
 use Rattle.mirror.proofs.Halted.{channel-size, halted}
 use Rattle.view.specs.declared.View.{View}
 use Rattle.region.proofs.Back.{Sized, SizedNode, record-back, record-known}
@@ -56,13 +57,13 @@ sound-record {n} {i} {ν} {c} F u =
 pub says-new : {n c : ℕ} (k : List ℕ) {s : Bool} {q : ℕ → List M.Message} → length k ≡ blockSize
     → hasStopped k ≡ s
     → ((a : ℕ) → OneTo n a → waiting (meant n c) (channelIn k a) ≡ map result (q a))
-    → {ν : A.Node} {d : Node} → Follows n c ν d → usable d ≡ true → Says n c (keep d k) ν s q
+    → {ν : A.Node} {d : Node} → Follows n c ν d → usable d ≡ true → Says n c (keepRecord d k) ν s q
 says-new {n} {c} k size stop waits {ν} {d} F u = let z = sized-node F in record {
-  size = keep-length k size d (z .heard);
-  node = subst (Follows n c ν) (sym (record-back d z) ∙ ap recordOf (sym (keep-record k size d (z .heard)))) F;
-  sound = ap (recordSound n c) (keep-record k size d (z .heard)) ∙ sound-record F u;
-  stop = ap (ltb 0) (keep-flag k size d (z .heard)) ∙ stop;
-  waits = λ a o. ap (waiting (meant n c)) (keep-channel k size d (z .heard) a) ∙ waits a o;
+  size = keepRecord-length k size d (z .heard);
+  node = subst (Follows n c ν) (sym (record-back d z) ∙ ap recordOf (sym (keepRecord-record k size d (z .heard)))) F;
+  sound = ap (recordSound n c) (keepRecord-record k size d (z .heard)) ∙ sound-record F u;
+  stop = ap (ltb 0) (keepRecord-flag k size d (z .heard)) ∙ stop;
+  waits = λ a o. ap (waiting (meant n c)) (keepRecord-channel k size d (z .heard) a) ∙ waits a o;
 }
 
 module _ {n c : ℕ} (small : n ≤ nodes) {k : List ℕ} {ν : A.Node} {s : Bool} {q : ℕ → List M.Message}
@@ -88,8 +89,8 @@ module _ {n c : ℕ} (small : n ≤ nodes) {k : List ℕ} {ν : A.Node} {s : Boo
   says-count a o = sym (length-waiting (meant n c) (channelIn k a)) ∙ ap length (B .waits a o) ∙ length-map (q a) result
 
   -- Another record.
-  pub says-keep : {ν′ : A.Node} {d : Node} → Follows n c ν′ d → usable d ≡ true → Says n c (keep d k) ν′ s q
-  says-keep F u = says-new k (B .size) (B .stop) (B .waits) F u
+  pub says-keepRecord : {ν′ : A.Node} {d : Node} → Follows n c ν′ d → usable d ≡ true → Says n c (keepRecord d k) ν′ s q
+  says-keepRecord F u = says-new k (B .size) (B .stop) (B .waits) F u
 
   -- A change of the channel from a.
   on-channel : (a : ℕ) → OneTo n a → (f : List ℕ → List ℕ)

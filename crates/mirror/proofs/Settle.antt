@@ -36,7 +36,7 @@ use Rattle.refine.specs.Meaning.{messageOf}
 use Rattle.refine.specs.Lockstep.{SameStep}
 use Rattle.refine.proofs.Choice.{Tells, same-side}
 use Rattle.mirror.specs.Mirrors.{channelRoom, mail, extentOf, Shows, Mirrors}
-use Rattle.mirror.specs.SameResult.{answerOf, SameResult}
+use Rattle.mirror.specs.SameResult.{responseOf, SameResult}
 use Rattle.mirror.proofs.Channels.{channel-stopped, channel-other, emptied, emptied-gone, channels-emptied}
 use Rattle.mirror.proofs.Channels.{same-entries, map-take}
 use Rattle.mirror.proofs.Shows.{Gone, shows-step}
@@ -68,19 +68,19 @@ module _ {n : ℕ} (small : n ≤ nodes) (sized : isSize n ≡ true) (a c : ℕ)
 
   -- The same entries are let out.
   abbrev out : List Entry
-  out = O.within x (entries n a (s .outbox))
+  out = O.shortened x (entries n a (s .outbox))
 
   whole-out : map (mail n) (entries n a (s .outbox)) ≡ K.entries n (t .sent)
   whole-out = same-entries n a (s .outbox .view) (messages (s .outbox))
       ∙ ap (K.entries n) (ap (λ k. map (messageOf n k (s .outbox .view)) (messages (s .outbox))) (sym (same .to))
       ∙ same .sent)
 
-  same-out : (x : Extent) → map (mail n) (O.within x (entries n a (s .outbox))) ≡ K.letOut (extentOf x)
+  same-out : (x : Extent) → map (mail n) (O.shortened x (entries n a (s .outbox))) ≡ K.letOut (extentOf x)
       (K.entries n (t .sent))
   same-out Whole = whole-out
   same-out (Cut m) = map-take (mail n) m (entries n a (s .outbox)) ∙ ap (take m) whole-out
 
-  fits-out : (x : Extent) → Fits n (O.within x (entries n a (s .outbox)))
+  fits-out : (x : Extent) → Fits n (O.shortened x (entries n a (s .outbox)))
   fits-out Whole = fits-entries n a from (s .outbox .view) (messages (s .outbox)) (safe .layout)
   fits-out (Cut m) = fits-take n m (entries n a (s .outbox))
       (fits-entries n a from (s .outbox .view) (messages (s .outbox)) (safe .layout))
@@ -119,7 +119,7 @@ module _ {n : ℕ} (small : n ≤ nodes) (sized : isSize n ≡ true) (a c : ℕ)
       l : List H.Sent
       l = K.letOut (extentOf x) (K.entries n (t .sent))
 
-      answers : (x : Extent) → answerOf n (pick (O.isCut x) noView (s .view))
+      answers : (x : Extent) → responseOf n (pick (O.isCut x) noView (s .view))
           (result (pick (O.isCut x) None (s .ending)))
           ≡ H.accepted (K.given (extentOf x) (t .ending))
       answers Whole = ap H.accepted (same .ending)

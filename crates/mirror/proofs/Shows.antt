@@ -15,7 +15,7 @@ use Rattle.wire.specs.Layout.{allowed}
 use Rattle.record.specs.Usable.{usable}
 use Rattle.record.specs.declared.Node.{Node}
 use Rattle.region.specs.Channel.{capacity}
-use Rattle.block.specs.Block.{takeOff, receive, keep, halt}
+use Rattle.block.specs.Block.{takeOff, receive, keepRecord, halt}
 use Rattle.outgoing.specs.Entries.{Entry, goTo, slot}
 use Rattle.layout.specs.Layout.{clusterSize, block, onBlock}
 use Rattle.outgoing.specs.Outgoing.{stepped, send}
@@ -30,7 +30,7 @@ use Rattle.refine.specs.Follows.{Follows}
 use Rattle.mirror.specs.Mirrors.{mail, extentOf, Says, Shows}
 use Rattle.layout.proofs.Blocks.{length-onBlock, stated-onBlock, block-same, block-other}
 use Rattle.mirror.proofs.Slots.{slot-size, slot-says}
-use Rattle.mirror.proofs.Says.{says-same, says-keep, says-take, says-receive, says-drop, says-halt}
+use Rattle.mirror.proofs.Says.{says-same, says-keepRecord, says-take, says-receive, says-drop, says-halt}
 use Rattle.mirror.proofs.Channels.{channel-stopped, channel-own, channel-other, sent-here, sent-elsewhere}
 use Rattle.mirror.proofs.Channels.{sent-none}
 
@@ -118,10 +118,10 @@ module _ {n : ℕ} (small : n ≤ nodes) where
         go false e = refl
 
     -- Node c has another record.
-    shows-keep : (c : ℕ) → OneTo n c → {d : Node} {μ : A.Node} → Follows n c μ d → usable d ≡ true
-        → Shows n (onBlock c (keep d) b) (upd ν c μ) s q
-    shows-keep c o {d} {μ} F u = shows-on c o (keep d) (upd ν c μ) s q
-        (rw (upd-same ν c μ) (says-keep small (S .says c o) F u))
+    shows-keepRecord : (c : ℕ) → OneTo n c → {d : Node} {μ : A.Node} → Follows n c μ d → usable d ≡ true
+        → Shows n (onBlock c (keepRecord d) b) (upd ν c μ) s q
+    shows-keepRecord c o {d} {μ} F u = shows-on c o (keepRecord d) (upd ν c μ) s q
+        (rw (upd-same ν c μ) (says-keepRecord small (S .says c o) F u))
         (λ k p ne. record { node = sym (upd-other ν c μ k ne); stop = refl; waits = λ a h. refl })
 
     -- Node c stops.
@@ -140,8 +140,8 @@ module _ {n : ℕ} (small : n ≤ nodes) where
       → (x : Extent) {d : Node} {μ : A.Node} → Follows n c μ d → usable d ≡ true → Gone s q
       → Shows n (stepped n c x d b) (upd ν c μ) (K.halted (extentOf x) c s)
       (λ a d. cond (K.halted (extentOf x) c s d) [] (q a d))
-  shows-step S c o Whole F u gone = shows-same (shows-keep S c o F u) (λ a d p h. quiet S gone a d)
-  shows-step S c o (Cut m) F u gone = shows-halt (shows-keep S c o F u) c o gone
+  shows-step S c o Whole F u gone = shows-same (shows-keepRecord S c o F u) (λ a d p h. quiet S gone a d)
+  shows-step S c o (Cut m) F u gone = shows-halt (shows-keepRecord S c o F u) c o gone
 
   module _ (sized : isSize n ≡ true) (c : ℕ) (node : OneTo n c) {ν : Nodes} {s : Flags} where
     pub shows-send : {b : List ℕ} {q : Channel} → Shows n b ν s q → Gone s q → (e : Entry) → Fit n e

@@ -16,7 +16,7 @@ use Rattle.view.specs.View.{tagAt, reportAt, viewBytes, viewOf}
 use Rattle.view.specs.declared.View.{View}
 use Rattle.view.proofs.ViewBytes.{tag-written, report-written}
 use Rattle.wire.specs.Codec.{front, answer}
-use Rattle.wire.specs.Layout.{encode, allowed, size}
+use Rattle.wire.specs.Layout.{encode, allowed, messageSize}
 use Rattle.wire.specs.declared.Message.{Message}
 use Rattle.wire.specs.declared.Message.the-variants.{Read, ReadAnswer, Write, WriteAnswer, Echo, Value, Good}
 use Rattle.wire.proofs.Numbers.{length-encode}
@@ -31,15 +31,15 @@ use Rattle.mirror.specs.Mirrors.{meant}
 
 module _ (n : ℕ) (small : n ≤ nodes) where
   -- No message is longer than a slot.
-  size-most : (m : Message) → size n m ≤ slotSize
-  unfolding size
-  size-most (Read r) = omega arith
-  size-most (ReadAnswer r t) = omega arith
-  size-most (Write r t) = omega arith
-  size-most (WriteAnswer r t) = omega arith
-  size-most (Echo t) = omega arith
-  size-most (Value t w p) = omega arith
-  size-most (Good t) = omega arith
+  messageSize-most : (m : Message) → messageSize n m ≤ slotSize
+  unfolding messageSize
+  messageSize-most (Read r) = omega arith
+  messageSize-most (ReadAnswer r t) = omega arith
+  messageSize-most (Write r t) = omega arith
+  messageSize-most (WriteAnswer r t) = omega arith
+  messageSize-most (Echo t) = omega arith
+  messageSize-most (Value t w p) = omega arith
+  messageSize-most (Good t) = omega arith
 
   -- The view that bytes are has the entries that were written.
   entry-same : (v : View) (w : ℕ) → OneTo n w → R.entryOf (viewOf n (viewBytes n v ++ [])) w ≡ R.entryOf v w
@@ -50,8 +50,8 @@ module _ (n : ℕ) (small : n ≤ nodes) where
       (getD-padded n nodes (tagAt (viewBytes n v ++ [])) (w - 1) 0 i ∙ tag-written n v [] (w - 1) i)
       (getD-padded n nodes (reportAt (viewBytes n v ++ [])) (w - 1) noReport i ∙ report-written n v [] (w - 1) i)
 
-  view-same : (v : View) → R.viewOf n (viewOf n (viewBytes n v)) ≡ R.viewOf n v
-  view-same v = ap (λ b. R.viewOf n (viewOf n b)) (sym (append-nil (viewBytes n v)))
+  view-same : (v : View) → R.viewMeaning n (viewOf n (viewBytes n v)) ≡ R.viewMeaning n v
+  view-same v = ap (λ b. R.viewMeaning n (viewOf n b)) (sym (append-nil (viewBytes n v)))
       ∙ same-table n (R.entryOf (viewOf n (viewBytes n v ++ []))) (R.entryOf v) (entry-same v)
 
   read-says : (c : ℕ) (m : Message) (v : View) → allowed n m (viewBytes n v) ≡ true → (rest : List ℕ) {k : ℕ}
@@ -71,7 +71,7 @@ module _ (n : ℕ) (small : n ≤ nodes) where
     bytes = encode m (viewBytes n v)
 
     fits : length bytes ≤ slotSize
-    fits = rw (length-encode n m (viewBytes n v) ok) (size-most m)
+    fits = rw (length-encode n m (viewBytes n v) ok) (messageSize-most m)
 
     slot-is : slot n m v ≡ put (replicate slotSize 0) 0 bytes
     unfolding slot answer

@@ -10,13 +10,13 @@ use Rattle.wire.specs.declared.Message.{Message}
 use Rattle.history.specs.Message as M
 use Rattle.refine.specs.Meaning.{messageOf}
 
--- Slot s of a channel to node c holds message m: `said`, with the bytes of its view, is allowed and means m.
+-- Slot s of a channel to node c holds message m: `message`, with the bytes of its view, is allowed and means m.
 pub record Encodes (n c : ℕ) (s : List ℕ) (m : M.Message) : Type 0 where
-  pub said : Message
+  pub message : Message
   pub view : List ℕ
-  pub layout : allowed n said view ≡ true
-  pub bytes : take (length (encode said view)) s ≡ encode said view
-  pub means : messageOf n c (viewOf n view) said ≡ m
+  pub layout : allowed n message view ≡ true
+  pub bytes : take (length (encode message view)) s ≡ encode message view
+  pub means : messageOf n c (viewOf n view) message ≡ m
 
 -- Slot by slot, the oldest first.
 abbrev pub EachEncodes : (n c : ℕ) → List (List ℕ) → List M.Message → Type 0

@@ -16,7 +16,7 @@ use Rattle.history.specs.Event as H
 use Rattle.history.specs.Trace.{Seen, Trace}
 use Rattle.refine.specs.Meaning.{operationOf}
 use Rattle.mirror.specs.Mirrors.{mail, extentOf}
-use Rattle.mirror.specs.SameResult.{answerOf}
+use Rattle.mirror.specs.SameResult.{responseOf}
 
 pub data Event : Type 0 where
   begin : (node : ℕ) → Operation → Extent → Event
@@ -40,7 +40,7 @@ meaning (stop c) = H.stop c
 
 -- What is seen of a run from outside, in the algorithm's terms: of each event its answer and the entries let out.
 abbrev pub seen : ℕ → Event → E.Result → Seen
-seen n e r = record { event = meaning e; answer = answerOf n (r .view) (r .answer); sent = map (mail n) (r .sent) }
+seen n e r = record { event = meaning e; answer = responseOf n (r .view) (r .answer); sent = map (mail n) (r .sent) }
 
 unfoldable pub traceFrom : ℕ → List ℕ → List Event → Trace
 traceFrom n b [] = []

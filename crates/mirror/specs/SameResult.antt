@@ -12,11 +12,11 @@ use Rattle.eqaso.specs.Cluster as K
 use Rattle.refine.specs.Meaning.{endingOf}
 use Rattle.mirror.specs.Mirrors.{mail, Mirrors}
 
-abbrev pub answerOf : ℕ → View → Answer Ending → H.Answer
-answerOf n v (result e) = H.accepted (endingOf n v e)
-answerOf n v (refused k) = H.refused k
+abbrev pub responseOf : ℕ → View → Answer Ending → H.Response
+responseOf n v (result e) = H.accepted (endingOf n v e)
+responseOf n v (refused k) = H.refused k
 
 pub record SameResult (n : ℕ) (r : Result) (t : K.Result) : Type 0 where
-  pub answer : answerOf n (r .view) (r .answer) ≡ t .answer
+  pub answer : responseOf n (r .view) (r .answer) ≡ t .answer
   pub sent : map (mail n) (r .sent) ≡ t .sent
   pub mirrors : Mirrors n (r .bytes) (t .cluster)

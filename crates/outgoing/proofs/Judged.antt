@@ -16,9 +16,9 @@ use Rattle.region.specs.Record.{heardPlace, recordOf}
 use Rattle.layout.specs.Layout.{clusterSize}
 use Rattle.outgoing.specs.declared.Extent.{Extent}
 use Rattle.outgoing.specs.Entries.{Entry, entries}
-use Rattle.outgoing.specs.Outgoing.{within, most, isCut, mayStop, mayCut, foundIn, hasRoom}
+use Rattle.outgoing.specs.Outgoing.{shortened, most, isCut, mayStop, mayCut, foundIn, hasRoom}
 use Rattle.outgoing.specs.Room.{roomBefore, goneIn}
-use Rattle.outgoing.proofs.Out.{within-most}
+use Rattle.outgoing.proofs.Out.{shortened-most}
 use Rattle.outgoing.proofs.Room.{room-before}
 
 pub cut-judged : (n : ℕ) (x : Extent) (b : List ℕ) {cut r v : Bool} → cut ≡ isCut x → r ≡ pick cut (mayStop n b) true
@@ -37,6 +37,6 @@ pub judged : (took : Bool) (n a c : ℕ) (x : Extent) (r : List ℕ) (o : Outbox
 judged took n a c x r o b small a-lo a-hi lo hi size {t} {cut} {gone} {left} e g m q =
     q ∙ ap₂ (λ (y : Bool) (k : ℕ). all n (roomBefore y k c (take left (entries n a o)) b)) e g
     ∙ ap (λ (l : List Entry). all n (roomBefore (isCut x) (goneIn took a c) c l b))
-    (ap (λ (k : ℕ). take k (entries n a o)) m ∙ within-most n a x o (omega arith) small)
+    (ap (λ (k : ℕ). take k (entries n a o)) m ∙ shortened-most n a x o (omega arith) small)
     ∙ room-before n a c b small a-lo a-hi lo hi size (recordOf r) (heard-read r) took (isCut x)
-    (within x (entries n a o))
+    (shortened x (entries n a o))

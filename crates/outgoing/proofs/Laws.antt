@@ -14,8 +14,8 @@ use lib.Dec.{eqb}
 use borrow.Author.Tests.{eq-eqb, ne-eqb}
 use Rattle.octets.specs.Test.{pick}
 use Rattle.octets.proofs.Lent.{take-append}
-use Rattle.table.specs.Loop.{tab}
-use Rattle.table.proofs.Laws.{length-tab}
+use Rattle.table.specs.Loop.{numbered}
+use Rattle.table.proofs.Laws.{length-numbered}
 use Rattle.view.specs.declared.View.{View}
 use Rattle.wire.specs.declared.Message.{Message}
 use Rattle.step.specs.Step.{listed, messages}
@@ -60,16 +60,16 @@ length-answer n a v m e = rw e refl
 
 pub length-others : (n a : ℕ) (v : View) (m : Message) → isAnswer m ≡ false → length (addressed n a v m) ≡ n
 unfolding addressed
-length-others n a v m e = rw e (length-tab n (entry v m))
+length-others n a v m e = rw e (length-numbered n (entry v m))
 
 -- one message has at most n entries, and a step at most six times as many
 length-most : (n a : ℕ) (v : View) (m : Message) → 1 ≤ n → length (addressed n a v m) ≤ n
 unfolding addressed
 length-most n a v m h = go (isAnswer m)
   where
-    go : (t : Bool) → length (pick t (entry v m a ∷ []) (tab n (entry v m))) ≤ n
+    go : (t : Bool) → length (pick t (entry v m a ∷ []) (numbered n (entry v m))) ≤ n
     go true = h
-    go false = rw (length-tab n (entry v m)) (omega arith)
+    go false = rw (length-numbered n (entry v m)) (omega arith)
 
 sent-most : (n a : ℕ) (v : View) (s : Sent) → 1 ≤ n → length (entriesOf n a v (listed s)) ≤ 2 * n
 unfolding entriesOf
@@ -112,18 +112,18 @@ goTo-take b left k l = ap (λ (t : List Entry). goTo b t) (take-append left k l)
     ∙ goTo-append b (take left k) (take (left - length k) l)
 
 -- entries to 1 to k
-pub goTo-past : (v : View) (m : Message) (b k : ℕ) → k < b → goTo b (tab k (entry v m)) ≡ 0
-unfolding goTo tab
+pub goTo-past : (v : View) (m : Message) (b k : ℕ) → k < b → goTo b (numbered k (entry v m)) ≡ 0
+unfolding goTo numbered
 goTo-past v m b zero l = refl
 goTo-past v m b (suc k) l =
-    goTo-append b (tab k (entry v m)) (entry v m (suc k) ∷ [])
+    goTo-append b (numbered k (entry v m)) (entry v m (suc k) ∷ [])
     ∙ ap₂ (λ (x : ℕ) (t : Bool). x + pick t 1 0) (goTo-past v m b k (omega arith)) (ne-eqb (suc k) b (λ e. omega arith))
 
-pub goTo-once : (v : View) (m : Message) (b k : ℕ) → 1 ≤ b → b ≤ k → goTo b (tab k (entry v m)) ≡ 1
-unfolding goTo tab
+pub goTo-once : (v : View) (m : Message) (b k : ℕ) → 1 ≤ b → b ≤ k → goTo b (numbered k (entry v m)) ≡ 1
+unfolding goTo numbered
 goTo-once v m b zero l h = absurd (let e : 1 ≤ 0 = omega arith in not-suc-le-zero e)
 goTo-once v m b (suc k) l h =
-    goTo-append b (tab k (entry v m)) (entry v m (suc k) ∷ [])
+    goTo-append b (numbered k (entry v m)) (entry v m (suc k) ∷ [])
     ∙ ⊎-elim
     (λ e. ap₂ (λ (x : ℕ) (t : Bool). x + pick t 1 0) (goTo-past v m b k (omega arith)) (eq-eqb (suc k) b (sym e)))
     (λ q. ap₂ (λ (x : ℕ) (t : Bool). x + pick t 1 0) (goTo-once v m b k l (le-of-suc-le-suc q))
@@ -131,28 +131,29 @@ goTo-once v m b (suc k) l h =
     (eq-or-lt-of-le h)
 
 -- the first entries of a message to all
-pub cut-tab : {A : Type 0} (n left : ℕ) (f : ℕ → A) → take left (tab n f) ≡ tab (min left n) f
-unfolding tab
-cut-tab {A} zero left f = let e : min left 0 ≡ 0 = omega arith in rw e (nothing left)
+pub cut-numbered : {A : Type 0} (n left : ℕ) (f : ℕ → A) → take left (numbered n f) ≡ numbered (min left n) f
+unfolding numbered
+cut-numbered {A} zero left f = let e : min left 0 ≡ 0 = omega arith in rw e (nothing left)
   where
     nothing : (k : ℕ) → _≡_ {A = List A} (take k []) []
     nothing zero = refl
     nothing (suc k) = refl
-cut-tab {A} (suc n) left f = elim (decLe left n) [ yes h ↦ inside (cut-tab n left f) h | no h ↦ all (lt-of-not-le h) ]
+cut-numbered {A} (suc n) left f =
+    elim (decLe left n) [ yes h ↦ inside (cut-numbered n left f) h | no h ↦ all (lt-of-not-le h) ]
   where
-    inside : take left (tab n f) ≡ tab (min left n) f → left ≤ n
-        → take left (tab n f ++ (f (suc n) ∷ [])) ≡ tab (min left (suc n)) f
+    inside : take left (numbered n f) ≡ numbered (min left n) f → left ≤ n
+        → take left (numbered n f ++ (f (suc n) ∷ [])) ≡ numbered (min left (suc n)) f
     inside front h =
         let e : min left n ≡ min left (suc n) = omega arith in
-        let l : left ≤ length (tab n f) = rw (length-tab n f) h in
-        take-append-le left (tab n f) (f (suc n) ∷ []) l ∙ front ∙ ap (λ (k : ℕ). tab k f) e
+        let l : left ≤ length (numbered n f) = rw (length-numbered n f) h in
+        take-append-le left (numbered n f) (f (suc n) ∷ []) l ∙ front ∙ ap (λ (k : ℕ). numbered k f) e
 
-    all : n < left → take left (tab n f ++ (f (suc n) ∷ [])) ≡ tab (min left (suc n)) f
+    all : n < left → take left (numbered n f ++ (f (suc n) ∷ [])) ≡ numbered (min left (suc n)) f
     all h =
         let e : suc n ≡ min left (suc n) = omega arith in
-        let l : length (tab n f ++ (f (suc n) ∷ [])) ≤ left =
-        rw (length-append (tab n f) (f (suc n) ∷ []), length-tab n f) (omega arith) in
-        take-all left (tab n f ++ (f (suc n) ∷ [])) l ∙ ap (λ (k : ℕ). tab k f) e
+        let l : length (numbered n f ++ (f (suc n) ∷ [])) ≤ left =
+        rw (length-append (numbered n f) (f (suc n) ∷ []), length-numbered n f) (omega arith) in
+        take-all left (numbered n f ++ (f (suc n) ∷ [])) l ∙ ap (λ (k : ℕ). numbered k f) e
 
 -- an answer goes to a alone
 pub answer-here : (b left n a : ℕ) (v : View) (m : Message) → isAnswer m ≡ true → a ≡ b
@@ -183,13 +184,15 @@ pub others-reach : (b left n a : ℕ) (v : View) (m : Message) → isAnswer m �
     → goTo b (take left (addressed n a v m)) ≡ 1
 unfolding addressed
 others-reach b left n a v m e l h k =
-    rw e (ap (λ (t : List Entry). goTo b t) (cut-tab n left (entry v m)) ∙ goTo-once v m b (min left n) l (omega arith))
+    rw e (ap (λ (t : List Entry). goTo b t) (cut-numbered n left (entry v m))
+    ∙ goTo-once v m b (min left n) l (omega arith))
 
 pub others-miss : (b left n a : ℕ) (v : View) (m : Message) → isAnswer m ≡ false → left < b
     → goTo b (take left (addressed n a v m)) ≡ 0
 unfolding addressed
 others-miss b left n a v m e k =
-    rw e (ap (λ (t : List Entry). goTo b t) (cut-tab n left (entry v m)) ∙ goTo-past v m b (min left n) (omega arith))
+    rw e (ap (λ (t : List Entry). goTo b t) (cut-numbered n left (entry v m))
+    ∙ goTo-past v m b (min left n) (omega arith))
 
 -- what one part of a step lets out
 pub nothing-to : (b left n a : ℕ) (v : View) → goTo b (take left (entriesOf n a v [])) ≡ 0

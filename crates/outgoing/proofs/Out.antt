@@ -11,19 +11,19 @@ use Rattle.octets.specs.Loop.{upTo, each}
 use Rattle.octets.proofs.Loop.{upTo-none, upTo-more, each-none, each-one, each-append}
 use Rattle.octets.proofs.Lent.{take-append}
 use Rattle.view.specs.Size.{nodes}
-use Rattle.table.specs.Loop.{tab}
-use Rattle.table.proofs.Laws.{tab-none, tab-more}
+use Rattle.table.specs.Loop.{numbered}
+use Rattle.table.proofs.Laws.{numbered-none, numbered-more}
 use Rattle.view.specs.declared.View.{View}
 use Rattle.wire.specs.declared.Message.{Message}
 use Rattle.step.specs.Step.{listed}
 use Rattle.step.specs.declared.Outbox.{Outbox}
 use Rattle.block.specs.Block.{receive}
 use Rattle.outgoing.specs.Entries.{Entry, entry, isAnswer, addressed, entriesOf, entries, slot}
-use Rattle.outgoing.proofs.Laws.{entries-one, entries-two, entries-three, entries-most, cut-tab, left-both}
+use Rattle.outgoing.proofs.Laws.{entries-one, entries-two, entries-three, entries-most, cut-numbered, left-both}
 use Rattle.layout.specs.Layout.{onBlock}
 use Rattle.outgoing.specs.declared.Extent.{Extent}
 use Rattle.outgoing.specs.declared.Extent.the-variants.{Whole, Cut}
-use Rattle.outgoing.specs.Outgoing.{send, letOut, within, most}
+use Rattle.outgoing.specs.Outgoing.{send, letOut, shortened, most}
 
 pub let-none : (n c : ℕ) (b : List ℕ) → letOut n c [] b ≡ b
 unfolding letOut
@@ -39,17 +39,17 @@ let-append n c k l b = each-append (send n c) k l b
 
 -- to each of 1 to k
 pub let-all : (n c k : ℕ) (v : View) (m : Message) (b : List ℕ)
-    → letOut n c (tab k (entry v m)) b ≡ upTo k (λ i. onBlock (i + 1) (receive c (slot n m v))) b
+    → letOut n c (numbered k (entry v m)) b ≡ upTo k (λ i. onBlock (i + 1) (receive c (slot n m v))) b
 let-all n c zero v m b =
-    ap (λ (l : List Entry). letOut n c l b) (tab-none (entry v m)) ∙ let-none n c b
+    ap (λ (l : List Entry). letOut n c l b) (numbered-none (entry v m)) ∙ let-none n c b
     ∙ sym (upTo-none (λ i. onBlock (i + 1) (receive c (slot n m v))) b)
 let-all n c (suc k) v m b =
     let one : suc k ≡ k + 1 = sym (add-one k) in
     let f : ℕ → List ℕ → List ℕ = λ i. onBlock (i + 1) (receive c (slot n m v)) in
-    ap (λ (j : ℕ). letOut n c (tab j (entry v m)) b) one
-    ∙ ap (λ (l : List Entry). letOut n c l b) (tab-more k (entry v m))
-    ∙ let-append n c (tab k (entry v m)) (entry v m (k + 1) ∷ []) b
-    ∙ let-one n c (entry v m (k + 1)) (letOut n c (tab k (entry v m)) b)
+    ap (λ (j : ℕ). letOut n c (numbered j (entry v m)) b) one
+    ∙ ap (λ (l : List Entry). letOut n c l b) (numbered-more k (entry v m))
+    ∙ let-append n c (numbered k (entry v m)) (entry v m (k + 1) ∷ []) b
+    ∙ let-one n c (entry v m (k + 1)) (letOut n c (numbered k (entry v m)) b)
     ∙ ap (λ (t : List ℕ). onBlock (k + 1) (receive c (slot n m v)) t) (let-all n c k v m b)
     ∙ sym (upTo-more k f b)
     ∙ ap (λ (j : ℕ). upTo j f b) (sym one)
@@ -71,7 +71,7 @@ module _ (n a c : ℕ) (v : View) (m : Message) (left : ℕ) (b : List ℕ) wher
       b
   unfolding addressed
   let-others e =
-      rw e (ap (λ (l : List Entry). letOut n c l b) (cut-tab n left (entry v m)) ∙ let-all n c (min left n) v m b)
+      rw e (ap (λ (l : List Entry). letOut n c l b) (cut-numbered n left (entry v m)) ∙ let-all n c (min left n) v m b)
 
 pub let-empty : (n a c : ℕ) (v : View) (left : ℕ) (b : List ℕ) → letOut n c (take left (entriesOf n a v [])) b ≡ b
 unfolding entriesOf
@@ -109,7 +109,7 @@ let-three n a c left o b p d q e r =
     ∙ ap (λ (t : List Entry). letOut n c (take left t) b) (sym (entries-three n a o))
 
 -- what an event lets out is among so many entries
-pub within-most : (n a : ℕ) (x : Extent) (o : Outbox) → 1 ≤ n → n ≤ nodes → take (most x) (entries n a o)
-    ≡ within x (entries n a o)
-within-most n a Whole o h k = take-all (most Whole) (entries n a o) (omega (arith, entries-most n a o h))
-within-most n a (Cut m) o h k = refl
+pub shortened-most : (n a : ℕ) (x : Extent) (o : Outbox) → 1 ≤ n → n ≤ nodes → take (most x) (entries n a o)
+    ≡ shortened x (entries n a o)
+shortened-most n a Whole o h k = take-all (most Whole) (entries n a o) (omega (arith, entries-most n a o h))
+shortened-most n a (Cut m) o h k = refl

@@ -15,9 +15,9 @@ use Rattle.view.specs.Size.{nodes}
 use Rattle.table.specs.Loop.{either, all}
 use Rattle.record.specs.declared.Node.{Node}
 use Rattle.region.specs.Channel.{channelSize, capacity, countOf, oldest, pop}
-use Rattle.block.specs.Block.{blockSize, hasStopped, channelIn, keep, takeOff, halt}
-use Rattle.block.proofs.Changes.{keep-length, keep-flag, keep-channel, takeOff-length, takeOff-flag, takeOff-same}
-use Rattle.block.proofs.Changes.{takeOff-other, halt-length, halt-stops}
+use Rattle.block.specs.Block.{blockSize, hasStopped, channelIn, keepRecord, takeOff, halt}
+use Rattle.block.proofs.Changes.{keepRecord-length, keepRecord-flag, keepRecord-channel, takeOff-length, takeOff-flag}
+use Rattle.block.proofs.Changes.{takeOff-same, takeOff-other, halt-length, halt-stops}
 use Rattle.outgoing.specs.Entries.{Entry, goTo}
 use Rattle.layout.specs.Layout.{clusterSize, block, stopped, channel, onBlock}
 use Rattle.layout.proofs.Blocks.{length-block, length-channel, length-onBlock, block-same, block-other}
@@ -98,36 +98,37 @@ module _ (n a c : ℕ) (b : List ℕ) (most : n ≤ nodes) (a-lo : 1 ≤ a) (a-h
     unfolding found
     found-length = length-block found c lo (omega (arith, found-size took))
 
-    kept-length : length (keep d (block found c)) ≡ blockSize
-    kept-length = keep-length (block found c) found-length d heard
+    kept-length : length (keepRecord d (block found c)) ≡ blockSize
+    kept-length = keepRecord-length (block found c) found-length d heard
 
     wrote : List ℕ
-    wrote = onBlock c (keep d) found
+    wrote = onBlock c (keepRecord d) found
 
     wrote-size : length wrote ≡ clusterSize n
     unfolding wrote found
-    wrote-size = length-onBlock found c lo (omega (arith, found-size took)) (keep d) kept-length ∙ found-size took
+    wrote-size = length-onBlock found c lo (omega (arith, found-size took)) (keepRecord d) kept-length ∙ found-size took
 
-    wrote-own : block wrote c ≡ keep d (block found c)
+    wrote-own : block wrote c ≡ keepRecord d (block found c)
     unfolding wrote found
-    wrote-own = block-same found c lo (omega (arith, found-size took)) (keep d) kept-length
+    wrote-own = block-same found c lo (omega (arith, found-size took)) (keepRecord d) kept-length
 
     wrote-other : (k : ℕ) → 1 ≤ k → (k ≡ c → ⊥) → block wrote k ≡ block b k
     unfolding wrote found
     wrote-other k l e =
-        block-other found c lo (omega (arith, found-size took)) (keep d) kept-length k l e ∙ found-other took k l e
+        block-other found c lo (omega (arith, found-size took)) (keepRecord d) kept-length k l e
+        ∙ found-other took k l e
 
     wrote-flag : hasStopped (block wrote c) ≡ stopped b c
     unfolding wrote found
     wrote-flag =
         ap (λ (t : List ℕ). hasStopped t) wrote-own
-        ∙ ap (λ (x : ℕ). ltb 0 x) (keep-flag (block found c) found-length d heard ∙ found-flag took)
+        ∙ ap (λ (x : ℕ). ltb 0 x) (keepRecord-flag (block found c) found-length d heard ∙ found-flag took)
 
     wrote-count : countOf (channel wrote c c) ≡ countOf (channel b c c) - goneIn took a c
     unfolding wrote found
     wrote-count =
         ap (λ (t : List ℕ). countOf (channelIn t c)) wrote-own
-        ∙ ap (λ (t : List ℕ). countOf t) (keep-channel (block found c) found-length d heard c) ∙ found-count took
+        ∙ ap (λ (t : List ℕ). countOf t) (keepRecord-channel (block found c) found-length d heard c) ∙ found-count took
 
     halted-length : length (halt n (block wrote c)) ≡ blockSize
     halted-length = halt-length (block wrote c) (length-block wrote c lo (omega (arith, wrote-size))) n most
@@ -164,7 +165,7 @@ module _ (n a c : ℕ) (b : List ℕ) (most : n ≤ nodes) (a-lo : 1 ≤ a) (a-h
         (other-block cut k i e)))
 
     pub room-before : (cut : Bool) (l : List Entry) → all n (roomBefore cut (goneIn took a c) c l b)
-        ≡ roomy n c l (haltIf cut n c (onBlock c (keep d) (foundIn took a c b)))
+        ≡ roomy n c l (haltIf cut n c (onBlock c (keepRecord d) (foundIn took a c b)))
     unfolding roomy wrote found
     room-before cut l =
         all-same n (roomBefore cut (goneIn took a c) c l b) (roomAt c l (haltIf cut n c wrote))

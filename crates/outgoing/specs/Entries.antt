@@ -5,7 +5,7 @@ use mathlib.Core.List.{List, [], _∷_, _++_}
 use lib.ListN.{replicate}
 use lib.Dec.{eqb}
 use Rattle.octets.specs.Test.{pick}
-use Rattle.table.specs.Loop.{tab}
+use Rattle.table.specs.Loop.{numbered}
 use Rattle.view.specs.View.{viewBytes}
 use Rattle.view.specs.declared.View.{View}
 use Rattle.wire.specs.Layout.{encode}
@@ -36,7 +36,7 @@ isAnswer (Good t) = false
 
 -- The entries of messages: an answer goes to node a, whose message was handled, any other to 1 to n in turn.
 unfoldable pub addressed : (n a : ℕ) → View → Message → List Entry
-addressed n a v m = pick (isAnswer m) (entry v m a ∷ []) (tab n (entry v m))
+addressed n a v m = pick (isAnswer m) (entry v m a ∷ []) (numbered n (entry v m))
 
 unfoldable pub entriesOf : (n a : ℕ) → View → List Message → List Entry
 entriesOf n a v [] = []

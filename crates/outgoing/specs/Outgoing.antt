@@ -11,16 +11,16 @@ use Rattle.table.specs.Loop.{either, all, count}
 use Rattle.record.specs.declared.Node.{Node}
 use Rattle.step.specs.declared.Outbox.{Outbox}
 use Rattle.region.specs.Channel.{capacity, countOf}
-use Rattle.block.specs.Block.{keep, takeOff, receive, halt}
+use Rattle.block.specs.Block.{keepRecord, takeOff, receive, halt}
 use Rattle.layout.specs.Layout.{stopped, channel, onBlock, faultsIn}
 use Rattle.outgoing.specs.Entries.{Entry, entries, goTo, slot}
 use Rattle.outgoing.specs.declared.Extent.{Extent}
 use Rattle.outgoing.specs.declared.Extent.the-variants.{Whole, Cut}
 
 -- How much of a step's list an event lets out, and whether the node then stops.
-abbrev pub within : Extent → List Entry → List Entry
-within Whole l = l
-within (Cut m) l = take m l
+abbrev pub shortened : Extent → List Entry → List Entry
+shortened Whole l = l
+shortened (Cut m) l = take m l
 
 -- A number of entries that holds all that are let out: a step has three parts of at most two messages, each to all.
 abbrev pub most : Extent → ℕ
@@ -47,7 +47,7 @@ abbrev pub haltIf : Bool → (n c : ℕ) → List ℕ → List ℕ
 haltIf cut n c b = pick cut (onBlock c (halt n) b) b
 
 abbrev pub stepped : (n c : ℕ) → Extent → Node → List ℕ → List ℕ
-stepped n c x d b = haltIf (isCut x) n c (onBlock c (keep d) b)
+stepped n c x d b = haltIf (isCut x) n c (onBlock c (keepRecord d) b)
 
 -- The bytes when c has let out one entry, and some in turn. A node that has stopped receives nothing.
 abbrev pub send : (n c : ℕ) → Entry → List ℕ → List ℕ
@@ -66,7 +66,7 @@ roomy n c l b = all n (roomAt c l b)
 -- Node c takes a step and lets out what it sends. It stops first in a cut: what it sends to itself is gone with its
 -- channels. 11 is judged on the channels as the event would leave them.
 abbrev pub hasRoom : (n a c : ℕ) → Extent → Node → Outbox → (found : List ℕ) → Bool
-hasRoom n a c x d o found = roomy n c (within x (entries n a o)) (stepped n c x d found)
+hasRoom n a c x d o found = roomy n c (shortened x (entries n a o)) (stepped n c x d found)
 
 abbrev pub released : (n a c : ℕ) → Extent → Node → Outbox → (found : List ℕ) → List ℕ
-released n a c x d o found = letOut n c (within x (entries n a o)) (stepped n c x d found)
+released n a c x d o found = letOut n c (shortened x (entries n a o)) (stepped n c x d found)

@@ -24,7 +24,7 @@ use Rattle.eqaso.proofs.Corollary.{scan-without-updates}
 use Rattle.refine.specs.Follows.{Follows}
 use Rattle.refine.proofs.Steps.{same-idle, not-full}
 use Rattle.mirror.specs.Mirrors.{Mirrors, extentOf}
-use Rattle.mirror.specs.SameResult.{answerOf}
+use Rattle.mirror.specs.SameResult.{responseOf}
 use Rattle.mirror.specs.Run as R
 use Rattle.mirror.proofs.Checks.{is-fit, is-sound}
 use Rattle.mirror.proofs.Says.{says-count}
@@ -39,22 +39,22 @@ delivers ds = map delivery ds
 
 -- ---- deliveries begin nothing, and whole ones stop nobody
 
-begins-none : (a b : ℕ) (x : H.Extent) (y : H.Answer) → T.begunBy (H.deliver a b x) y ≡ T.nothing
+begins-none : (a b : ℕ) (x : H.Extent) (y : H.Response) → T.begunBy (H.deliver a b x) y ≡ T.nothing
 begins-none a b x (H.refused k) = refl
 begins-none a b x (H.accepted e) = refl
 
-stops-none : (a b : ℕ) (y : H.Answer) (c : ℕ) → T.stopsBy (H.deliver a b H.whole) y c ≡ false
+stops-none : (a b : ℕ) (y : H.Response) (c : ℕ) → T.stopsBy (H.deliver a b H.whole) y c ≡ false
 stops-none a b (H.refused k) c = refl
 stops-none a b (H.accepted e) c = refl
 
-begin-stops-none : (d : ℕ) (y : H.Answer) (c : ℕ) → T.stopsBy (H.begin d H.scan H.whole) y c ≡ false
+begin-stops-none : (d : ℕ) (y : H.Response) (c : ℕ) → T.stopsBy (H.begin d H.scan H.whole) y c ≡ false
 begin-stops-none d (H.refused k) c = refl
 begin-stops-none d (H.accepted e) c = refl
 
 -- Of any calls.
 module _ (calls : Calls) (n : ℕ) where
-  abbrev answered : R.Event → List ℕ → H.Answer
-  answered e b = answerOf n (event calls e b .view) (event calls e b .answer)
+  abbrev answered : R.Event → List ℕ → H.Response
+  answered e b = responseOf n (event calls e b .view) (event calls e b .answer)
 
   deliveries-stop : (ds : List Delivery) → AllWhole ds → (b : List ℕ) (c : ℕ)
       → T.stopped (traceFrom calls n b (delivers ds)) c ≡ false
@@ -77,8 +77,8 @@ Updates (T.updating c p) = Unit {0}
 Updates (T.scanning c) = ⊥
 
 module _ (n : ℕ) where
-  abbrev answers : Delivery → List ℕ → H.Answer
-  answers d b = answerOf n (R.event (delivery d) b .view) (R.event (delivery d) b .answer)
+  abbrev answers : Delivery → List ℕ → H.Response
+  answers d b = responseOf n (R.event (delivery d) b .view) (R.event (delivery d) b .answer)
 
   deliveries-begin : (ds : List Delivery) (b : List ℕ) (u : ℕ) → T.begun (R.traceFrom n b (delivers ds)) u ≡ T.nothing
   unfolding R.traceFrom
@@ -92,7 +92,7 @@ all-absent [] h = refl
 all-absent (x ∷ v) h = ap₂ (λ y l. y ∷ l) (h 0 (omega arith)) (all-absent v (λ i l. h (suc i) (omega arith)))
 
 absent-view : (n c : ℕ) (x : T.Fate) → EndsInKind n (T.scanning c) x → Finished x
-    → ((w : ℕ) → OneTo n w → T.entryAt (T.viewOf x) w ≡ absent) → T.viewOf x ≡ replicate n absent
+    → ((w : ℕ) → OneTo n w → T.entryAt (T.fateView x) w ≡ absent) → T.fateView x ≡ replicate n absent
 absent-view n c (T.ended k (H.shown r v)) long end each = all-absent v
     (λ i h.
     let e : i ≡ suc i - 1 = omega arith in
@@ -139,7 +139,7 @@ module _ (n c : ℕ) (size : OneTo nodes n) (at : OneTo n c) (b : List ℕ) (lon
 
     pub scans : T.begun tr 0 ≡ T.scanning c
     unfolding R.traceFrom
-    scans = ap (λ y. T.begunBy (H.begin c H.scan H.whole) (answerOf n (E.begin c Scan Whole start .view) y)) begins
+    scans = ap (λ y. T.begunBy (H.begin c H.scan H.whole) (responseOf n (E.begin c Scan Whole start .view) y)) begins
 
     no-update : (u d p : ℕ) → ¬ (T.begun tr u ≡ T.updating d p)
     unfolding R.traceFrom
@@ -156,6 +156,6 @@ module _ (n c : ℕ) (size : OneTo nodes n) (at : OneTo n c) (b : List ℕ) (lon
       is-scan : IsScan (T.begun tr 0)
       is-scan = subst IsScan (sym scans) tt
 
-      pub none-shown : T.viewOf (T.fate tr 0) ≡ replicate n absent
+      pub none-shown : T.fateView (T.fate tr 0) ≡ replicate n absent
       none-shown = absent-view n c (T.fate tr 0) (subst (λ x. EndsInKind n x (T.fate tr 0)) scans (order .kinds 0))
           finished (scan-without-updates order no-update 0 is-scan finished)

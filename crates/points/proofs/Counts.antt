@@ -21,12 +21,12 @@ use Rattle.view.specs.declared.View.{View}
 use Rattle.wire.specs.Codec.{answer, after}
 use Rattle.wire.specs.Layout.{encode, allowed}
 use Rattle.wire.specs.declared.Message.{Message}
-use Rattle.table.specs.Loop.{tab}
+use Rattle.table.specs.Loop.{numbered}
 use Rattle.record.specs.declared.Node.{Node}
 use Rattle.region.specs.Channel.{capacity, channelSize, slotSize, slotAt, oldest, countOf, push, pop}
 use Rattle.region.proofs.Waiting.{waiting-pop, length-waiting}
-use Rattle.block.specs.Block.{blockSize, hasStopped, channelIn, keep, takeOff, receive, halt}
-use Rattle.block.proofs.Changes.{keep-length, keep-channel, takeOff-length, takeOff-same, takeOff-other}
+use Rattle.block.specs.Block.{blockSize, hasStopped, channelIn, keepRecord, takeOff, receive, halt}
+use Rattle.block.proofs.Changes.{keepRecord-length, keepRecord-channel, takeOff-length, takeOff-same, takeOff-other}
 use Rattle.block.proofs.Changes.{receive-length, receive-flag, receive-same, receive-stopped, receive-other}
 use Rattle.outgoing.specs.Entries.{Entry, entry, isAnswer, addressed, entriesOf, goTo, slot}
 use Rattle.layout.specs.Layout.{clusterSize, block, stopped, channel, onBlock}
@@ -101,10 +101,11 @@ to-take n zero l h = tt
 to-take n (suc m) [] h = tt
 to-take n (suc m) (e ∷ l) (o, h) = (o, to-take n m l h)
 
-to-tab : (n k : ℕ) → k ≤ n → (v : View) (m : Message) → ToNodes n (tab k (entry v m))
-unfolding tab
-to-tab n zero h v m = tt
-to-tab n (suc k) h v m = to-append n (tab k (entry v m)) (entry v m (suc k) ∷ []) (to-tab n k (omega arith) v m)
+to-numbered : (n k : ℕ) → k ≤ n → (v : View) (m : Message) → ToNodes n (numbered k (entry v m))
+unfolding numbered
+to-numbered n zero h v m = tt
+to-numbered n (suc k) h v m =
+    to-append n (numbered k (entry v m)) (entry v m (suc k) ∷ []) (to-numbered n k (omega arith) v m)
     ((omega arith, omega arith), tt)
 
 pub to-nodes : (n a : ℕ) → OneTo n a → (v : View) (ms : List Message) → ToNodes n (entriesOf n a v ms)
@@ -112,9 +113,9 @@ unfolding entriesOf addressed
 to-nodes n a o v [] = tt
 to-nodes n a o v (m ∷ ms) = to-append n (addressed n a v m) (entriesOf n a v ms) (go (isAnswer m)) (to-nodes n a o v ms)
   where
-    go : (t : Bool) → ToNodes n (pick t (entry v m a ∷ []) (tab n (entry v m)))
+    go : (t : Bool) → ToNodes n (pick t (entry v m a ∷ []) (numbered n (entry v m)))
     go true = (o, tt)
-    go false = to-tab n n (omega arith) v m
+    go false = to-numbered n n (omega arith) v m
 
 -- ---- the bytes of a cluster
 
@@ -151,9 +152,9 @@ module _ (n : ℕ) (small : n ≤ 16) where
         ];
       }
 
-    pub held-keep : (r : Node) → length (r .heard) ≡ cells → Held (onBlock d (keep r) t)
-    held-keep r h = held-on (keep r) (keep-length (block t d) own r h)
-        (λ a p. rw (keep-channel (block t d) own r h a) (H .most a d p o))
+    pub held-keepRecord : (r : Node) → length (r .heard) ≡ cells → Held (onBlock d (keepRecord r) t)
+    held-keepRecord r h = held-on (keepRecord r) (keepRecord-length (block t d) own r h)
+        (λ a p. rw (keepRecord-channel (block t d) own r h a) (H .most a d p o))
 
     pub held-take : (a : ℕ) → OneTo n a → 0 < countOf (channel t a d) → Held (onBlock d (takeOff a) t)
     held-take a p some = held-on (takeOff a) (takeOff-length (block t d) own a (p .0) (omega arith))

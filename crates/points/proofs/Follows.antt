@@ -15,7 +15,7 @@ use Rattle.view.specs.Report.{reportOf}
 use Rattle.view.specs.Size.{limit}
 use Rattle.view.specs.View.{viewOk}
 use Rattle.view.specs.declared.Report.{Report}
-use Rattle.wire.specs.Layout.{encode, allowed, size}
+use Rattle.wire.specs.Layout.{encode, allowed, messageSize}
 use Rattle.wire.specs.declared.Message.{Message}
 use Rattle.wire.specs.declared.Message.the-variants.{Read, Write, Good}
 use Rattle.wire.proofs.Numbers.{length-encode}
@@ -85,7 +85,7 @@ module _ (calls : Calls) where
 
     long : (t : ℕ) (v out : List ℕ) → allowed n (Good t) v ≡ true → 18 + 16 * n ≤ length out
         → calls .write n (Good t) v out .0 ≡ result (18 + 16 * n)
-    unfolding size
+    unfolding messageSize
     long t v out h l =
         let e : length (encode (Good t) v) ≡ 18 + 16 * n = length-encode n (Good t) v h in
         ap (λ (p : Answer ℕ × List ℕ). p .0) (write (Good t) v out h (omega (arith, e))) ∙ ap result e
@@ -109,10 +109,10 @@ module _ (calls : Calls) where
     tr = traceOf calls n b (scanThen c ds)
 
     -- A view with an entry was given by an ending, and what ended has begun.
-    finished : 1 ≤ n → T.viewOf (T.fate tr 0) ≡ replicate n absent → Finished (T.fate tr 0)
+    finished : 1 ≤ n → T.fateView (T.fate tr 0) ≡ replicate n absent → Finished (T.fate tr 0)
     finished h e = go (T.fate tr 0) (ap length e ∙ length-replicate n absent)
       where
-        go : (x : T.Fate) → length (T.viewOf x) ≡ n → Finished x
+        go : (x : T.Fate) → length (T.fateView x) ≡ n → Finished x
         go T.unfinished f = absurd (omega arith)
         go (T.ended k y) f = tt
 
@@ -120,7 +120,7 @@ module _ (calls : Calls) where
     unfolding traceFrom
     is-begun f = go (T.at tr 0 .answer) f
       where
-        go : (y : H.Answer) → Finished (T.fateOf tr 0 (T.begunBy (H.begin c H.scan H.whole) y))
+        go : (y : H.Response) → Finished (T.fateOf tr 0 (T.begunBy (H.begin c H.scan H.whole) y))
             → T.begunBy (H.begin c H.scan H.whole) y ≡ T.scanning c
         go (H.refused k) f = absurd f
         go (H.accepted e) f = refl

@@ -15,7 +15,7 @@ use Rattle.events.specs.Event.{Result, fresh}
 use Rattle.history.specs.Event.{sentTo}
 use Rattle.history.specs.Trace as T
 use Rattle.history.specs.Order.{OneTo, Finished}
-use Rattle.algorithm.specs.Algorithm.{same, limit, has, within, newest, table, kept, moveOn}
+use Rattle.algorithm.specs.Algorithm.{same, limit, has, includedUpTo, newest, table, kept, moveOn}
 use Rattle.eqaso.specs.Cluster as K
 use Rattle.eqaso.specs.Cluster.{entries, roomy, event}
 use Rattle.mirror.specs.Mirrors.{channelRoom}
@@ -39,7 +39,7 @@ same-trace n b (e ∷ es) = ap (λ (r : Result). R.seen n e r ∷ C.traceFrom C.
 
 -- Computed of the algorithm over sets.
 all-handed : T.waits (K.trace 1 0 channelRoom (map R.meaning (scanThen 1 five))) 1 1 ≡ []
-unfolding K.traceFrom event roomy sentTo entries moveOn kept table newest within has limit same upd upd2 count
+unfolding K.traceFrom event roomy sentTo entries moveOn kept table newest includedUpTo has limit same upd upd2 count
     ℕ-discrete decLe decLt decide T.letOutTo T.handedOver
 all-handed = refl
 
@@ -56,7 +56,7 @@ none-of-code : (n c : ℕ) → OneTo nodes n → OneTo n c → (b : List ℕ) �
 none-of-code n c size at b long ds up quiet = record {
   begun = ap (λ tr. T.begun tr 0) e ∙ scans n c size at b long ds;
   finished = subst (λ tr. Finished (T.fate tr 0)) (sym e) (finished n c size at b long ds stands-still none-waits);
-  view = ap (λ tr. T.viewOf (T.fate tr 0)) e ∙ none-shown n c size at b long ds stands-still none-waits;
+  view = ap (λ tr. T.fateView (T.fate tr 0)) e ∙ none-shown n c size at b long ds stands-still none-waits;
 }
   where
     e : C.traceOf C.code n b (scanThen c ds) ≡ R.traceOf n b (scanThen c ds)

@@ -19,14 +19,14 @@ use Rattle.step.specs.Step.{messages}
 use Rattle.step.specs.declared.Ending.the-variants.{None}
 use Rattle.step.specs.declared.Step.{Step}
 use Rattle.region.specs.Channel.{capacity, countOf}
-use Rattle.block.specs.Block.{blockSize, hasStopped, channelIn, keep, takeOff, halt}
-use Rattle.block.proofs.Changes.{keep-length, keep-flag, keep-channel, halt-length}
+use Rattle.block.specs.Block.{blockSize, hasStopped, channelIn, keepRecord, takeOff, halt}
+use Rattle.block.proofs.Changes.{keepRecord-length, keepRecord-flag, keepRecord-channel, halt-length}
 use Rattle.block.proofs.Changes.{takeOff-length, takeOff-flag, takeOff-same, takeOff-other}
 use Rattle.outgoing.specs.Entries.{Entry, entries, goTo}
 use Rattle.layout.specs.Layout.{clusterSize, stated, block, stopped, channel, onBlock, fits, sound}
 use Rattle.layout.proofs.Check.{is-size, sound-size, sound-channel, fits-size}
 use Rattle.events.specs.Event.{Result, refuse, commit, settle}
-use Rattle.outgoing.specs.Outgoing.{within, isCut, stepped, roomy}
+use Rattle.outgoing.specs.Outgoing.{shortened, isCut, stepped, roomy}
 use Rattle.outgoing.specs.Room.{roomBefore}
 use Rattle.outgoing.specs.declared.Extent.{Extent}
 use Rattle.outgoing.specs.declared.Extent.the-variants.{Whole, Cut}
@@ -40,7 +40,7 @@ use Rattle.points.specs.Calls.{code, event}
 use Rattle.points.specs.Channels.{StandsAfter, Room, Accepted, Judged}
 use Rattle.points.proofs.Stops.{node-is}
 use Rattle.points.proofs.Counts.{ToNodes, to-nodes, to-take, count-pop, Held, own, size-of, on-same, on-other}
-use Rattle.points.proofs.Counts.{held-keep, held-take, held-halt, held-out, Waits, waits-out}
+use Rattle.points.proofs.Counts.{held-keepRecord, held-take, held-halt, held-out, Waits, waits-out}
 
 -- Where an event that has no room is refused, one that is accepted had room.
 pub only-if-full : (b : List ℕ) (c : ℕ) (x : Extent) (waits : ℕ → ℕ) (l : List Entry) (r : Result)
@@ -63,7 +63,7 @@ module _ (b : List ℕ) (fit : fits b ≡ true) (usable : sound b ≡ true) (too
   n = stated b
 
   abbrev l : List Entry
-  l = within x (entries n a (s .outbox))
+  l = shortened x (entries n a (s .outbox))
 
   abbrev found : List ℕ
   found = foundIn took a c b
@@ -130,13 +130,13 @@ module _ (b : List ℕ) (fit : fits b ≡ true) (usable : sound b ≡ true) (too
       go false e = held
 
   abbrev wrote : List ℕ
-  wrote = onBlock c (keep (s .node)) found
+  wrote = onBlock c (keepRecord (s .node)) found
 
-  kept : length (keep (s .node) (block found c)) ≡ blockSize
-  kept = keep-length (block found c) (own n small held-found c at) (s .node) heard
+  kept : length (keepRecord (s .node) (block found c)) ≡ blockSize
+  kept = keepRecord-length (block found c) (own n small held-found c at) (s .node) heard
 
   held-wrote : Held n small wrote
-  held-wrote = held-keep n small held-found c at (s .node) heard
+  held-wrote = held-keepRecord n small held-found c at (s .node) heard
 
   held-stepped : Held n small (stepped n c x (s .node) found)
   held-stepped = go x
@@ -155,7 +155,7 @@ module _ (b : List ℕ) (fit : fits b ≡ true) (usable : sound b ≡ true) (too
       go false = refl
 
   other : (k : ℕ) → OneTo n k → (k ≡ c → ⊥) → block (stepped n c x (s .node) found) k ≡ block b k
-  other k o e = go x ∙ on-other n small held-found c at (keep (s .node)) kept k o e ∙ found-other k o e
+  other k o e = go x ∙ on-other n small held-found c at (keepRecord (s .node)) kept k o e ∙ found-other k o e
     where
       go : (x : Extent) → block (stepped n c x (s .node) found) k ≡ block wrote k
       go Whole = refl
@@ -209,13 +209,13 @@ module _ (b : List ℕ) (fit : fits b ≡ true) (usable : sound b ≡ true) (too
       go : (x : Extent) → (isCut x ≡ true → ⊥) → stopped b c ≡ false
           → Waits n small c at (stepped n c x (s .node) found) c (waits c)
       go Whole h up =
-          let same = on-same n small held-found c at (keep (s .node)) kept in
+          let same = on-same n small held-found c at (keepRecord (s .node)) kept in
           record {
             stands = ap hasStopped same
-                ∙ ap (ltb 0) (keep-flag (block found c) (own n small held-found c at) (s .node) heard)
+                ∙ ap (ltb 0) (keepRecord-flag (block found c) (own n small held-found c at) (s .node) heard)
                 ∙ found-own .0 ∙ up;
             holds = ap (λ k. countOf (channelIn k c)) same
-                ∙ ap countOf (keep-channel (block found c) (own n small held-found c at) (s .node) heard c)
+                ∙ ap countOf (keepRecord-channel (block found c) (own n small held-found c at) (s .node) heard c)
                 ∙ found-own .1;
           }
       go (Cut m) h up = absurd (h refl)
@@ -223,7 +223,7 @@ module _ (b : List ℕ) (fit : fits b ≡ true) (usable : sound b ≡ true) (too
   to-all : ToNodes n l
   to-all = go x
     where
-      go : (x : Extent) → ToNodes n (within x (entries n a (s .outbox)))
+      go : (x : Extent) → ToNodes n (shortened x (entries n a (s .outbox)))
       go Whole = to-nodes n a from (s .outbox .view) (messages (s .outbox))
       go (Cut m) = to-take n m (entries n a (s .outbox)) (to-nodes n a from (s .outbox .view) (messages (s .outbox)))
 

@@ -18,11 +18,11 @@ use Rattle.wire.specs.Codec.{viewPart}
 use Rattle.wire.specs.declared.Message.the-variants.{ReadAnswer, Write, Value}
 use Rattle.wire.proofs.RoundTrip.{read-back, read-only}
 use Rattle.table.specs.Loop.{all, count}
-use Rattle.table.specs.Quorum.{member, with, only, size, faults, isQuorum}
+use Rattle.table.specs.Quorum.{member, with, only, setSize, faults, isQuorum}
 use Rattle.table.specs.Table.{heardWithin}
-use Rattle.table.proofs.Entries.{within-absent}
-use Rattle.table.proofs.Sets.{size-with}
-use Rattle.record.specs.Record.{waiting, closed, faultsOf}
+use Rattle.table.proofs.Entries.{viewWithin-absent}
+use Rattle.table.proofs.Sets.{setSize-with}
+use Rattle.record.specs.Record.{withWait, closed, faultsOf}
 use Rattle.record.specs.Usable.{stillUses}
 use Rattle.record.specs.declared.Node.{Node}
 use Rattle.record.specs.declared.Operation.{Operation}
@@ -59,11 +59,11 @@ module _ (c : Node) (o : Operation) (m s t : ℕ) (b out : List ℕ) (L : LastAn
       (both-true (le-leb 1 s (L .sender .0)) (le-leb s (c .n) (L .sender .1))) (ReadAnswer (c .request) t) (L .says)
       ∙ taken-goes c s (viewPart (c .n) b) out (ReadAnswer (c .request) t) refl
 
-  quorum : isQuorum (c .n) f (size (c .n) (with (L .answered) s)) ≡ true
-  quorum = le-leb (c .n - f) (size (c .n) (with (L .answered) s))
-      (omega (arith, L .short, size-with (c .n) (L .answered) s (L .sender .0) (L .sender .1) (L .new)))
+  quorum : isQuorum (c .n) f (setSize (c .n) (with (L .answered) s)) ≡ true
+  quorum = le-leb (c .n - f) (setSize (c .n) (with (L .answered) s))
+      (omega (arith, L .short, setSize-with (c .n) (L .answered) s (L .sender .0) (L .sender .1) (L .new)))
 
-  none-yet : isQuorum (c .n) f (size (c .n) 0) ≡ false
+  none-yet : isQuorum (c .n) f (setSize (c .n) 0) ≡ false
   none-yet = no-quorum (c .n) f (omega (arith, L .sender .0, L .sender .1))
 
   -- No tag is above the limit.
@@ -80,10 +80,10 @@ module _ (c : Node) (o : Operation) (m s t : ℕ) (b out : List ℕ) (L : LastAn
 
   -- The answer is counted, and the quorum is there: the operation goes on with the tag used.
   abbrev counted : Step
-  counted = started (waiting c (Reading o (with (L .answered) s) (max m t))) s Nothing
+  counted = started (withWait c (Reading o (with (L .answered) s) (max m t))) s Nothing
 
-  counts : waiting c (readWait (c .request) s (c .request) t (c .wait)) ≡ counted .node
-  counts = ap (waiting c)
+  counts : withWait c (readWait (c .request) s (c .request) t (c .wait)) ≡ counted .node
+  counts = ap (withWait c)
       (ap (readWait (c .request) s (c .request) t) (L .reads) ∙ rw (eq-eqb (c .request) (c .request) refl, L .new))
 
   passes : readPass f counted (counted .node) (counted .node .wait) ≡ afterRead counted (counted .node) o (used c m t)
@@ -146,7 +146,7 @@ few-used (Update p) m = omega arith
 few-used Scan m = omega arith
 
 meets : (m top t : ℕ) → m ≤ limit → top ≤ limit → t ≤ limit → (o : Operation) → MeetsAt m top t o
-unfolding allowed heardWithin all count member with only size
+unfolding allowed heardWithin all count member with only setSize
 meets m top t low h k o = record {
   room = omega (arith, length-replicate {A = ℕ} 512 0);
   is-usable = usable-of (reader m top o) (record {
@@ -160,10 +160,10 @@ meets m top t low h k o = record {
     wait-ok = reading-of 3 o (with 0 1) m refl low;
     enough = few-used o m;
     heard-ok = refl;
-    last-ok = within-absent limit;
-    max-ok = within-absent top;
-    round-ok = within-absent limit;
-    kept-ok = within-absent 0;
+    last-ok = viewWithin-absent limit;
+    max-ok = viewWithin-absent top;
+    round-ok = viewWithin-absent limit;
+    kept-ok = viewWithin-absent 0;
   });
   answered = with 0 1;
   reads = refl;

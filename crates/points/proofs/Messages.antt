@@ -14,7 +14,7 @@ use Rattle.octets.proofs.Test.{both-true}
 use Rattle.view.specs.Size.{isSize, nodes}
 use Rattle.view.specs.Report.{reportOf}
 use Rattle.view.specs.View.{viewOk}
-use Rattle.wire.specs.Layout.{encode, allowed, size}
+use Rattle.wire.specs.Layout.{encode, allowed, messageSize}
 use Rattle.wire.specs.Codec.{said, begins, front, viewPart, decode, answer, after}
 use Rattle.wire.specs.declared.Message.{Message}
 use Rattle.wire.specs.declared.Message.the-variants.{Read, ReadAnswer, Write, WriteAnswer, Echo, Value, Good}
@@ -24,7 +24,7 @@ use Rattle.wire.proofs.RoundTrip.{read-back, read-only, refuses-seven, refuses-
 use Rattle.figures.specs.Figures.{totals, figuresOf}
 use Rattle.table.proofs.Sets.{faults-largest}
 use Rattle.calls.specs.Entry as N
-use Rattle.layout.specs.Layout.{size as statedSize}
+use Rattle.layout.specs.Layout.{sizeFor}
 use Rattle.events.proofs.Told.{fresh-none, fresh-is}
 use Rattle.history.specs.Order.{OneTo}
 use Rattle.points.specs.Calls.{code}
@@ -46,7 +46,7 @@ not-taken n s = record {
 }
 
 is-taken : (n : ℕ) → OneTo nodes n → Taken code n
-unfolding figuresOf N.fresh statedSize
+unfolding figuresOf N.fresh sizeFor
 is-taken n (low, small) = record {
   read = λ m v h. read-back n m v s h;
   write = λ m v out h l. writes n m v out (answered n m v (length out) s h l);
@@ -84,7 +84,7 @@ read-one-holds n s = record {
 -- Only good messages are of kind 7.
 only-good : (n : ℕ) (m : Message) (v : List ℕ) → allowed n m v ≡ true → getD (encode m v) 3 0 ≡ 7
     → length (encode m v) ≡ 18 + 16 * n
-unfolding encode size
+unfolding encode messageSize
 only-good n (Read r) v h e = absurd (omega arith)
 only-good n (ReadAnswer r t) v h e = absurd (omega arith)
 only-good n (Write r t) v h e = absurd (omega arith)
@@ -94,7 +94,7 @@ only-good n (Value t w p) v h e = absurd (omega arith)
 only-good n (Good t) v h e = length-encode n (Good t) v h
 
 pub good-bytes : (n : ℕ) → isSize n ≡ true → GoodBytes code n (18 + 16 * n)
-unfolding allowed answer size
+unfolding allowed answer messageSize
 good-bytes n s = record {
   long = λ t v out h l. answered n (Good t) v (length out) s h (rw (length-encode n (Good t) v h) l)
       ∙ ap result (length-encode n (Good t) v h);

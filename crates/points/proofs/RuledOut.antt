@@ -27,7 +27,7 @@ use Rattle.table.specs.Quorum.{faults}
 use Rattle.step.specs.Told as K
 use Rattle.step.specs.declared.Ending.{Ending}
 use Rattle.calls.specs.Entry as N
-use Rattle.calls.specs.Outcome.{Outcome}
+use Rattle.calls.specs.Outcome.{CallResult}
 use Rattle.layout.specs.Layout.{clusterSize}
 use Rattle.events.specs.Event as E
 use Rattle.history.specs.Order.{OneTo}
@@ -95,7 +95,7 @@ module _ (f : ℕ → ℕ) (k : ℕ) (size : OneTo nodes (f k)) where
       (ap (λ (p : Answer ℕ × List ℕ). p .0) (R .write (Read 1) [] fifteen))
 
   makes-it : Refused (makes (λ n own. N.fresh (f n) own)) k → ⊥
-  makes-it R = not-refused (ap (λ (x : Outcome). x .answer)
+  makes-it R = not-refused (ap (λ (x : CallResult). x .answer)
       (sym (taken .fresh-node 1 (omega arith, size .0)) ∙ R .fresh-node 1))
 
   starts-it : Refused (starts (λ n b. E.fresh (f n) b)) k → ⊥
@@ -161,7 +161,7 @@ echo-unwritten P = apart (ap (λ (p : Answer ℕ × List ℕ). p .0)
 first-only : RuledOut (makes (λ n own. N.fresh n 1))
 first-only P =
     let size : OneTo nodes 2 = (omega arith, omega arith) in
-    let e : _≡_ {A = ℕ} 1 2 = ap (λ (x : Outcome). x .node .own)
+    let e : _≡_ {A = ℕ} 1 2 = ap (λ (x : CallResult). x .node .own)
     (sym (points .sizes .taken 2 size .fresh-node 1 (omega arith, omega arith))
     ∙ P .sizes .taken 2 size .fresh-node 2 (omega arith, omega arith)) in omega arith
 

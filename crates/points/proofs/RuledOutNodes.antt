@@ -24,7 +24,7 @@ use Rattle.record.specs.declared.Wait.the-variants.{Idle, Reading, Writing, Com
 use Rattle.step.specs.Told as K
 use Rattle.step.specs.declared.Ending.the-variants.{None}
 use Rattle.calls.specs.Entry as N
-use Rattle.calls.specs.Outcome.{Outcome}
+use Rattle.calls.specs.Outcome.{CallResult}
 use Rattle.block.specs.Block.{halt}
 use Rattle.layout.specs.Layout.{stated, stopped, onBlock}
 use Rattle.events.specs.Event as E
@@ -60,10 +60,10 @@ tests f own (Writing k i r z) a = false
 tests f own (Comparing k i r) a = false
 tests f own (Borrowing k r) a = false
 
-abbrev wrongly : Test → (Node → List ℕ → Outcome) → Node → ℕ → List ℕ → List ℕ → Outcome
+abbrev wrongly : Test → (Node → List ℕ → CallResult) → Node → ℕ → List ℕ → List ℕ → CallResult
 wrongly f g c s b out = pick (tests f (c .maxtag) (c .wait) (decode (c .n) b)) (g c out) (N.message c s b out)
 
-abbrev unchanged : Node → List ℕ → Outcome
+abbrev unchanged : Node → List ℕ → CallResult
 unchanged c out = record { answer = K.nothing; node = c; length = 0; out = out }
 
 abbrev isUpdate : Operation → Bool
@@ -71,16 +71,16 @@ isUpdate (Update p) = true
 isUpdate Scan = false
 
 -- Where the test holds of the last answer the call is the wrong one.
-does : (f : Test) (g : Node → List ℕ → Outcome) (c : Node) (o : Operation) (m s t : ℕ) (b out : List ℕ)
+does : (f : Test) (g : Node → List ℕ → CallResult) (c : Node) (o : Operation) (m s t : ℕ) (b out : List ℕ)
     → LastAnswer c o m s t b out → f o m t (c .maxtag) ≡ true → wrongly f g c s b out ≡ g c out
 does f g c o m s t b out L h = rw (L .reads, L .says, h) refl
 
 -- What is told cannot be both.
-told-apart : {x : Outcome} {c d : Node} {j k : ℕ} {o q : List ℕ}
+told-apart : {x : CallResult} {c d : Node} {j k : ℕ} {o q : List ℕ}
     → x ≡ record { answer = K.nothing; node = c; length = j; out = o }
     → x ≡ record { answer = K.spent 13; node = d; length = k; out = q } → ⊥
 told-apart p q =
-    let e : K.nothing ≡ K.spent 13 = ap (λ (x : Outcome). x .answer) (sym p ∙ q) in
+    let e : K.nothing ≡ K.spent 13 = ap (λ (x : CallResult). x .answer) (sym p ∙ q) in
     let z : _≡_ {A = ℕ} 0 1 = cc e in omega arith
 
 -- The largest tag does not count: in an answer before alone, in the last answer, as the own maxtag.

@@ -6,7 +6,7 @@ use Rattle.wire.specs.declared.Message.{Message}
 use Rattle.figures.specs.declared.Totals.{Totals}
 use Rattle.record.specs.declared.Node.{Node}
 use Rattle.record.specs.declared.Operation.{Operation}
-use Rattle.calls.specs.Outcome.{Outcome}
+use Rattle.calls.specs.Outcome.{CallResult}
 use Rattle.events.specs.Event.{Result}
 use Rattle.outgoing.specs.declared.Extent.{Extent}
 use Rattle.points.specs.Calls.{Calls, code}
@@ -86,7 +86,7 @@ lends f = record {
   stop = code .stop;
 }
 
-abbrev pub makes : (ℕ → ℕ → Outcome) → Calls
+abbrev pub makes : (ℕ → ℕ → CallResult) → Calls
 makes f = record {
   read = code .read;
   write = code .write;
@@ -101,7 +101,7 @@ makes f = record {
   stop = code .stop;
 }
 
-abbrev pub hands : (Node → ℕ → List ℕ → List ℕ → Outcome) → Calls
+abbrev pub hands : (Node → ℕ → List ℕ → List ℕ → CallResult) → Calls
 hands f = record {
   read = code .read;
   write = code .write;

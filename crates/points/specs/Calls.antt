@@ -12,9 +12,9 @@ use Rattle.figures.specs.declared.Totals.{Totals}
 use Rattle.table.specs.Quorum.{faults}
 use Rattle.record.specs.declared.Node.{Node}
 use Rattle.record.specs.declared.Operation.{Operation}
-use Rattle.calls.specs.Outcome.{Outcome}
+use Rattle.calls.specs.Outcome.{CallResult}
 use Rattle.calls.specs.Entry as N
-use Rattle.layout.specs.Layout.{size}
+use Rattle.layout.specs.Layout.{sizeFor}
 use Rattle.events.specs.Event as E
 use Rattle.outgoing.specs.declared.Extent.{Extent}
 use Rattle.events.specs.Stop as S
@@ -30,8 +30,8 @@ pub record Calls : Type 0 where
   pub faults : ℕ → ℕ
   pub size : ℕ → ℕ
   -- One node.
-  pub fresh-node : (n own : ℕ) → Outcome
-  pub message : Node → (sender : ℕ) → (bytes out : List ℕ) → Outcome
+  pub fresh-node : (n own : ℕ) → CallResult
+  pub message : Node → (sender : ℕ) → (bytes out : List ℕ) → CallResult
   -- A cluster in bytes.
   pub fresh : (n : ℕ) → List ℕ → E.Result
   pub begin : (node : ℕ) → Operation → Extent → List ℕ → E.Result
@@ -44,7 +44,7 @@ code = record {
   write = λ n m v out. (answer n m v (length out), after (answer n m v (length out)) (encode m v) out);
   figures = figuresOf;
   faults = faults;
-  size = size;
+  size = sizeFor;
   fresh-node = N.fresh;
   message = N.message;
   fresh = E.fresh;

@@ -22,7 +22,7 @@ use Rattle.region.specs.Channel.{countOf, first}
 use Rattle.outgoing.specs.Entries.{Entry, entries, goTo}
 use Rattle.layout.specs.Layout.{stated, stopped, node, channel, fits, sound, faultsIn}
 use Rattle.events.specs.Event.{Result, refuse}
-use Rattle.outgoing.specs.Outgoing.{within, isCut}
+use Rattle.outgoing.specs.Outgoing.{shortened, isCut}
 use Rattle.outgoing.specs.declared.Extent.{Extent}
 use Rattle.outgoing.specs.declared.Extent.the-variants.{Whole}
 use Rattle.history.specs.Order.{OneTo}
@@ -62,10 +62,10 @@ pub record MayDeliver (b : List ℕ) (a c : ℕ) (x : Extent) (m : Message) : Ty
 
 -- The entries that the event lets out: the step's list, or its first part.
 abbrev pub begun : List ℕ → ℕ → Operation → Extent → List Entry
-begun b c o x = within x (entries (stated b) c (beginStep (faultsIn b) (node b c) o .outbox))
+begun b c o x = shortened x (entries (stated b) c (beginStep (faultsIn b) (node b c) o .outbox))
 
 abbrev pub handled : List ℕ → (a c : ℕ) → Extent → Message → List Entry
-handled b a c x m = within x (entries (stated b) a (messageStep (faultsIn b) (node b c) a m
+handled b a c x m = shortened x (entries (stated b) a (messageStep (faultsIn b) (node b c) a m
     (viewOf (stated b) (viewAt (stated b) (first (channel b a c)))) .outbox))
 
 -- What waits from c to k: all of it for a begin; without the delivered message, if it was one of c to itself.

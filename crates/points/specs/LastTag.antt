@@ -13,8 +13,8 @@ use Rattle.view.specs.declared.Report.{Report}
 use Rattle.wire.specs.Layout.{encode}
 use Rattle.wire.specs.Codec.{decode}
 use Rattle.wire.specs.declared.Message.the-variants.{ReadAnswer, Write, Value}
-use Rattle.table.specs.Quorum.{member, with, size}
-use Rattle.record.specs.Record.{closed, faultsOf}
+use Rattle.table.specs.Quorum.{member, with, setSize}
+use Rattle.record.specs.Record.{blank, setTop, setWait, closed, faultsOf}
 use Rattle.record.specs.Usable.{usable}
 use Rattle.record.specs.declared.Node.{Node}
 use Rattle.record.specs.declared.Operation.{Operation}
@@ -23,7 +23,7 @@ use Rattle.record.specs.declared.Kind.the-variants.{Update as UpdateKind, Scan 
 use Rattle.record.specs.declared.Wait.the-variants.{Idle, Reading}
 use Rattle.step.specs.Move.{opened}
 use Rattle.step.specs.Told as K
-use Rattle.calls.specs.Outcome.{Outcome}
+use Rattle.calls.specs.Outcome.{CallResult}
 use Rattle.history.specs.Order.{OneTo}
 use Rattle.points.specs.Calls.{Calls}
 
@@ -34,7 +34,7 @@ pub record LastAnswer (c : Node) (o : Operation) (m s t : ℕ) (b out : List ℕ
   pub is-usable : usable c ≡ true
   pub answered : ℕ
   pub reads : c .wait ≡ Reading o answered m
-  pub short : size (c .n) answered + 1 ≡ c .n - faultsOf c
+  pub short : setSize (c .n) answered + 1 ≡ c .n - faultsOf c
   pub sender : OneTo (c .n) s
   pub new : member answered s ≡ false
   pub says : decode (c .n) b ≡ result (ReadAnswer (c .request) t)
@@ -45,11 +45,11 @@ used c m t = max (max m t) (c .maxtag)
 
 -- What the call leaves: what it tells, the whole record, the length of the messages and every byte of the buffer. A
 -- spent update writes nothing, and no operation is open.
-abbrev pub spentBy : Node → List ℕ → Outcome
+abbrev pub spentBy : Node → List ℕ → CallResult
 spentBy c out = record { answer = K.spent 13; node = closed c Idle; length = 0; out = out }
 
 -- One less: the value has the largest tag, and round 0 opens with the tag used.
-abbrev pub goesOn : Node → Report → List ℕ → Outcome
+abbrev pub goesOn : Node → Report → List ℕ → CallResult
 goesOn c p out = record {
   answer = K.nothing;
   node = opened c UpdateKind 0 (limit - 1);
@@ -58,7 +58,7 @@ goesOn c p out = record {
 }
 
 -- A scan goes on with the largest tag: round 1 opens.
-abbrev pub scanGoesOn : Node → List ℕ → Outcome
+abbrev pub scanGoesOn : Node → List ℕ → CallResult
 scanGoesOn c out = record {
   answer = K.nothing;
   node = opened c ScanKind 1 limit;
@@ -69,19 +69,7 @@ scanGoesOn c out = record {
 -- Node 1 of three, which reads with request number 1 and has counted its own answer with tag m; node 2's answer with
 -- tag t, and a buffer.
 abbrev pub reader : (m maxtag : ℕ) → Operation → Node
-reader m top o = record {
-  n = 3;
-  own = 1;
-  maxtag = top;
-  request = 1;
-  wait = Reading o (with 0 1) m;
-  heard = replicate 256 0;
-  last = noView;
-  atmax = noView;
-  atround = noView;
-  kept = 0;
-  keptview = noView;
-}
+reader m top o = setWait (setTop (blank 3 1) top noView) 1 (Reading o (with 0 1) m) noView
 
 abbrev pub MeetsAt : (m maxtag t : ℕ) → Operation → Type 0
 MeetsAt m top t o = LastAnswer (reader m top o) o m 2 t (encode (ReadAnswer 1 t) []) (replicate 512 0)

@@ -15,11 +15,11 @@ use Rattle.view.specs.View.{viewBytes, viewOf}
 use Rattle.view.specs.declared.Report.{Report}
 use Rattle.view.specs.declared.View.{View}
 use Rattle.view.proofs.ViewBytes.{view-absent}
-use Rattle.table.specs.Table.{cell, newest, put as withEntry, cells}
-use Rattle.table.proofs.Laws.{length-tab as length-table}
+use Rattle.table.specs.Table.{cell, newest, putEntry, cells}
+use Rattle.table.proofs.Laws.{length-numbered}
 use Rattle.wire.specs.declared.Message.{Message}
 use Rattle.wire.specs.declared.Message.the-variants.{Read, ReadAnswer, Write, WriteAnswer, Echo, Value, Good}
-use Rattle.record.specs.Record.{setTop, setKept, waiting}
+use Rattle.record.specs.Record.{setTop, setKept, withWait}
 use Rattle.record.specs.declared.Node.{Node}
 use Rattle.record.specs.declared.Wait.{Wait}
 use Rattle.record.specs.declared.Wait.the-variants.{Idle, Reading, Writing, Comparing, Borrowing}
@@ -29,7 +29,7 @@ use Rattle.step.specs.declared.Sent.{Sent}
 use Rattle.step.proofs.Lawful.{react-started}
 use Rattle.region.specs.Record.{recordSize, heardPlace, viewPlace, viewIn, waitIn, recordOf, recordBytes, nPlace}
 use Rattle.region.specs.Record.{ownPlace, maxtagPlace, requestPlace, keptPlace, lastIn, atmaxIn, atroundIn, keptIn}
-use Rattle.region.specs.Record.{headOf, headBytes, withMaxtag, withKept, withWait}
+use Rattle.region.specs.Record.{headOf, headBytes, withMaxtag, withKept, withWait as headWithWait}
 use Rattle.region.proofs.Back.{Sized, SizedNode, record-back}
 use Rattle.react_bytes.specs.Handled.{entered}
 use Rattle.react_bytes.proofs.Sections.{Tables, tables-of, heard-put, atmax-put, kept-put, last-entry}
@@ -42,10 +42,10 @@ module _ (r : List ℕ) (h : Bytes r) (l : length r ≡ recordSize) where
   T : Tables r (words cells r heardPlace) (viewIn r lastIn) (viewIn r atmaxIn) (viewIn r atroundIn) (viewIn r keptIn)
   T = tables-of r h l
 
-  pub waiting-bytes : (w : Wait) → put r nPlace (headBytes (withWait (headOf r) w))
-      ≡ recordBytes (waiting (recordOf r) w)
+  pub withWait-bytes : (w : Wait) → put r nPlace (headBytes (headWithWait (headOf r) w))
+      ≡ recordBytes (withWait (recordOf r) w)
   unfolding recordOf
-  waiting-bytes w = assembled (waiting (recordOf r) w) T
+  withWait-bytes w = assembled (withWait (recordOf r) w) T
 
   pub raised-bytes : (t : ℕ) (b : Bool) → ltb (word r maxtagPlace) t ≡ b
       → put (pick b (put r (viewPlace atmaxIn) (viewBytes nodes (newest t (viewIn r lastIn) (viewIn r atmaxIn)))) r)
@@ -103,13 +103,13 @@ sized-pick : (b : Bool) (u v : View) → Sized u → Sized v → Sized (pick b u
 sized-pick true u v p q = p
 sized-pick false u v p q = q
 
-sized-entry : (v : View) (w t : ℕ) (p : Report) → Sized v → Sized (withEntry v w t p)
+sized-entry : (v : View) (w t : ℕ) (p : Report) → Sized v → Sized (putEntry v w t p)
 sized-entry v w t p z =
     record { tags = length-set (v .tags) (w - 1) t ∙ z .tags; reports = length-set (v .reports) (w - 1) p ∙ z .reports }
 
 pub sized-newest : (t : ℕ) (last held : View) → Sized (newest t last held)
 unfolding newest
-sized-newest t last held = record { tags = length-table nodes _; reports = length-table nodes _ }
+sized-newest t last held = record { tags = length-numbered nodes _; reports = length-numbered nodes _ }
 
 pub sized-of : (r : List ℕ) → SizedNode (recordOf r)
 unfolding recordOf
@@ -123,8 +123,8 @@ sized-of r =
     }
 
 module _ (c : Node) (z : SizedNode c) where
-  sized-waiting : (w : Wait) → SizedNode (waiting c w)
-  sized-waiting w =
+  sized-withWait : (w : Wait) → SizedNode (withWait c w)
+  sized-withWait w =
       record { heard = z .heard; last = z .last; atmax = z .atmax; atround = z .atround; keptview = z .keptview }
 
   sized-raised : (t : ℕ) → SizedNode (raised c t)
@@ -144,11 +144,11 @@ module _ (c : Node) (z : SizedNode c) where
   sized-received s w t p =
       record {
         heard = length-set (c .heard) (cell s w) t ∙ z .heard;
-        last = sized-pick (isNew c w t) (withEntry (c .last) w t p)
+        last = sized-pick (isNew c w t) (putEntry (c .last) w t p)
             (c .last) (sized-entry (c .last) w t p (z .last)) (z .last);
-        atmax = sized-pick (both (isNew c w t) (leb t (c .maxtag))) (withEntry (c .atmax) w t p)
+        atmax = sized-pick (both (isNew c w t) (leb t (c .maxtag))) (putEntry (c .atmax) w t p)
             (c .atmax) (sized-entry (c .atmax) w t p (z .atmax)) (z .atmax);
-        atround = sized-pick (both (isNew c w t) (roundHolds (c .wait) t)) (withEntry (c .atround) w t p)
+        atround = sized-pick (both (isNew c w t) (roundHolds (c .wait) t)) (putEntry (c .atround) w t p)
             (c .atround) (sized-entry (c .atround) w t p (z .atround)) (z .atround);
         keptview = z .keptview;
       }
@@ -167,9 +167,9 @@ module _ (c : Node) (z : SizedNode c) where
   sized-react : (s : ℕ) (m : Message) (v : View) → Sized v → SizedNode (react c s m v .node)
   unfolding react
   sized-react s (Read q) v h = z
-  sized-react s (ReadAnswer q t) v h = sized-waiting _
+  sized-react s (ReadAnswer q t) v h = sized-withWait _
   sized-react s (Write q t) v h = sized-raised t
-  sized-react s (WriteAnswer q t) v h = sized-waiting _
+  sized-react s (WriteAnswer q t) v h = sized-withWait _
   sized-react s (Echo t) v h = sized-raised t
   sized-react s (Value t w p) v h = sized-received s w t p
   sized-react s (Good t) v h = sized-keep t v h

@@ -26,8 +26,8 @@ use Rattle.view.specs.declared.Report.{Report}
 use Rattle.view.specs.declared.View.{View}
 use Rattle.view.proofs.ReportBytes.{be-part}
 use Rattle.view.proofs.ViewBytes.{length-viewBytes, view-bytes-back}
-use Rattle.table.specs.Table.{tagOf, reportOf, cell, heardOf, newest, newestTag, newestReport, put as withEntry, cells}
-use Rattle.table.proofs.Laws.{getD-tab as getD-table}
+use Rattle.table.specs.Table.{tagOf, reportOf, cell, heardOf, newest, newestTag, newestReport, putEntry, cells}
+use Rattle.table.proofs.Laws.{getD-numbered}
 use Rattle.record.specs.declared.Node.{Node}
 use Rattle.region.specs.Record.{recordSize, heardPlace, viewPlace, viewIn, recordBytes, nPlace, heardSize, lastIn}
 use Rattle.region.specs.Record.{atmaxIn, atroundIn, keptIn, views, headIn, headBytes}
@@ -84,7 +84,7 @@ put-word t k x l =
     ∙ ap (λ (n : ℕ). join n (λ i. be wordSize (getD (set t k x) i 0))) (sym (length-set t k x))
 
 put-entry : (v : View) (w t : ℕ) (p : Report) → Sized v → 1 ≤ w → w ≤ nodes
-    → put (viewBytes nodes v) (entrySize * (w - 1)) (entryBytes t p) ≡ viewBytes nodes (withEntry v w t p)
+    → put (viewBytes nodes v) (entrySize * (w - 1)) (entryBytes t p) ≡ viewBytes nodes (putEntry v w t p)
 unfolding viewBytes
 put-entry v w t p z lo hi =
     put-join nodes entrySize (w - 1) (λ i. entryBytes (getD (v .tags) i 0) (getD (v .reports) i noReport))
@@ -251,33 +251,33 @@ module _ {r heard : List ℕ} {last atmax atround kept : View} (T : Tables r hea
   -- one entry of a view, where the flag says so
   as-view : (at : ℕ) (v : View) (w t : ℕ) (p : Report) → at + viewSize nodes ≤ recordSize → part r at (viewSize nodes)
       ≡ viewBytes nodes v → Sized v → 1 ≤ w
-      → w ≤ nodes → put r (at + entrySize * (w - 1)) (entryBytes t p) ≡ put r at (viewBytes nodes (withEntry v w t p))
+      → w ≤ nodes → put r (at + entrySize * (w - 1)) (entryBytes t p) ≡ put r at (viewBytes nodes (putEntry v w t p))
   as-view at v w t p b e z lo hi =
       put-inside r at (viewSize nodes) (entrySize * (w - 1)) (entryBytes t p) (omega (arith, long)) (omega arith)
       ∙ ap (λ (u : List ℕ). put r at (put u (entrySize * (w - 1)) (entryBytes t p))) e ∙ ap (put r at)
       (put-entry v w t p z lo hi)
 
   pub last-entry : (flag : Bool) (w t : ℕ) (p : Report) → Sized last → 1 ≤ w → w ≤ nodes
-      → Tables (putWhere flag lastIn w t p r) heard (pick flag (withEntry last w t p) last) atmax atround kept
+      → Tables (putWhere flag lastIn w t p r) heard (pick flag (putEntry last w t p) last) atmax atround kept
   last-entry true w t p z lo hi =
-      subst (λ (u : List ℕ). Tables u heard (withEntry last w t p) atmax atround kept)
-      (sym (as-view (viewPlace lastIn) last w t p (omega arith) (T .ofLast) z lo hi)) (last-put (withEntry last w t p))
+      subst (λ (u : List ℕ). Tables u heard (putEntry last w t p) atmax atround kept)
+      (sym (as-view (viewPlace lastIn) last w t p (omega arith) (T .ofLast) z lo hi)) (last-put (putEntry last w t p))
   last-entry false w t p z lo hi = T
 
   pub atmax-entry : (flag : Bool) (w t : ℕ) (p : Report) → Sized atmax → 1 ≤ w → w ≤ nodes
-      → Tables (putWhere flag atmaxIn w t p r) heard last (pick flag (withEntry atmax w t p) atmax) atround kept
+      → Tables (putWhere flag atmaxIn w t p r) heard last (pick flag (putEntry atmax w t p) atmax) atround kept
   atmax-entry true w t p z lo hi =
-      subst (λ (u : List ℕ). Tables u heard last (withEntry atmax w t p) atround kept)
+      subst (λ (u : List ℕ). Tables u heard last (putEntry atmax w t p) atround kept)
       (sym (as-view (viewPlace atmaxIn) atmax w t p (omega arith) (T .ofAtmax) z lo hi))
-      (atmax-put (withEntry atmax w t p))
+      (atmax-put (putEntry atmax w t p))
   atmax-entry false w t p z lo hi = T
 
   pub atround-entry : (flag : Bool) (w t : ℕ) (p : Report) → Sized atround → 1 ≤ w → w ≤ nodes
-      → Tables (putWhere flag atroundIn w t p r) heard last atmax (pick flag (withEntry atround w t p) atround) kept
+      → Tables (putWhere flag atroundIn w t p r) heard last atmax (pick flag (putEntry atround w t p) atround) kept
   atround-entry true w t p z lo hi =
-      subst (λ (u : List ℕ). Tables u heard last atmax (withEntry atround w t p) kept)
+      subst (λ (u : List ℕ). Tables u heard last atmax (putEntry atround w t p) kept)
       (sym (as-view (viewPlace atroundIn) atround w t p (omega arith) (T .ofAtround) z lo hi))
-      (atround-put (withEntry atround w t p))
+      (atround-put (putEntry atround w t p))
   atround-entry false w t p z lo hi = T
 
 -- ---- a record from its head and its tables
@@ -352,7 +352,7 @@ newest-bytes t last held =
     join-ext nodes (λ i. newestEntry t last held (i + 1)) _
     (λ i l. let e : i + 1 - 1 ≡ i = omega arith in
     ap₂ entryBytes
-    (sym (getD-table nodes (newestTag t last held) (i + 1) 0 (omega arith) (omega arith))
+    (sym (getD-numbered nodes (newestTag t last held) (i + 1) 0 (omega arith) (omega arith))
     ∙ ap (λ (j : ℕ). getD (v .tags) j 0) e)
-    (sym (getD-table nodes (newestReport t last held) (i + 1) noReport (omega arith) (omega arith))
+    (sym (getD-numbered nodes (newestReport t last held) (i + 1) noReport (omega arith) (omega arith))
     ∙ ap (λ (j : ℕ). getD (v .reports) j noReport) e))

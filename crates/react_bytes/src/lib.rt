@@ -45,7 +45,7 @@ ghost use lib.Dec.{ltb};
 ghost use lib.ListN.{length};
 ghost use Rattle.view.specs.Size.{nodes, viewSize};
 ghost use Rattle.view.specs.View.{viewOf};
-ghost use Rattle.record.specs.Record.{waiting};
+ghost use Rattle.record.specs.Record.{withWait};
 ghost use Rattle.record.specs.Usable.{stale};
 ghost use Rattle.step.specs.React.{raised, isNew, received, keep, react};
 ghost use Rattle.region.specs.Record.{recordSize, recordOf, recordBytes};
@@ -55,7 +55,7 @@ ghost use Rattle.react_bytes.specs.Handled.{entered};
 // The record waits for something else.
 pub fn waiting_in(r: &mut [u8], w: Wait)
     requires { ⌜ length (now r) ≡ recordSize ⌝ }
-    ensures { λ _. ⌜ now (r .exit) ≡ recordBytes (waiting (recordOf (now (r .entry))) w) ⌝ }
+    ensures { λ _. ⌜ now (r .exit) ≡ recordBytes (withWait (recordOf (now (r .entry))) w) ⌝ }
 {
     let h = head_of(r);
     save_head(r, with_wait(h, w));

@@ -25,7 +25,7 @@ ghost use mathlib.Core.Bool.{true};
 ghost use Prim.Native.Nat.{_≤_};
 ghost use Rattle.octets.specs.Test.{pick};
 ghost use Rattle.view.specs.Size.{nodes};
-ghost use Rattle.table.specs.Table.{put};
+ghost use Rattle.table.specs.Table.{putEntry};
 ghost use Rattle.step.specs.Allowed.{lawful};
 ghost use Rattle.step.specs.Step.{started};
 ghost use Rattle.step.specs.React.{raised, received, keep, react};
@@ -64,7 +64,7 @@ fn raised_node(c: Node, t: u64) -> Node
 // The view with the entry put, where the flag says so.
 fn put_where(flag: bool, v: View, w: usize, t: u64, p: Report) -> View
     requires { ⌜ (1 ≤ w) × (w ≤ nodes) ⌝ }
-    ensures { λ r. ⌜ r ≡ pick flag (put v w t p) v ⌝ }
+    ensures { λ r. ⌜ r ≡ pick flag (putEntry v w t p) v ⌝ }
 {
     if flag {
         return put_entry(v, w, t, p);

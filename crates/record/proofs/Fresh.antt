@@ -6,7 +6,7 @@ use native.Mathlib.Omega.{arith}
 use lib.ListN.{replicate}
 use Rattle.table.specs.Loop.{all}
 use Rattle.table.specs.Table.{heardWithin, cells}
-use Rattle.table.proofs.Entries.{within-absent}
+use Rattle.table.proofs.Entries.{viewWithin-absent}
 use Rattle.view.specs.Size.{limit, nodes}
 use Rattle.record.specs.Record.{blank}
 use Rattle.record.specs.Usable.{usable}
@@ -30,8 +30,8 @@ fresh-usable n own a b d e =
       wait-ok = refl;
       enough = omega arith;
       heard-ok = none-heard;
-      last-ok = within-absent limit;
-      max-ok = within-absent 0;
-      round-ok = within-absent limit;
-      kept-ok = within-absent 0;
+      last-ok = viewWithin-absent limit;
+      max-ok = viewWithin-absent 0;
+      round-ok = viewWithin-absent limit;
+      kept-ok = viewWithin-absent 0;
     })

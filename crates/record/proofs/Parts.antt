@@ -12,7 +12,7 @@ use Rattle.octets.specs.Test.{both}
 use Rattle.view.specs.Size.{limit, nodes}
 use Rattle.table.specs.Loop.{either}
 use Rattle.table.specs.Quorum.{only}
-use Rattle.table.specs.Table.{within, heardWithin}
+use Rattle.table.specs.Table.{viewWithin, heardWithin}
 use Rattle.record.specs.declared.Node.{Node}
 use Rattle.record.specs.declared.Operation.{Operation}
 use Rattle.record.specs.declared.Kind.{Kind}
@@ -30,10 +30,10 @@ pub record Parts (c : Node) : Type 0 where
   pub wait-ok : waitOk (c .n) (c .wait) ≡ true
   pub enough : stillUses (c .wait) ≤ limit - c .request
   pub heard-ok : heardWithin (c .heard) ≡ true
-  pub last-ok : within limit (c .last) ≡ true
-  pub max-ok : within (c .maxtag) (c .atmax) ≡ true
-  pub round-ok : within (roundTag (c .wait)) (c .atround) ≡ true
-  pub kept-ok : within (c .kept) (c .keptview) ≡ true
+  pub last-ok : viewWithin limit (c .last) ≡ true
+  pub max-ok : viewWithin (c .maxtag) (c .atmax) ≡ true
+  pub round-ok : viewWithin (roundTag (c .wait)) (c .atround) ≡ true
+  pub kept-ok : viewWithin (c .kept) (c .keptview) ≡ true
 
 -- the two halves of a test
 halves : {X : Type 0} (a b : Bool) → both a b ≡ true → (a ≡ true → b ≡ true → X) → X
@@ -57,13 +57,13 @@ module _ (c : Node) where
   leftT = both (waitOk (c .n) (c .wait)) (leb (stillUses (c .wait)) (limit - c .request))
 
   abbrev firstT : Bool
-  firstT = both (heardWithin (c .heard)) (within limit (c .last))
+  firstT = both (heardWithin (c .heard)) (viewWithin limit (c .last))
 
   abbrev heldT : Bool
-  heldT = both (within (c .maxtag) (c .atmax)) (within (roundTag (c .wait)) (c .atround))
+  heldT = both (viewWithin (c .maxtag) (c .atmax)) (viewWithin (roundTag (c .wait)) (c .atround))
 
   abbrev restT : Bool
-  restT = both heldT (within (c .kept) (c .keptview))
+  restT = both heldT (viewWithin (c .kept) (c .keptview))
 
 pub sizes-most : (c : Node) → sizesOk c ≡ true → c .n ≤ nodes
 sizes-most c h =
@@ -82,9 +82,9 @@ parts c h =
     halves (leb (c .request) limit) (leb (c .kept) limit) rk (λ rq kp.
     halves (waitOk (c .n) (c .wait)) (leb (stillUses (c .wait)) (limit - c .request)) p₂ (λ wt en.
     halves (firstT c) (restT c) t (λ t₁ t₂.
-    halves (heardWithin (c .heard)) (within limit (c .last)) t₁ (λ hd la.
-    halves (heldT c) (within (c .kept) (c .keptview)) t₂ (λ t₃ ke.
-    halves (within (c .maxtag) (c .atmax)) (within (roundTag (c .wait)) (c .atround)) t₃ (λ am ar.
+    halves (heardWithin (c .heard)) (viewWithin limit (c .last)) t₁ (λ hd la.
+    halves (heldT c) (viewWithin (c .kept) (c .keptview)) t₂ (λ t₃ ke.
+    halves (viewWithin (c .maxtag) (c .atmax)) (viewWithin (roundTag (c .wait)) (c .atround)) t₃ (λ am ar.
     record {
       n-low = leb-true 1 (c .n) nl;
       n-high = leb-true (c .n) nodes nh;

@@ -102,8 +102,8 @@ setKept c t v =
     }
 
 -- another wait, the rest unchanged
-abbrev pub waiting : Node → Wait → Node
-waiting c w = setWait c (c .request) w (c .atround)
+abbrev pub withWait : Node → Wait → Node
+withWait c w = setWait c (c .request) w (c .atround)
 
 -- no round is open any more
 abbrev pub closed : Node → Wait → Node

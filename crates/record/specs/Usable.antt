@@ -7,7 +7,7 @@ use lib.Dec.{leb, ltb}
 use Rattle.octets.specs.Test.{both}
 use Rattle.view.specs.Size.{limit, nodes}
 use Rattle.table.specs.Loop.{either}
-use Rattle.table.specs.Table.{tagOf, within, heardOf, heardWithin}
+use Rattle.table.specs.Table.{tagOf, viewWithin, heardOf, heardWithin}
 use Rattle.table.specs.Quorum.{only}
 use Rattle.record.specs.declared.Node.{Node}
 use Rattle.record.specs.declared.Operation.the-variants.{Update, Scan}
@@ -59,9 +59,9 @@ numbersOk c = numbersWithin (c .n) (c .maxtag) (c .request) (c .kept) (c .wait)
 -- no tag above the limit, no report held for a tag that it is above, none beside tag 0
 unfoldable pub tablesOk : Node → Bool
 tablesOk c =
-    both (both (heardWithin (c .heard)) (within limit (c .last)))
-    (both (both (within (c .maxtag) (c .atmax)) (within (roundTag (c .wait)) (c .atround)))
-    (within (c .kept) (c .keptview)))
+    both (both (heardWithin (c .heard)) (viewWithin limit (c .last)))
+    (both (both (viewWithin (c .maxtag) (c .atmax)) (viewWithin (roundTag (c .wait)) (c .atround)))
+    (viewWithin (c .kept) (c .keptview)))
 
 unfoldable pub usable : Node → Bool
 usable c = both (sizesOk c) (both (numbersOk c) (tablesOk c))

@@ -5,7 +5,7 @@ use crate::Wait;
 use view::View;
 use view::absent;
 ghost use mathlib.Core.Path.{_≡_};
-ghost use Rattle.record.specs.Record.{setWait, waiting, closed};
+ghost use Rattle.record.specs.Record.{setWait, withWait, closed};
 
 // The record with another request number, wait, and reports held for the round.
 pub fn set_wait(c: Node, q: u64, w: Wait, v: View) -> Node
@@ -31,7 +31,7 @@ pub fn set_wait(c: Node, q: u64, w: Wait, v: View) -> Node
 }
 
 pub fn waiting_node(c: Node, w: Wait) -> Node
-    ensures { λ r. ⌜ r ≡ waiting c w ⌝ }
+    ensures { λ r. ⌜ r ≡ withWait c w ⌝ }
 {
     set_wait(c, c.request, w, c.atround)
 }

@@ -27,17 +27,17 @@ use Rattle.history.specs.Event as H
 use Rattle.algorithm.specs.Algorithm as A
 use Rattle.algorithm.specs.Algorithm.{_then_}
 use Rattle.eqaso.specs.Bounded.{BoundedNode}
-use Rattle.refine.specs.Meaning.{viewOf, kindOf, number, ruleOf, endingOf}
+use Rattle.refine.specs.Meaning.{viewMeaning, kindOf, number, ruleOf, endingOf}
 use Rattle.refine.specs.Follows.{SameWait, Holds, HoldsRound, Follows}
 use Rattle.refine.proofs.Choice.{Tells, le-tells-as, same-side}
 use Rattle.refine.proofs.Tables.{same-view, view-first, sized-absent}
 use Rattle.refine.proofs.Agreement.{agreeing-tells}
-use Rattle.refine.proofs.Turned.{follows-turned, follows-opened, follows-closed, request-next}
+use Rattle.refine.proofs.Turned.{follows-withRequest, follows-opened, follows-closed, request-next}
 use Rattle.refine.proofs.Lockstep.{Asked, Whole, Over, Together, asked-whole, whole-more, follow-pass}
 use Rattle.refine.proofs.Lockstep.{nothing-done}
 
 -- The ending of an operation with its rule and view.
-same-finish : (n : ℕ) (op : H.Operation) (r : Rule) (v : View) {l : M.View} → viewOf n v ≡ l
+same-finish : (n : ℕ) (op : H.Operation) (r : Rule) (v : View) {l : M.View} → viewMeaning n v ≡ l
     → endingOf n v (S.endingOf (kindOf op) r) ≡ A.finish op (ruleOf r) l
 same-finish n (H.update p) r v e = ap (H.done (ruleOf r)) e
 same-finish n H.scan r v e = ap (H.shown (ruleOf r)) e
@@ -47,8 +47,8 @@ over-finish (H.update p) r l = refl
 over-finish H.scan r l = refl
 
 -- A view that is given out means what the table of the record means.
-given-out : {n m : ℕ} → m ≡ n → (v : View) → viewOf n (firstOf m v) ≡ viewOf n v
-given-out {n} e v = ap (λ k. viewOf n (firstOf k v)) e ∙ view-first n v
+given-out : {n m : ℕ} → m ≡ n → (v : View) → viewMeaning n (firstOf m v) ≡ viewMeaning n v
+given-out {n} e v = ap (λ k. viewMeaning n (firstOf k v)) e ∙ view-first n v
 
 -- A quorum of agreeing nodes, at a record that follows.
 agreement-tells : {n i : ℕ} {ν : A.Node} {c : Node} (F : Follows n i ν c) → BoundedNode n ν → (f u : ℕ)
@@ -90,14 +90,14 @@ module _ {n i k : ℕ} (small : n ≤ nodes) (f : ℕ) (s : Step) (t : A.Step) w
     after-failed H.round3 = record {
       sent = whole-more (s .outbox) Nothing noView (T .sent) refl;
       ending = T .ending ∙ going;
-      node = follows-turned (T .node) (T .node .request) SameWait.borrowing tt sized-absent;
+      node = follows-withRequest (T .node) (T .node .request) SameWait.borrowing tt sized-absent;
       to = T .to;
       bounded = T .bounded;
       over = tt;
     }
 
     module _ (held : Holds n (s .node .atround) u (t .node .all)) where
-      view : viewOf n (heldView (s .node)) ≡ A.viewUpto n u (t .node .all)
+      view : viewMeaning n (heldView (s .node)) ≡ A.viewUpto n u (t .node .all)
       view = given-out (T .node .size) (s .node .atround) ∙ same-view n u (s .node .atround) (t .node .all) held
 
       -- A good round ends the operation.
@@ -106,7 +106,7 @@ module _ {n i k : ℕ} (small : n ≤ nodes) (f : ℕ) (s : Step) (t : A.Step) w
           (S.endingOf (kindOf op) (Direct j)) (heldView (s .node)))
           (A.ended (A.finish op (H.direct r) (A.viewUpto n u (t .node .all)))
           (M.good u (A.viewUpto n u (t .node .all)) ∷ [])
-          (A.waiting A.idle (t .node)))
+          (A.withWait A.idle (t .node)))
       unfolding R
       ends j r e = record {
         sent = whole-more (s .outbox) (One (Good u)) (heldView (s .node)) (T .sent) (ap (λ l. M.good u l ∷ []) view);

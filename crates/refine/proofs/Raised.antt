@@ -15,7 +15,7 @@ use Rattle.step.specs.React.{raised, keep}
 use Rattle.algorithm.specs.Algorithm as A
 use Rattle.algorithm.specs.Node.{topping}
 use Rattle.eqaso.specs.Bounded.{BoundedNode}
-use Rattle.refine.specs.Meaning.{viewOf}
+use Rattle.refine.specs.Meaning.{viewMeaning}
 use Rattle.refine.specs.Follows.{Sized, Follows}
 use Rattle.refine.proofs.Tables.{sized-newest}
 use Rattle.refine.proofs.Turned.{newest-held}
@@ -46,7 +46,7 @@ module _ {n i : ℕ} {ν : A.Node} {c : Node} (F : Follows n i ν c) (t : ℕ) w
   unfolding raised
   raised-not h = rw (le-ltb (c .maxtag) t (omega (arith, F .maxtag))) F
 
-  pub kept-follows : (v : View) → Sized v → Follows n i (A.keep t (viewOf n v) ν) (keep c t v)
+  pub kept-follows : (v : View) → Sized v → Follows n i (A.keep t (viewMeaning n v) ν) (keep c t v)
   unfolding keep A.kept
   kept-follows v z = record {
     size = F .size;
@@ -71,10 +71,10 @@ module _ {n i : ℕ} {ν : A.Node} {c : Node} (F : Follows n i ν c) (t : ℕ) w
       old = A.kept n (ν .goods)
 
       new : A.Good
-      new = record { tag = t; view = viewOf n v }
+      new = record { tag = t; view = viewMeaning n v }
 
       higher : (d : Dec (old .tag < t)) → (pick (ltb (c .kept) t) t (c .kept) ≡ ite d new old .tag)
-          × (viewOf n (pick (ltb (c .kept) t) v (c .keptview)) ≡ ite d new old .view)
+          × (viewMeaning n (pick (ltb (c .kept) t) v (c .keptview)) ≡ ite d new old .view)
       higher (yes h) = rw (lt-ltb (c .kept) t (omega (arith, F .kept))) (refl, refl)
       higher (no h) = rw (le-ltb (c .kept) t (omega (arith, F .kept))) (F .kept, F .keptview)
 

@@ -16,7 +16,7 @@ use Rattle.view.specs.declared.Report.{Report}
 use Rattle.view.specs.declared.View.{View}
 use Rattle.octets.specs.Test.{pick}
 use Rattle.view.specs.Size.{nodes}
-use Rattle.table.specs.Table.{put, tagOf, heardOf, cell, cells}
+use Rattle.table.specs.Table.{putEntry, tagOf, heardOf, cell, cells}
 use Rattle.record.specs.declared.Node.{Node}
 use Rattle.record.specs.declared.Wait.{Wait}
 use Rattle.record.specs.Usable.{stale}
@@ -31,7 +31,8 @@ use Rattle.eqaso.proofs.Bounded.{Arrives, seen-by-tag, not-below, not-ahead, he
 use Rattle.refine.specs.Meaning.{code, entryOf}
 use Rattle.refine.specs.Follows.{SameWait, Sized, Holds, HoldsRound, Follows}
 use Rattle.refine.proofs.Choice.{le-tells, same-side}
-use Rattle.refine.proofs.Tables.{sized-put, entry-put, entry-put-other, heard-set, heard-set-other}
+use Rattle.refine.proofs.Tables.{sized-putEntry, entry-putEntry, entry-putEntry-other, heard-set}
+use Rattle.refine.proofs.Tables.{heard-set-other}
 
 -- The value that a message of the code brings.
 abbrev pub valueOf : ℕ → ℕ → Report → M.Value
@@ -96,31 +97,31 @@ module _ {n i : ℕ} (small : n ≤ nodes) {ν : A.Node} {c : Node} (F : Follows
 
   -- A new one: it is the last of its writer, and the newest for each tag that it is not above.
   module _ (new : ¬ (v ∈ ν .all)) where
-    last-follows : (x : ℕ) → OneTo n x → entryOf (put (c .last) w t p) x ≡ latest x (v ∷ ν .all)
+    last-follows : (x : ℕ) → OneTo n x → entryOf (putEntry (c .last) w t p) x ≡ latest x (v ∷ ν .all)
     last-follows x o = elim (ℕ-discrete x w) [
-      | yes e ↦ rw e (entry-put small (c .last) w t p (a .writer) (F .last-size) ∙ sym (last-then a new))
-      | no e ↦ entry-put-other small (c .last) w t p (a .writer) x o e ∙ F .last x o
+      | yes e ↦ rw e (entry-putEntry small (c .last) w t p (a .writer) (F .last-size) ∙ sym (last-then a new))
+      | no e ↦ entry-putEntry-other small (c .last) w t p (a .writer) x o e ∙ F .last x o
           ∙ sym (latest-other x (ν .all) v (λ d. e (sym d)))
     ]
 
     held-follows : (h : View) (u : ℕ) → Sized h → Holds n h u (ν .all)
-        → Holds n (pick (leb t u) (put h w t p) h) u (v ∷ ν .all)
+        → Holds n (pick (leb t u) (putEntry h w t p) h) u (v ∷ ν .all)
     held-follows h u z held x o = elim (ℕ-discrete x w) [
       | yes e ↦ rw e (same-side (λ y z. entryOf y w ≡ z) (decLe t u) (le-tells t u)
-          (λ d. entry-put small h w t p (a .writer) z) (λ d. held w (a .writer)) ∙ sym (held-then a new u))
+          (λ d. entry-putEntry small h w t p (a .writer) z) (λ d. held w (a .writer)) ∙ sym (held-then a new u))
       | no e ↦ other (leb t u) e ∙ held x o ∙ sym (newest-other x u (ν .all) v (λ d. e (sym d)))
     ]
       where
-        other : (b : Bool) → x ≢ w → entryOf (pick b (put h w t p) h) x ≡ entryOf h x
-        other true ne = entry-put-other small h w t p (a .writer) x o ne
+        other : (b : Bool) → x ≢ w → entryOf (pick b (putEntry h w t p) h) x ≡ entryOf h x
+        other true ne = entry-putEntry-other small h w t p (a .writer) x o ne
         other false ne = refl
 
-    sized-pick : (b : Bool) (h : View) → Sized h → Sized (pick b (put h w t p) h)
-    sized-pick true h z = sized-put h w t p z
+    sized-pick : (b : Bool) (h : View) → Sized h → Sized (pick b (putEntry h w t p) h)
+    sized-pick true h z = sized-putEntry h w t p z
     sized-pick false h z = z
 
     round-follows : {s : A.Wait} {s′ : Wait} → SameWait n s s′ → HoldsRound n (c .atround) s (ν .all)
-        → HoldsRound n (pick (roundHolds s′ t) (put (c .atround) w t p) (c .atround)) s (v ∷ ν .all)
+        → HoldsRound n (pick (roundHolds s′ t) (putEntry (c .atround) w t p) (c .atround)) s (v ∷ ν .all)
     round-follows SameWait.idle h = tt
     round-follows (SameWait.reading same) h = tt
     round-follows (SameWait.writing {t = u} same) h = held-follows (c .atround) u (F .atround-size) h
@@ -142,7 +143,7 @@ module _ {n i : ℕ} (small : n ≤ nodes) {ν : A.Node} {c : Node} (F : Follows
       kept = F .kept;
       keptview = F .keptview;
       heard-size = heard-size;
-      last-size = sized-put (c .last) w t p (F .last-size);
+      last-size = sized-putEntry (c .last) w t p (F .last-size);
       atmax-size = sized-pick (leb t (c .maxtag)) (c .atmax) (F .atmax-size);
       atround-size = sized-pick (roundHolds (c .wait) t) (c .atround) (F .atround-size);
       keptview-size = F .keptview-size;

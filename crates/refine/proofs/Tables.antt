@@ -14,13 +14,14 @@ use Rattle.view.specs.declared.View.{View}
 use Rattle.view.specs.Report.{noReport}
 use Rattle.view.specs.View.{noView, firstOf}
 use Rattle.view.proofs.First.{first-tag, first-report}
-use Rattle.table.specs.Table.{tagOf, put, newest, newestTag, newestReport, cell, heardOf, cells}
-use Rattle.table.proofs.Laws.{length-tab}
-use Rattle.table.proofs.Entries.{newest-tag, newest-report, put-tag, put-report, put-tag-other, put-report-other}
+use Rattle.table.specs.Table.{tagOf, putEntry, newest, newestTag, newestReport, cell, heardOf, cells}
+use Rattle.table.proofs.Laws.{length-numbered}
+use Rattle.table.proofs.Entries.{newest-tag, newest-report, putEntry-tag, putEntry-report, putEntry-tag-other}
+use Rattle.table.proofs.Entries.{putEntry-report-other}
 use Rattle.history.specs.Message as M
 use Rattle.history.specs.Order.{OneTo}
 use Rattle.algorithm.specs.Algorithm as A
-use Rattle.refine.specs.Meaning.{code, entryOf, viewOf}
+use Rattle.refine.specs.Meaning.{code, entryOf, viewMeaning}
 use Rattle.refine.specs.Follows.{Sized, Holds}
 
 -- The view with no report, of any writer and in every place.
@@ -36,30 +37,30 @@ pub entry-absent : (w : ℕ) → entryOf noView w ≡ M.absent
 entry-absent w = rw (getD-all {X = ℕ} nodes (w - 1) 0, getD-all nodes (w - 1) noReport) refl
 
 -- One entry more.
-pub sized-put : (v : View) (w t : ℕ) (p : Report) → Sized v → Sized (put v w t p)
-sized-put v w t p z = record {
+pub sized-putEntry : (v : View) (w t : ℕ) (p : Report) → Sized v → Sized (putEntry v w t p)
+sized-putEntry v w t p z = record {
   tags = length-set (v .tags) (w - 1) t ∙ z .tags;
   reports = length-set (v .reports) (w - 1) p ∙ z .reports;
 }
 
 module _ {n : ℕ} (small : n ≤ nodes) (v : View) (w t : ℕ) (p : Report) (at : OneTo n w) where
-  pub entry-put : Sized v → entryOf (put v w t p) w ≡ record { tag = t; report = code p }
-  entry-put z =
+  pub entry-putEntry : Sized v → entryOf (putEntry v w t p) w ≡ record { tag = t; report = code p }
+  entry-putEntry z =
       let k : w ≤ nodes = omega arith in
       let pair : (length (v .tags) ≡ nodes) × (length (v .reports) ≡ nodes) = (z .tags, z .reports) in
-      rw (put-tag v w t p (at .0) k pair, put-report v w t p (at .0) k pair) refl
+      rw (putEntry-tag v w t p (at .0) k pair, putEntry-report v w t p (at .0) k pair) refl
 
-  pub entry-put-other : (x : ℕ) → OneTo n x → x ≢ w → entryOf (put v w t p) x ≡ entryOf v x
-  entry-put-other x to ne =
+  pub entry-putEntry-other : (x : ℕ) → OneTo n x → x ≢ w → entryOf (putEntry v w t p) x ≡ entryOf v x
+  entry-putEntry-other x to ne =
       let k : w ≤ nodes = omega arith in
-      rw (put-tag-other v w t p (at .0) k x (to .0) ne, put-report-other v w t p (at .0) k x (to .0) ne) refl
+      rw (putEntry-tag-other v w t p (at .0) k x (to .0) ne, putEntry-report-other v w t p (at .0) k x (to .0) ne) refl
 
 -- The newest up to t, by the last of each writer and one held for a lower tag.
 pub sized-newest : (t : ℕ) (last held : View) → Sized (newest t last held)
 unfolding newest
 sized-newest t last held = record {
-  tags = length-tab nodes (newestTag t last held);
-  reports = length-tab nodes (newestReport t last held);
+  tags = length-numbered nodes (newestTag t last held);
+  reports = length-numbered nodes (newestReport t last held);
 }
 
 pub entry-newest : {n : ℕ} → n ≤ nodes → (t : ℕ) (last held : View) (w : ℕ) → OneTo n w
@@ -79,11 +80,11 @@ same-table zero f g h = refl
 same-table (suc n) f g h = ap₂ (λ l x. l ++ (x ∷ [])) (same-table n f g (λ w (lo, hi). h w (lo, omega arith)))
     (h (suc n) (omega arith, omega arith))
 
-pub same-view : (n t : ℕ) (v : View) (l : List M.Value) → Holds n v t l → viewOf n v ≡ A.viewUpto n t l
+pub same-view : (n t : ℕ) (v : View) (l : List M.Value) → Holds n v t l → viewMeaning n v ≡ A.viewUpto n t l
 same-view n t v l h = same-table n (entryOf v) (λ w. A.newest w t l) h
 
 -- The first places of a view have what the view has of the nodes 1 to n.
-pub view-first : (n : ℕ) (v : View) → viewOf n (firstOf n v) ≡ viewOf n v
+pub view-first : (n : ℕ) (v : View) → viewMeaning n (firstOf n v) ≡ viewMeaning n v
 view-first n v = same-table n (entryOf (firstOf n v)) (entryOf v) (λ w at.
     let i : w - 1 < n = omega (arith, at .0, at .1) in
     ap₂ (λ (t : ℕ) (p : Report). entry t p) (first-tag n v (w - 1) i) (first-report n v (w - 1) i))
@@ -91,7 +92,7 @@ view-first n v = same-table n (entryOf (firstOf n v)) (entryOf v) (λ w at.
     entry : ℕ → Report → M.Entry
     entry t p = record { tag = t; report = code p }
 
-pub view-absent : (n : ℕ) → viewOf n noView ≡ replicate n M.absent
+pub view-absent : (n : ℕ) → viewMeaning n noView ≡ replicate n M.absent
 unfolding A.table
 view-absent n = same-table n (entryOf noView) (λ w. M.absent) (λ w h. entry-absent w) ∙ constant n
   where

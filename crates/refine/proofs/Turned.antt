@@ -8,7 +8,7 @@ use lib.ListN.{length-replicate}
 use Rattle.view.specs.Size.{nodes}
 use Rattle.view.specs.declared.View.{View}
 use Rattle.table.specs.Table.{newest, tagOf, cells}
-use Rattle.record.specs.Record.{blank, setWait, waiting, closed}
+use Rattle.record.specs.Record.{blank, setWait, withWait, closed}
 use Rattle.record.specs.declared.Node.{Node}
 use Rattle.record.specs.declared.Wait.{Wait}
 use Rattle.record.specs.declared.Wait.the-variants.{Idle}
@@ -44,14 +44,10 @@ follows-fresh n i = record {
   keptview-size = sized-absent;
 }
 
--- The sets with another request number and wait.
-abbrev pub turning : ℕ → A.Wait → A.Node → A.Node
-turning q w ν = record { all = ν .all; from = ν .from; maxtag = ν .maxtag; goods = ν .goods; request = q; wait = w }
-
 module _ {n i : ℕ} {ν : A.Node} {c : Node} (F : Follows n i ν c) where
-  pub follows-turned : {q q′ : ℕ} → q′ ≡ q → {w : A.Wait} {w′ : Wait} → SameWait n w w′
-      → {v : View} → HoldsRound n v w (ν .all) → Sized v → Follows n i (turning q w ν) (setWait c q′ w′ v)
-  follows-turned e same {v} h z = record {
+  pub follows-withRequest : {q q′ : ℕ} → q′ ≡ q → {w : A.Wait} {w′ : Wait} → SameWait n w w′
+      → {v : View} → HoldsRound n v w (ν .all) → Sized v → Follows n i (A.withRequest q w ν) (setWait c q′ w′ v)
+  follows-withRequest e same {v} h z = record {
     size = F .size;
     own = F .own;
     maxtag = F .maxtag;
@@ -91,9 +87,9 @@ module _ {n i : ℕ} {ν : A.Node} {c : Node} (F : Follows n i ν c) where
   pub follows-opened : n ≤ nodes → BoundedNode n ν → (op : H.Operation) (r : H.Round) (t : ℕ) → ν .maxtag ≤ t
       → Follows n i (A.asking (A.writing op r t A.nobody) ν) (opened c (kindOf op) (number r) t)
   unfolding opened
-  follows-opened small b op r t high = follows-turned request-next (SameWait.writing (same-nobody n))
+  follows-opened small b op r t high = follows-withRequest request-next (SameWait.writing (same-nobody n))
       (newest-held small b t high) (sized-newest t (c .last) (c .atmax))
 
   -- The operation is closed.
-  pub follows-closed : Follows n i (A.waiting A.idle ν) (closed c Idle)
-  follows-closed = follows-turned (F .request) SameWait.idle tt sized-absent
+  pub follows-closed : Follows n i (A.withWait A.idle ν) (closed c Idle)
+  follows-closed = follows-withRequest (F .request) SameWait.idle tt sized-absent

@@ -18,7 +18,7 @@ use Rattle.history.specs.Event as H
 use Rattle.history.specs.Order.{OneTo}
 use Rattle.algorithm.specs.Algorithm as A
 use Rattle.algorithm.specs.Node.{latest}
-use Rattle.refine.specs.Meaning.{entryOf, viewOf, operationOf, kindOf, number}
+use Rattle.refine.specs.Meaning.{entryOf, viewMeaning, operationOf, kindOf, number}
 
 -- The senders counted, as a test and as a number.
 abbrev pub SameNodes : ℕ → A.Nodes → ℕ → Type 0
@@ -69,7 +69,7 @@ pub record Follows (n i : ℕ) (ν : A.Node) (c : Node) : Type 0 where
   pub atround : HoldsRound n (c .atround) (ν .wait) (ν .all)
   -- The good message that amendment 4 keeps: its tag and its view.
   pub kept : c .kept ≡ A.kept n (ν .goods) .tag
-  pub keptview : viewOf n (c .keptview) ≡ A.kept n (ν .goods) .view
+  pub keptview : viewMeaning n (c .keptview) ≡ A.kept n (ν .goods) .view
   -- The tables have their sizes, whatever n is.
   pub heard-size : length (c .heard) ≡ cells
   pub last-size : Sized (c .last)

@@ -29,8 +29,8 @@ code p = reportNumber p
 abbrev pub entryOf : View → ℕ → M.Entry
 entryOf v w = record { tag = tagOf v w; report = code (reportOf v w) }
 
-abbrev pub viewOf : ℕ → View → M.View
-viewOf n v = A.table (entryOf v) n
+abbrev pub viewMeaning : ℕ → View → M.View
+viewMeaning n v = A.table (entryOf v) n
 
 -- A message beside its view v. An answer goes to node `to`.
 abbrev pub messageOf : (n to : ℕ) → View → Message → M.Message
@@ -40,7 +40,7 @@ messageOf n to v (Write q t) = M.write q t
 messageOf n to v (WriteAnswer q t) = M.writeAnswer to q t
 messageOf n to v (Echo t) = M.echo t
 messageOf n to v (Value t w p) = M.value (record { tag = t; writer = w; report = code p })
-messageOf n to v (Good t) = M.good t (viewOf n v)
+messageOf n to v (Good t) = M.good t (viewMeaning n v)
 
 -- The messages of a step, in order.
 abbrev pub sentOf : ℕ → Outbox → List M.Message
@@ -74,6 +74,6 @@ ruleOf Borrowed = H.borrowed
 -- An ending beside its view.
 abbrev pub endingOf : ℕ → View → Ending → H.Ending
 endingOf n v None = H.none
-endingOf n v (Done r) = H.done (ruleOf r) (viewOf n v)
-endingOf n v (Scanned r) = H.shown (ruleOf r) (viewOf n v)
+endingOf n v (Done r) = H.done (ruleOf r) (viewMeaning n v)
+endingOf n v (Scanned r) = H.shown (ruleOf r) (viewMeaning n v)
 endingOf n v Spent = H.spent

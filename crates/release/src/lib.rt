@@ -1,6 +1,6 @@
 // A step of a node written into the cluster's bytes: refusals 10 and 11 judged, then the record kept and its entries
-// let out. The begin of an operation and the delivery of a message settle apart, so that each is compiled where the copy
-// of the record is a local array, which is then written back in one move.
+// let out. The begin of an operation and the delivery of a message settle apart, so that each is compiled where the
+// copy of the record is a local array, which is then written back in one move.
 mod judge;
 mod sending;
 
@@ -25,7 +25,7 @@ ghost use Rattle.region.specs.Record.{recordSize, recordOf, recordBytes};
 ghost use Rattle.block.specs.Block.{takeOff};
 ghost use Rattle.layout.specs.Layout.{clusterSize, onBlock};
 ghost use Rattle.outgoing.specs.Entries.{entries};
-ghost use Rattle.outgoing.specs.Outgoing.{within, isCut, mayStop, haltIf, letOut, hasRoom, released};
+ghost use Rattle.outgoing.specs.Outgoing.{shortened, isCut, mayStop, haltIf, letOut, hasRoom, released};
 ghost use Rattle.outgoing.specs.Room.{goneIn};
 
 // Whether one node more may stop, where one is to (refusal 10).
@@ -59,7 +59,7 @@ fn halt_if(b: &mut [u8], n: usize, c: usize, cut: bool)
 fn release(b: &mut [u8], n: usize, a: usize, c: usize, o: Outbox, x: Extent)
     requires { ⌜ (n ≤ nodes) × (1 ≤ a) × (a ≤ n) × (1 ≤ c) × (c ≤ n) × (length (now b) ≡ clusterSize n) ⌝ }
     ensures { λ _. ⌜ now (b .exit)
-        ≡ letOut n c (within x (entries n a o)) (haltIf (isCut x) n c (now (b .entry))) ⌝ }
+        ≡ letOut n c (shortened x (entries n a o)) (haltIf (isCut x) n c (now (b .entry))) ⌝ }
 {
     halt_if(b, n, c, is_cut(x));
     let_out(b, n, a, c, o, allowance(x));

@@ -14,7 +14,7 @@ ghost use Rattle.view.specs.Size.{nodes};
 ghost use Rattle.view.specs.declared.View.{View};
 ghost use Rattle.step.specs.Claims.{AllLawful, sizes};
 ghost use Rattle.step.specs.Step.{messages};
-ghost use Rattle.step.specs.Told.{told, shown};
+ghost use Rattle.step.specs.Told.{told, toldView};
 ghost use Rattle.calls.specs.Entry.{refuse, letOut};
 ghost use Rattle.reply.specs.Tells.{toldBy, tells};
 
@@ -60,7 +60,7 @@ fn said_of(e: Ending) -> Said
 }
 
 fn view_shown(e: Ending, v: View) -> View
-    ensures { λ r. ⌜ r ≡ shown (told (result e) v) ⌝ }
+    ensures { λ r. ⌜ r ≡ toldView (told (result e) v) ⌝ }
 {
     match e {
         Ending::None => absent(),

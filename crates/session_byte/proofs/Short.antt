@@ -6,7 +6,7 @@ use native.Mathlib.Omega.{arith}
 use lib.ListN.{length}
 use lib.Dec.{eqb}
 use Rattle.octets.specs.Test.{pick}
-use Rattle.step.specs.Told.{shown}
+use Rattle.step.specs.Told.{toldView}
 use Rattle.layout.specs.Layout.{stated}
 use Rattle.events.specs.Event.{fresh}
 use Rattle.events.specs.Outcome.{toldOf}
@@ -22,32 +22,32 @@ use Rattle.session_progress.specs.declared.Progress.{Progress}
 use Rattle.session_progress.specs.declared.Stage.{Stage}
 use Rattle.session_progress.specs.declared.Stage.the-variants.{First, Events, Over}
 use Rattle.session_progress.proofs.Short.{bad-short}
-use Rattle.session_byte.specs.Memory.{Told, cluster, onCluster, opened, told}
+use Rattle.session_byte.specs.Memory.{LineEffect, cluster, onCluster, opened, lineEffect}
 use Rattle.session_byte.specs.Byte.{ended, kept, stepped}
 
 opened-short : (n : ℕ) (m : List ℕ) → length (opened n m .text) ≤ room
 opened-short n m = cases (eqb n 0)
   where
-    made : Told
+    made : LineEffect
     made = record { stage = Events n 1; memory = onCluster n (λ b. fresh n b .bytes) m; text = [] }
 
     cases : (b : Bool) → length (pick b (record { stage = Over; memory = m; text = badLine 0 }) made .text) ≤ room
     cases true = bad-short 0
     cases false = omega arith
 
-told-short : (s : Stage) (c : Carry) (m : List ℕ) → length (told s c m .text) ≤ room
-unfolding told printed
-told-short First c m = opened-short (nodesIn c) m
-told-short (Events n e) c m =
+lineEffect-short : (s : Stage) (c : Carry) (m : List ℕ) → length (lineEffect s c m .text) ≤ room
+unfolding lineEffect printed
+lineEffect-short First c m = opened-short (nodesIn c) m
+lineEffect-short (Events n e) c m =
     let b : List ℕ = cluster n m in
     let r = toldOf (ran (eventIn c) b) in
-    line-short e (replyOf (handler (eventIn c)) r) (stated b) (shown r)
-told-short Over c m = omega arith
+    line-short e (replyOf (handler (eventIn c)) r) (stated b) (toldView r)
+lineEffect-short Over c m = omega arith
 
 pub step-short : (p : Progress) (x : ℕ) (m : List ℕ) → length (stepped p x m .text) ≤ room
 unfolding stepped
 step-short p x m = cases (eqb x feed)
   where
     cases : (b : Bool) → length (pick b (ended p m) (kept p x m) .text) ≤ room
-    cases true = told-short (p .stage) (p .carry) m
+    cases true = lineEffect-short (p .stage) (p .carry) m
     cases false = omega arith

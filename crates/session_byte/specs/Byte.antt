@@ -6,7 +6,7 @@ use Rattle.octets.specs.Test.{pick}
 use Rattle.input.specs.Input.{feed}
 use Rattle.input.specs.Carry.{carryOf, push}
 use Rattle.session_progress.specs.declared.Progress.{Progress}
-use Rattle.session_byte.specs.Memory.{told}
+use Rattle.session_byte.specs.Memory.{lineEffect}
 
 -- What bytes of the text do: what is kept of the session then, its memory, and what is printed.
 pub record Turned : Type 0 where
@@ -18,9 +18,9 @@ pub record Turned : Type 0 where
 abbrev pub ended : Progress → List ℕ → Turned
 ended p m =
     record {
-      progress = record { carry = carryOf []; stage = told (p .stage) (p .carry) m .stage };
-      memory = told (p .stage) (p .carry) m .memory;
-      text = told (p .stage) (p .carry) m .text;
+      progress = record { carry = carryOf []; stage = lineEffect (p .stage) (p .carry) m .stage };
+      memory = lineEffect (p .stage) (p .carry) m .memory;
+      text = lineEffect (p .stage) (p .carry) m .text;
     }
 
 abbrev pub kept : Progress → ℕ → List ℕ → Turned

@@ -6,7 +6,7 @@ use lib.Dec.{eqb}
 use Rattle.octets.specs.Test.{pick}
 use Rattle.octets.specs.Bytes.{part}
 use Rattle.block.specs.Block.{change}
-use Rattle.layout.specs.Layout.{clusterSize, size}
+use Rattle.layout.specs.Layout.{clusterSize, sizeFor}
 use Rattle.events.specs.Event.{fresh}
 use Rattle.lines.specs.declared.Line.{Line}
 use Rattle.input.specs.Carry.{eventIn, nodesIn}
@@ -25,7 +25,7 @@ abbrev pub memorySize : ℕ
 memorySize = clusterSize sessionNodes
 
 abbrev pub lent : ℕ → ℕ
-lent n = min (size n) memorySize
+lent n = min (sizeFor n) memorySize
 
 unfoldable pub cluster : ℕ → List ℕ → List ℕ
 cluster n m = part m 0 (lent n)
@@ -34,19 +34,19 @@ unfoldable pub onCluster : ℕ → (List ℕ → List ℕ) → List ℕ → List
 onCluster n f m = change 0 (lent n) f m
 
 -- What a line that has ended does: where the session is then, its memory, and what is printed.
-pub record Told : Type 0 where
+pub record LineEffect : Type 0 where
   pub stage : Stage
   pub memory : List ℕ
   pub text : List ℕ
 
 -- the first line, which says n, or 0 where it is bad
-abbrev pub opened : ℕ → List ℕ → Told
+abbrev pub opened : ℕ → List ℕ → LineEffect
 opened n m =
     pick (eqb n 0) (record { stage = Over; memory = m; text = badLine 0 })
     (record { stage = Events n 1; memory = onCluster n (λ b. fresh n b .bytes) m; text = [] })
 
 -- the line of event e
-abbrev pub acted : (n e : ℕ) → Line → List ℕ → Told
+abbrev pub acted : (n e : ℕ) → Line → List ℕ → LineEffect
 acted n e l m =
     record {
       stage = Events n (next e);
@@ -54,7 +54,7 @@ acted n e l m =
       text = printed e l (cluster n m);
     }
 
-unfoldable pub told : Stage → Carry → List ℕ → Told
-told First c m = opened (nodesIn c) m
-told (Events n e) c m = acted n e (eventIn c) m
-told Over c m = record { stage = Over; memory = m; text = [] }
+unfoldable pub lineEffect : Stage → Carry → List ℕ → LineEffect
+lineEffect First c m = opened (nodesIn c) m
+lineEffect (Events n e) c m = acted n e (eventIn c) m
+lineEffect Over c m = record { stage = Over; memory = m; text = [] }

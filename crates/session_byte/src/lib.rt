@@ -20,7 +20,7 @@ ghost use Rattle.answers.specs.Answer.{room};
 ghost use Rattle.events.specs.Event.{fresh};
 ghost use Rattle.session_progress.specs.Progress.{textSize};
 ghost use Rattle.session_line.specs.Act.{ran, printed};
-ghost use Rattle.session_byte.specs.Memory.{memorySize, lent, cluster, onCluster, opened, told};
+ghost use Rattle.session_byte.specs.Memory.{memorySize, lent, cluster, onCluster, opened, lineEffect};
 ghost use Rattle.session_byte.specs.Byte.{stepped};
 
 // The most nodes of a session, and its memory: the bytes of their cluster.
@@ -84,9 +84,10 @@ fn first_line(m: &mut [u8], n: usize, out: &mut [u8], at: usize) -> Passed
 // A line that has ended.
 fn pass(m: &mut [u8], s: Stage, c: Carry, out: &mut [u8], at: usize) -> Passed
     requires { ⌜ (length (now m) ≡ memorySize) × (at + room ≤ length (now out)) ⌝ }
-    ensures { λ r. ⌜ (r .stage ≡ told s c (now (m .entry)) .stage) × (now (m .exit) ≡ told s c (now (m .entry)) .memory)
-        × (now (out .exit) ≡ put (now (out .entry)) at (told s c (now (m .entry)) .text))
-        × (r .end ≡ at + length (told s c (now (m .entry)) .text)) ⌝ }
+    ensures { λ r. ⌜ (r .stage ≡ lineEffect s c (now (m .entry)) .stage)
+        × (now (m .exit) ≡ lineEffect s c (now (m .entry)) .memory)
+        × (now (out .exit) ≡ put (now (out .entry)) at (lineEffect s c (now (m .entry)) .text))
+        × (r .end ≡ at + length (lineEffect s c (now (m .entry)) .text)) ⌝ }
 {
     match s {
         Stage::First => first_line(m, input::nodes(c), out, at),

@@ -3,7 +3,7 @@
 use Prim.Native.Nat.{ℕ}
 use mathlib.Core.List.{List}
 use Rattle.record.specs.declared.Operation.the-variants.{Update as UpdateOf, Scan as ScanOf}
-use Rattle.step.specs.Told.{shown}
+use Rattle.step.specs.Told.{toldView}
 use Rattle.layout.specs.Layout.{stated}
 use Rattle.outgoing.specs.declared.Extent.{Extent}
 use Rattle.outgoing.specs.declared.Extent.the-variants.{Whole, Cut}
@@ -31,4 +31,4 @@ ran Bad b = refuse 1 b
 
 -- the bytes printed for event e: a scan's view with an entry for each node that the cluster's bytes state
 unfoldable pub printed : (e : ℕ) → Line → List ℕ → List ℕ
-printed e l b = line e (replyOf (handler l) (toldOf (ran l b))) (stated b) (shown (toldOf (ran l b)))
+printed e l b = line e (replyOf (handler l) (toldOf (ran l b))) (stated b) (toldView (toldOf (ran l b)))

@@ -1,7 +1,7 @@
 // A line of a session, run on a lent cluster, and what is printed for it. The definition is in specs/.
 use answers::ROOM;
 use answers::put_line;
-use events::Answer;
+use events::Reply;
 use layout::STATED_PLACE;
 use lines::Line;
 use record::Operation;
@@ -27,7 +27,7 @@ fn extent_of(x: lines::Extent) -> outgoing::Extent
 }
 
 // The event that a line is.
-fn act(b: &mut [u8], l: Line) -> Answer
+fn act(b: &mut [u8], l: Line) -> Reply
     ensures { λ r. ⌜ tells r (now (b .exit)) (ran l (now (b .entry))) ⌝ }
 {
     match l {

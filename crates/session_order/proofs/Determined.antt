@@ -12,7 +12,7 @@ use Rattle.session_progress.specs.Progress.{badLine}
 use Rattle.session_order.specs.Lines.{Shows, silence, done, scan, spent, refusal, Lines, none, bad, event}
 use Rattle.session_order.specs.Lines.{Determined}
 
-shown-one : {e c : ℕ} {a : H.Answer} {u v : List ℕ} → Shows e c a u → Shows e c a v → u ≡ v
+shown-one : {e c : ℕ} {a : H.Response} {u v : List ℕ} → Shows e c a u → Shows e c a v → u ≡ v
 shown-one silence silence = refl
 shown-one (done r w) (done _ _) = refl
 shown-one (scan r w) (scan _ _) = refl

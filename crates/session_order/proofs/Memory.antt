@@ -9,19 +9,19 @@ use Rattle.octets.specs.Bytes.{part}
 use Rattle.octets.proofs.Test.{both-true}
 use Rattle.octets.proofs.Put.{length-part, length-put, part-same}
 use Rattle.view.specs.Size.{nodes}
-use Rattle.layout.specs.Layout.{clusterSize, size}
+use Rattle.layout.specs.Layout.{clusterSize, sizeFor}
 use Rattle.session_byte.specs.Memory.{memorySize, lent, cluster, onCluster}
 
-size-is : (n : ℕ) → 1 ≤ n → n ≤ 5 → size n ≡ clusterSize n
-unfolding size
-size-is n low high =
+sizeFor-is : (n : ℕ) → 1 ≤ n → n ≤ 5 → sizeFor n ≡ clusterSize n
+unfolding sizeFor
+sizeFor-is n low high =
     let small : n ≤ nodes = omega arith in
     rw (both-true (le-leb 1 n low) (le-leb n nodes small)) refl
 
 pub lent-is : (n : ℕ) → 1 ≤ n → n ≤ 5 → lent n ≡ clusterSize n
 lent-is n low high =
     let fits : min (clusterSize n) memorySize ≡ clusterSize n = omega arith in
-    ap (λ (k : ℕ). min k memorySize) (size-is n low high) ∙ fits
+    ap (λ (k : ℕ). min k memorySize) (sizeFor-is n low high) ∙ fits
 
 module _ (n : ℕ) (m : List ℕ) (long : length m ≡ memorySize) where
   fits : 0 + lent n ≤ length m

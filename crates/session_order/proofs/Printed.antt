@@ -9,15 +9,15 @@ use Rattle.view.specs.Size.{nodes}
 use Rattle.view.specs.declared.View.{View}
 use Rattle.step.specs.declared.Ending.{Ending}
 use Rattle.step.specs.declared.Ending.the-variants.{None, Done, Scan as Scanned, Spent}
-use Rattle.step.specs.Told.{told, shown}
+use Rattle.step.specs.Told.{told, toldView}
 use Rattle.layout.specs.Layout.{stated}
 use Rattle.lines.specs.declared.Line.{Line}
 use Rattle.lines.specs.declared.Line.the-variants.{Update, Scan, Deliver, Stop, Bad}
 use Rattle.answers.specs.Answer.{entryAt, entries, line}
 use Rattle.history.specs.Message as M
 use Rattle.algorithm.specs.Algorithm as A
-use Rattle.refine.specs.Meaning.{entryOf, ruleOf, viewOf}
-use Rattle.mirror.specs.SameResult.{answerOf}
+use Rattle.refine.specs.Meaning.{entryOf, ruleOf, viewMeaning}
+use Rattle.mirror.specs.SameResult.{responseOf}
 use Rattle.mirror.specs.Run.{traceFrom}
 use Rattle.session_progress.specs.Progress.{next}
 use Rattle.session_reply.specs.Reply.{handler, replyOf}
@@ -34,16 +34,16 @@ reports-append (x ∷ v) w =
     ap (λ (r : List ℕ). printedOf x ++ r) (reports-append v w)
     ∙ sym (append-assoc (printedOf x) (reports v) (reports w))
 
-join-reports : (n : ℕ) (v : View) → join n (entryAt v) ≡ reports (viewOf n v)
+join-reports : (n : ℕ) (v : View) → join n (entryAt v) ≡ reports (viewMeaning n v)
 unfolding join A.table
 join-reports zero v = refl
 join-reports (suc n) v =
     let place : n ≡ suc n - 1 = omega arith in
     ap₂ (λ (r : List ℕ) (i : ℕ). r ++ entryAt v i) (join-reports n v) place
-    ∙ ap (λ (r : List ℕ). reports (viewOf n v) ++ r) (sym (append-nil (entryAt v (suc n - 1))))
-    ∙ sym (reports-append (viewOf n v) (entryOf v (suc n) ∷ []))
+    ∙ ap (λ (r : List ℕ). reports (viewMeaning n v) ++ r) (sym (append-nil (entryAt v (suc n - 1))))
+    ∙ sym (reports-append (viewMeaning n v) (entryOf v (suc n) ∷ []))
 
-entries-reports : (n : ℕ) → n ≤ nodes → (v : View) → entries n v ≡ reports (viewOf n v)
+entries-reports : (n : ℕ) → n ≤ nodes → (v : View) → entries n v ≡ reports (viewMeaning n v)
 unfolding entries
 entries-reports n most v =
     let all : min n nodes ≡ n = omega (arith, most) in
@@ -53,16 +53,16 @@ entries-reports n most v =
 
 module _ (n : ℕ) (most : n ≤ nodes) where
   shows : (e c : ℕ) (a : Answer Ending) (v : View)
-      → Shows e c (answerOf n v a) (line e (replyOf c (told a v)) n (shown (told a v)))
+      → Shows e c (responseOf n v a) (line e (replyOf c (told a v)) n (toldView (told a v)))
   unfolding line
   shows e c (refused k) v = refusal k
   shows e c (result None) v = silence
-  shows e c (result (Done r)) v = done (ruleOf r) (viewOf n v)
-  shows e c (result (Scanned r)) v = rw (entries-reports n most v) (scan (ruleOf r) (viewOf n v))
+  shows e c (result (Done r)) v = done (ruleOf r) (viewMeaning n v)
+  shows e c (result (Scanned r)) v = rw (entries-reports n most v) (scan (ruleOf r) (viewMeaning n v))
   shows e c (result Spent) v = spent
 
   says : (e : ℕ) (l : Line) (b : List ℕ) → stated b ≡ n
-      → Shows e (handler l) (answerOf n (ran l b .view) (ran l b .answer)) (printed e l b)
+      → Shows e (handler l) (responseOf n (ran l b .view) (ran l b .answer)) (printed e l b)
   unfolding printed
   says e l b h = rw h (shows e (handler l) (ran l b .answer) (ran l b .view))
 

@@ -23,7 +23,7 @@ use Rattle.history.specs.Event.{none, done, shown, spent}
 use Rattle.history.specs.Trace.{Seen, firstEnding}
 use Rattle.history.specs.Order.{SingleOrder, Quiet}
 use Rattle.history.proofs.RuledOutOpen.{open-scan-out}
-use Rattle.algorithm.specs.Algorithm.{same, limit, table, moveOn, has, within, newest, kept}
+use Rattle.algorithm.specs.Algorithm.{same, limit, table, moveOn, has, includedUpTo, newest, kept}
 use Rattle.eqaso.specs.Cluster as K
 use Rattle.eqaso.specs.Cluster.{traceFrom, trace}
 use Rattle.mirror.specs.Mirrors.{channelRoom}
@@ -33,7 +33,7 @@ use Rattle.session_order.specs.Session.{eventsFrom, traceIn, SessionsOf}
 use Rattle.session_order.proofs.RuledOut.{text, asks, some-asks, scanning, traced, seeing}
 
 -- The view that a done update came by is not seen. It is not printed.
-abbrev viewless : H.Answer → H.Answer
+abbrev viewless : H.Response → H.Response
 viewless (H.refused k) = H.refused k
 viewless (H.accepted none) = H.accepted none
 viewless (H.accepted (done r v)) = H.accepted (done r [])
@@ -57,8 +57,8 @@ read = (refl, refl)
 
 -- computed of the algorithm over sets
 unviewed : SingleOrder 1 (map blurred (trace 1 0 channelRoom (map R.meaning updating))) → ⊥
-unfolding traceFrom K.event K.roomy H.sentTo K.entries moveOn kept table newest within has limit same upd upd2 count
-    ℕ-discrete decLe decLt decide firstEnding
+unfolding traceFrom K.event K.roomy H.sentTo K.entries moveOn kept table newest includedUpTo has limit same upd upd2
+    count ℕ-discrete decLe decLt decide firstEnding
 unviewed o = let wrong : _≡_ {A = ℕ} 0 1 = o .kinds 0 in omega (arith, wrong)
 
 pub order-out : ¬ SessionsOf (seeing (λ t. map blurred (traceIn t)))

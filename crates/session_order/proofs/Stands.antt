@@ -22,7 +22,7 @@ use Rattle.session_progress.specs.Progress.{next, badLine}
 use Rattle.session_progress.specs.declared.Stage.{Stage}
 use Rattle.session_progress.specs.declared.Stage.the-variants.{First, Events, Over}
 use Rattle.session_line.specs.Act.{ran}
-use Rattle.session_byte.specs.Memory.{Told, memorySize, lent, cluster, opened, acted, told}
+use Rattle.session_byte.specs.Memory.{LineEffect, memorySize, lent, cluster, opened, acted, lineEffect}
 use Rattle.session.specs.Text.{leftBy, printedBy, freshOf}
 use Rattle.session_order.proofs.Memory.{lent-is, length-cluster, cluster-on, length-on}
 use Rattle.session_order.proofs.Folds.{counted, counted-more, left-more, printed-more, fresh-is, left-long}
@@ -55,7 +55,7 @@ pub data Stands (m o : List ℕ) : List (List ℕ) → Stage → Type 0 where
       → Stands m o (l ∷ ls) (Events n e)
 
 -- the same after a line that has ended
-abbrev Next : (o : List ℕ) → List (List ℕ) → Told → Type 0
+abbrev Next : (o : List ℕ) → List (List ℕ) → LineEffect → Type 0
 Next o ls τ = (length (τ .memory) ≡ memorySize) × Stands (τ .memory) (o ++ τ .text) ls (τ .stage)
 
 module _ (m o : List ℕ) (long : length m ≡ memorySize) where
@@ -113,8 +113,8 @@ module _ (m o : List ℕ) (long : length m ≡ memorySize) where
 
   -- any line w, of which c is kept
   pub stands-more : {ls : List (List ℕ)} {s : Stage} → Stands m o ls s → (w : List ℕ) {c : Carry} → c ≡ carryOf w
-      → Next o (ls ++ (w ∷ [])) (told s c m)
-  unfolding told
+      → Next o (ls ++ (w ∷ [])) (lineEffect s c m)
+  unfolding lineEffect
   stands-more (first e) w q =
       subst (λ (n : ℕ). Next o (w ∷ []) (opened n m)) (sym (ap nodesIn q ∙ nodes-carry w)) (opens w e)
   stands-more (over z e) w q = (long, over z (append-nil o ∙ e))

@@ -34,7 +34,7 @@ reports (x ∷ w) = printedOf x ++ reports w
 
 -- An ending at node c prints event, `done` or `scan` or `spent`, c, and for a scan the reports of its view; a refusal
 -- prints event, `no`, number.
-pub data Shows (e c : ℕ) : H.Answer → List ℕ → Type 0 where
+pub data Shows (e c : ℕ) : H.Response → List ℕ → Type 0 where
   silence : Shows e c (H.accepted H.none) []
   done : (r : H.Rule) (w : M.View) → Shows e c (H.accepted (H.done r w)) (start e doneIs c ++ feed)
   scan : (r : H.Rule) (w : M.View) → Shows e c (H.accepted (H.shown r w)) (start e scanIs c ++ reports w ++ feed)

@@ -8,7 +8,7 @@ use lib.Dec.{eqb}
 use Rattle.octets.specs.Test.{pick}
 use Rattle.view.specs.View.{noView}
 use Rattle.answers.specs.Answer.{room}
-use Rattle.answers.specs.declared.Reply.the-variants.{No}
+use Rattle.answers.specs.declared.Printed.the-variants.{No}
 use Rattle.answers.proofs.Short.{line-short}
 use Rattle.session_progress.specs.Progress.{badLine, endedAt, finished}
 use Rattle.session_progress.specs.declared.Stage.{Stage}

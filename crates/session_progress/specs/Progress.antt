@@ -7,7 +7,7 @@ use Rattle.octets.specs.Test.{pick}
 use Rattle.view.specs.View.{noView}
 use Rattle.input.specs.Carry.{carryOf}
 use Rattle.answers.specs.Answer.{line, room}
-use Rattle.answers.specs.declared.Reply.the-variants.{No}
+use Rattle.answers.specs.declared.Printed.the-variants.{No}
 use Rattle.session_progress.specs.declared.Stage.{Stage}
 use Rattle.session_progress.specs.declared.Stage.the-variants.{First, Events, Over}
 use Rattle.session_progress.specs.declared.Progress.{Progress}

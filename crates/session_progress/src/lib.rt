@@ -1,7 +1,7 @@
 // What is kept of a session between two pieces of its text: how it starts, whether it is over, and what is printed at
 // its end. The definitions are in specs/.
+use answers::Printed;
 use answers::ROOM;
-use answers::Reply;
 use answers::put_line;
 use input::Carry;
 ghost use mathlib.Core.Path.{_≡_};
@@ -50,7 +50,7 @@ pub fn put_bad(out: &mut [u8], at: usize, e: u64) -> usize
     requires { ⌜ at + room ≤ length (now out) ⌝ }
     ensures { λ r. ⌜ (now (out .exit) ≡ put (now (out .entry)) at (badLine e)) × (r ≡ at + length (badLine e)) ⌝ }
 {
-    put_line(out, at, e, Reply::No(1), 0, view::absent())
+    put_line(out, at, e, Printed::No(1), 0, view::absent())
 }
 
 // A session before its first byte.

@@ -3,8 +3,9 @@ use Prim.Native.Nat.{ℕ}
 use Rattle.step.specs.Told.{Told, refusal, nothing, done, scan, spent}
 use Rattle.lines.specs.declared.Line.{Line}
 use Rattle.lines.specs.declared.Line.the-variants.{Update, Scan, Deliver, Stop, Bad}
-use Rattle.answers.specs.declared.Reply.{Reply}
-use Rattle.answers.specs.declared.Reply.the-variants.{Done as SayDone, Scan as SayScan, Spent as SaySpent, No, Nothing}
+use Rattle.answers.specs.declared.Printed.{Printed}
+use Rattle.answers.specs.declared.Printed.the-variants.{Done as SayDone, Scan as SayScan, Spent as SaySpent, No}
+use Rattle.answers.specs.declared.Printed.the-variants.{Nothing}
 
 -- the node that handles it, and whose operation it may end: of a delivery the receiver
 abbrev pub handler : Line → ℕ
@@ -15,7 +16,7 @@ handler (Stop c) = c
 handler Bad = 0
 
 -- what is said of it, by what it tells in document 01's terms: the ending at that node, or the refusal
-abbrev pub replyOf : ℕ → Told → Reply
+abbrev pub replyOf : ℕ → Told → Printed
 replyOf c (refusal k) = No k
 replyOf c nothing = Nothing
 replyOf c done = SayDone c

@@ -1,8 +1,8 @@
 // What is said of a line of a session that is run: which node handles it, and the reply by what its event tells. The
 // definitions are in specs/.
-use answers::Reply;
-use events::Answer;
+use answers::Printed;
 use events::Outcome;
+use events::Reply;
 use lines::Line;
 use step::Ending;
 use view::View;
@@ -27,23 +27,23 @@ pub fn handler(l: Line) -> usize
 }
 
 // What is said of it, where c is that node.
-fn ending_at(c: usize, e: Ending) -> Reply
+fn ending_at(c: usize, e: Ending) -> Printed
     ensures { λ r. ⌜ ((v : View) → r ≡ replyOf c (tellsOf (result e) v)) ⌝ }
 {
     match e {
-        Ending::None => Reply::Nothing,
-        Ending::Done(_) => Reply::Done(c),
-        Ending::Scan(_) => Reply::Scan(c),
-        Ending::Spent => Reply::Spent(c),
+        Ending::None => Printed::Nothing,
+        Ending::Done(_) => Printed::Done(c),
+        Ending::Scan(_) => Printed::Scan(c),
+        Ending::Spent => Printed::Spent(c),
     }
 }
 
-pub fn reply_at(c: usize, a: Answer) -> Reply
+pub fn reply_at(c: usize, a: Reply) -> Printed
     ensures { λ r. ⌜ r ≡ replyOf c (toldBy a) ⌝ }
 {
     let outcome = a.outcome;
     match outcome {
-        Outcome::Refused(k) => Reply::No(k as usize),
+        Outcome::Refused(k) => Printed::No(k as usize),
         Outcome::Accepted(e) => ending_at(c, e),
     }
 }

@@ -35,7 +35,7 @@ ghost use Rattle.view.specs.Report.{reportOf};
 ghost use Rattle.wire.specs.Codec.{decode};
 ghost use Rattle.figures.specs.Figures.{figuresOf};
 ghost use Rattle.record.specs.declared.Operation.the-variants.{Update, Scan};
-ghost use Rattle.layout.specs.Layout.{size as sizeOf};
+ghost use Rattle.layout.specs.Layout.{sizeFor};
 ghost use Rattle.events.specs.Event.{begin, deliver, fresh};
 ghost use Rattle.events.specs.Outcome.{toldOf};
 ghost use Rattle.events.specs.Stop.{stop};
@@ -46,7 +46,7 @@ ghost use Rattle.codes.specs.Code.{answerCode, lent, wrote};
 // The bytes to lend for a cluster of n nodes; 0 where there may be none.
 #[no_mangle]
 pub extern "C" fn snapshot_size(n: usize) -> usize
-    ensures { λ r. ⌜ r ≡ sizeOf n ⌝ }
+    ensures { λ r. ⌜ r ≡ sizeFor n ⌝ }
 {
     layout::size(n)
 }

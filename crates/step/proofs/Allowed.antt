@@ -28,8 +28,8 @@ use Rattle.wire.specs.declared.Message.{Message}
 use Rattle.wire.specs.declared.Message.the-variants.{Read, ReadAnswer, Write, WriteAnswer, Echo, Value, Good}
 use Rattle.wire.proofs.Numbers.{view-length}
 use Rattle.table.specs.Loop.{either}
-use Rattle.table.specs.Table.{within, entryOk}
-use Rattle.table.proofs.Entries.{within-at, within-all, within-tag}
+use Rattle.table.specs.Table.{viewWithin, entryOk}
+use Rattle.table.proofs.Entries.{viewWithin-at, viewWithin-all, viewWithin-tag}
 use Rattle.step.specs.Allowed.{lawful}
 use Rattle.step.specs.Stale.{writerWithin}
 
@@ -48,18 +48,18 @@ none-is p h =
     refl
 
 -- entry i of a view within t
-module _ (t : ℕ) (v : View) (h : within t v ≡ true) (i : ℕ) (l : i < nodes) where
+module _ (t : ℕ) (v : View) (h : viewWithin t v ≡ true) (i : ℕ) (l : i < nodes) where
   back : i + 1 - 1 ≡ i
   back = omega arith
 
   entry-tag : getD (v .tags) i 0 ≤ t
-  entry-tag = rw back at (within-tag t v (i + 1) h (omega arith) (omega arith))
+  entry-tag = rw back at (viewWithin-tag t v (i + 1) h (omega arith) (omega arith))
 
   entry-none : getD (v .tags) i 0 ≡ 0 → getD (v .reports) i noReport ≡ noReport
   entry-none z =
       let x = getD (v .tags) i 0 in
       let p = getD (v .reports) i noReport in
-      let e : entryOk t x p ≡ true = rw back at (within-at t v (i + 1) h (omega arith) (omega arith)) in
+      let e : entryOk t x p ≡ true = rw back at (viewWithin-at t v (i + 1) h (omega arith) (omega arith)) in
       none-is p (rw z at (both-right (leb x t) (either (leb 1 x) (isNone p)) e))
 
 pub lawful-allowed : (n : ℕ) (m : Message) (v : View) → n ≤ nodes → lawful n m v ≡ true → allowed n m (viewBytes n v)
@@ -72,9 +72,9 @@ lawful-allowed n (WriteAnswer q t) v l h = h
 lawful-allowed n (Echo t) v l h = h
 lawful-allowed n (Value t w p) v l h = h
 lawful-allowed n (Good t) v l h =
-    let o : within t v ≡ true = both-right (isTag t) (within t v) h in
+    let o : viewWithin t v ≡ true = both-right (isTag t) (viewWithin t v) h in
     both-true (eq-eqb (length (viewBytes n v)) (viewSize n) (length-viewBytes n v))
-    (both-true (both-left (isTag t) (within t v) h)
+    (both-true (both-left (isTag t) (viewWithin t v) h)
     (ap (viewOk n t) (sym (append-nil (viewBytes n v)))
     ∙ ok-written n t v [] (λ i k. entry-tag t v o i (omega arith)) (λ i k. entry-none t v o i (omega arith))))
 
@@ -114,9 +114,9 @@ module _ (n t : ℕ) (b : List ℕ) (l : length b ≡ viewSize n) (h : viewOk n 
             ) refl
       ])
 
-  within-read : within t (viewOf n b) ≡ true
+  viewWithin-read : viewWithin t (viewOf n b) ≡ true
   unfolding viewOf
-  within-read = within-all t (viewOf n b) (λ w lo hi. elim (decLe w n) [
+  viewWithin-read = viewWithin-all t (viewOf n b) (λ w lo hi. elim (decLe w n) [
     | yes k ↦ let i : w - 1 < n = omega arith in
         rw (getD-padded n nodes (tagAt b) (w - 1) 0 i, getD-padded n nodes (reportAt b) (w - 1) noReport i)
         (entry-read (w - 1) i)
@@ -136,7 +136,7 @@ allowed-lawful n (Value t w p) b h = h
 allowed-lawful n (Good t) b h =
     let rest = both-right (eqb (length b) (viewSize n)) (both (isTag t) (viewOk n t b)) h in
     both-true (both-left (isTag t) (viewOk n t b) rest)
-    (within-read n t b (view-length n t b h) (both-right (isTag t) (viewOk n t b) rest))
+    (viewWithin-read n t b (view-length n t b h) (both-right (isTag t) (viewOk n t b) rest))
 
 -- ---- the writer of a lawful message
 

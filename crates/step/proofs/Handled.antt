@@ -14,11 +14,11 @@ use Rattle.view.specs.declared.View.{View}
 use Rattle.wire.specs.Layout.{isRequest, isTag}
 use Rattle.wire.specs.declared.Message.{Message}
 use Rattle.wire.specs.declared.Message.the-variants.{Read, ReadAnswer, Write, WriteAnswer, Echo, Value, Good}
-use Rattle.table.specs.Table.{put, newest, within, cell}
+use Rattle.table.specs.Table.{putEntry, newest, viewWithin, cell}
 use Rattle.table.specs.Quorum.{member, with, only}
-use Rattle.table.proofs.Entries.{within-newest, within-put, heard-within-set}
+use Rattle.table.proofs.Entries.{viewWithin-newest, viewWithin-putEntry, heard-within-set}
 use Rattle.table.proofs.Sets.{only-none, only-with}
-use Rattle.record.specs.Record.{waiting}
+use Rattle.record.specs.Record.{withWait}
 use Rattle.record.specs.Usable.{isOpen, full, stillUses, roundTag}
 use Rattle.record.specs.declared.Node.{Node}
 use Rattle.record.specs.declared.Operation.{Operation}
@@ -49,16 +49,16 @@ raised-parts c t p h =
       heard-ok = p .heard-ok;
       last-ok = p .last-ok;
       max-ok =
-          on-picks (λ (x : ℕ) (v : View). within x v ≡ true) (ltb (c .maxtag) t) t (c .maxtag)
+          on-picks (λ (x : ℕ) (v : View). viewWithin x v ≡ true) (ltb (c .maxtag) t) t (c .maxtag)
           (newest t (c .last) (c .atmax)) (c .atmax)
-          (λ e. within-newest limit (c .maxtag) t (c .last) (c .atmax) (p .last-ok) (p .max-ok)
+          (λ e. viewWithin-newest limit (c .maxtag) t (c .last) (c .atmax) (p .last-ok) (p .max-ok)
           (le-of-lt (ltb-true (c .maxtag) t e)))
           (λ e. p .max-ok);
       round-ok = p .round-ok;
       kept-ok = p .kept-ok;
     }
 
-keep-parts : (c : Node) (t : ℕ) (v : View) → Parts c → t ≤ limit → within t v ≡ true → Parts (keep c t v)
+keep-parts : (c : Node) (t : ℕ) (v : View) → Parts c → t ≤ limit → viewWithin t v ≡ true → Parts (keep c t v)
 unfolding keep
 keep-parts c t v p h o =
     record {
@@ -76,7 +76,7 @@ keep-parts c t v p h o =
       max-ok = p .max-ok;
       round-ok = p .round-ok;
       kept-ok =
-          on-picks (λ (x : ℕ) (u : View). within x u ≡ true) (ltb (c .kept) t) t (c .kept) v (c .keptview)
+          on-picks (λ (x : ℕ) (u : View). viewWithin x u ≡ true) (ltb (c .kept) t) t (c .kept) v (c .keptview)
           (λ e. o) (λ e. p .kept-ok);
     }
 
@@ -105,29 +105,30 @@ received-parts c s w t r p z a b l h =
       enough = p .enough;
       heard-ok = heard-within-set (c .heard) (cell s w) t h (p .heard-ok);
       last-ok =
-          on-pick (λ (v : View). within limit v ≡ true) new (put (c .last) w t r) (c .last)
-          (λ e. within-put (c .last) w t r a b limit (z .last) l h (p .last-ok)) (λ e. p .last-ok);
+          on-pick (λ (v : View). viewWithin limit v ≡ true) new (putEntry (c .last) w t r) (c .last)
+          (λ e. viewWithin-putEntry (c .last) w t r a b limit (z .last) l h (p .last-ok)) (λ e. p .last-ok);
       max-ok =
-          on-pick (λ (v : View). within (c .maxtag) v ≡ true) (both new (leb t (c .maxtag))) (put (c .atmax) w t r)
+          on-pick (λ (v : View). viewWithin (c .maxtag) v ≡ true) (both new (leb t (c .maxtag)))
+          (putEntry (c .atmax) w t r)
           (c .atmax)
-          (λ e. within-put (c .atmax) w t r a b (c .maxtag) (z .atmax) l
+          (λ e. viewWithin-putEntry (c .atmax) w t r a b (c .maxtag) (z .atmax) l
           (leb-true t (c .maxtag) (both-right new (leb t (c .maxtag)) e)) (p .max-ok)) (λ e. p .max-ok);
       round-ok =
-          on-pick (λ (v : View). within (roundTag (c .wait)) v ≡ true) (both new (roundHolds (c .wait) t))
-          (put (c .atround) w t r) (c .atround)
-          (λ e. within-put (c .atround) w t r a b (roundTag (c .wait)) (z .atround) l
+          on-pick (λ (v : View). viewWithin (roundTag (c .wait)) v ≡ true) (both new (roundHolds (c .wait) t))
+          (putEntry (c .atround) w t r) (c .atround)
+          (λ e. viewWithin-putEntry (c .atround) w t r a b (roundTag (c .wait)) (z .atround) l
           (holds-tag (c .wait) t (both-right new (roundHolds (c .wait) t) e)) (p .round-ok)) (λ e. p .round-ok);
       kept-ok = p .kept-ok;
     }
 
 -- an answer, at the record with any wait
-read-wait-parts : (c : Node) (s q t : ℕ) (w : Wait) → Parts (waiting c w) → 1 ≤ s → s ≤ c .n → t ≤ limit
-    → Parts (waiting c (readWait (c .request) s q t w))
+read-wait-parts : (c : Node) (s q t : ℕ) (w : Wait) → Parts (withWait c w) → 1 ≤ s → s ≤ c .n → t ≤ limit
+    → Parts (withWait c (readWait (c .request) s q t w))
 read-wait-parts c s q t (Reading o a m) p l k h =
-    let d = waiting c (Reading o a m) in
+    let d = withWait c (Reading o a m) in
     let ok : (only (c .n) a ≡ true) × (m ≤ limit) = reading-ok (c .n) o a m (p .wait-ok) in
-    on-pick (λ w. Parts (waiting c w)) (eqb q (c .request)) _ _
-    (λ e. on-pick (λ w. Parts (waiting c w)) (member a s) _ _ (λ e. p)
+    on-pick (λ w. Parts (withWait c w)) (eqb q (c .request)) _ _
+    (λ e. on-pick (λ w. Parts (withWait c w)) (member a s) _ _ (λ e. p)
     (λ e. set-wait-parts d (c .request) (Reading o (with a s) (max m t)) (c .atround) p (p .request-high)
     (reading-of (c .n) o (with a s) (max m t) (only-with (c .n) a s l k ∙ ok .0) (max-most m t limit (ok .1) h))
     (p .enough) (p .round-ok)))
@@ -137,14 +138,14 @@ read-wait-parts c s q t (Writing kd i r a) p l k h = p
 read-wait-parts c s q t (Comparing kd i r) p l k h = p
 read-wait-parts c s q t (Borrowing kd r) p l k h = p
 
-write-wait-parts : (c : Node) (s q t : ℕ) (w : Wait) → Parts (waiting c w) → 1 ≤ s → s ≤ c .n
-    → Parts (waiting c (writeWait (c .request) s q t w))
+write-wait-parts : (c : Node) (s q t : ℕ) (w : Wait) → Parts (withWait c w) → 1 ≤ s → s ≤ c .n
+    → Parts (withWait c (writeWait (c .request) s q t w))
 write-wait-parts c s q t (Writing kd i r a) p l k =
-    let d = waiting c (Writing kd i r a) in
+    let d = withWait c (Writing kd i r a) in
     let ok = writing-ok (c .n) kd i r a (p .wait-ok) in
-    on-pick (λ w. Parts (waiting c w)) (eqb q (c .request)) _ _
-    (λ e. on-pick (λ w. Parts (waiting c w)) (eqb t r) _ _
-    (λ e. on-pick (λ w. Parts (waiting c w)) (member a s) _ _ (λ e. p)
+    on-pick (λ w. Parts (withWait c w)) (eqb q (c .request)) _ _
+    (λ e. on-pick (λ w. Parts (withWait c w)) (eqb t r) _ _
+    (λ e. on-pick (λ w. Parts (withWait c w)) (member a s) _ _ (λ e. p)
     (λ e. set-wait-parts d (c .request) (Writing kd i r (with a s)) (c .atround) p (p .request-high)
     (writing-of (c .n) kd i r (with a s) (only-with (c .n) a s l k ∙ ok .0) (ok .1)) (p .enough) (p .round-ok)))
     (λ e. p))
@@ -176,11 +177,12 @@ react-parts c s (Value t w r) v p z l k h =
     received-parts c s w t r p z (leb-true 1 w (both-left (leb 1 w) (leb w (c .n)) b)) (omega arith)
     (leb-true 1 t (both-left (leb 1 t) (isTag t) a)) (leb-true t limit (both-right (leb 1 t) (isTag t) a))
 react-parts c s (Good t) v p z l k h =
-    keep-parts c t v p (leb-true t limit (both-left (isTag t) (within t v) h)) (both-right (isTag t) (within t v) h)
+    keep-parts c t v p (leb-true t limit (both-left (isTag t) (viewWithin t v) h))
+    (both-right (isTag t) (viewWithin t v) h)
 
 -- ---- the begin
 
-idle-tag : (c : Node) (w : Wait) → Parts (waiting c w) → isOpen w ≡ false → within limit (c .atround) ≡ true
+idle-tag : (c : Node) (w : Wait) → Parts (withWait c w) → isOpen w ≡ false → viewWithin limit (c .atround) ≡ true
 idle-tag c Idle p e = p .round-ok
 idle-tag c (Reading o a m) p e = true-false true refl e
 idle-tag c (Writing k i r a) p e = true-false true refl e

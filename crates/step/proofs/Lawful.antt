@@ -15,12 +15,12 @@ use Rattle.octets.proofs.Test.{both-right, both-true}
 use Rattle.view.specs.Size.{nodes, limit}
 use Rattle.view.specs.View.{noView}
 use Rattle.view.specs.declared.View.{View}
-use Rattle.wire.specs.Layout.{twoSize, size, isRequest, isTag}
+use Rattle.wire.specs.Layout.{twoSize, messageSize, isRequest, isTag}
 use Rattle.wire.specs.declared.Message.{Message}
 use Rattle.wire.specs.declared.Message.the-variants.{Read, ReadAnswer, Write, WriteAnswer, Echo, Value, Good}
-use Rattle.table.specs.Quorum.{size as setSize, isQuorum, agreeing}
-use Rattle.table.proofs.Entries.{within-first}
-use Rattle.record.specs.Record.{waiting}
+use Rattle.table.specs.Quorum.{setSize, isQuorum, agreeing}
+use Rattle.table.proofs.Entries.{viewWithin-first}
+use Rattle.record.specs.Record.{withWait}
 use Rattle.record.specs.declared.Node.{Node}
 use Rattle.record.specs.declared.Operation.{Operation}
 use Rattle.record.specs.declared.Operation.the-variants.{Update, Scan}
@@ -65,14 +65,14 @@ write-lawful n v q t h k = both-true (is-request q h) (le-leb t limit k)
 
 one-write : (n : ℕ) (v : View) (q t b : ℕ) → q + 1 ≤ limit → t ≤ limit → twoSize ≤ b
     → Part n v b (One (Write (q + 1) t))
-unfolding size
+unfolding messageSize
 one-write n v q t b h k l = record { lawful-all = (write-lawful n v q t h k, tt); small = omega arith }
 
 -- ---- the handlers
 
 module _ (c : Node) (s : ℕ) (v u : View) (p : Parts c) where
   handler-part : (m : Message) → lawful (c .n) m v ≡ true → Part (c .n) u handlerMost (react c s m v .outbox .handler)
-  unfolding react size
+  unfolding react messageSize
   handler-part (Read q) h = record {
     lawful-all = (both-true h (le-leb (c .maxtag) limit (p .max-high)), tt);
     small = omega arith;
@@ -120,8 +120,8 @@ react-sends c s m v p h = rw (react-started c s m v)
 -- ---- the passes
 
 module _ (f : ℕ) (s : Step) (k : Sends (s .node .n) s) where
-  read-sends : (w : Wait) → Parts (waiting (s .node) w) → Sends (s .node .n) (readPass f s (waiting (s .node) w) w)
-  unfolding readPass afterRead size
+  read-sends : (w : Wait) → Parts (withWait (s .node) w) → Sends (s .node .n) (readPass f s (withWait (s .node) w) w)
+  unfolding readPass afterRead messageSize
   read-sends (Reading (Update r) a m) p =
       let c = s .node in
       let t : ℕ = max m (c .maxtag) in
@@ -172,15 +172,15 @@ module _ (f : ℕ) (s : Step) (k : Sends (s .node .n) s) where
   write-sends (Comparing kd i r) = k
   write-sends (Borrowing kd r) = k
 
-  compare-sends : (w : Wait) → Parts (waiting (s .node) w) → Sends (s .node .n)
-      (comparePass f s (waiting (s .node) w) w)
-  unfolding comparePass afterGood afterFailed size
+  compare-sends : (w : Wait) → Parts (withWait (s .node) w) → Sends (s .node .n)
+      (comparePass f s (withWait (s .node) w) w)
+  unfolding comparePass afterGood afterFailed messageSize
   compare-sends (Comparing kd i r) p =
-      let c = waiting (s .node) (Comparing kd i r) in
+      let c = withWait (s .node) (Comparing kd i r) in
       let o : Round i r = round-parts i r (p .wait-ok) in
       let n = s .node .n in
       let good : lawful n (Good r) (heldView c) ≡ true =
-      both-true (le-leb r limit (o .tag)) (within-first n r (c .atround) (p .round-ok)) in
+      both-true (le-leb r limit (o .tag)) (viewWithin-first n r (c .atround) (p .round-ok)) in
       on-pick (Sends n) (isQuorum n f (agreeing n (c .own) (c .heard) (c .atround .tags))) _ _
       (λ e. on-pick (Sends n) (leb (c .maxtag) r) _ _
       (λ e. on-pick (Sends n) (eqb i 0) _ _
@@ -252,7 +252,7 @@ move-on-sends f s p k =
     subst (λ (n : ℕ). Sends n (borrows d)) (ed ∙ eb ∙ ea) (borrow-sends f d kd (d .node .wait))
 
 pub begun-sends : (c : Node) (o : Operation) → c .request + 1 ≤ limit → Sends (c .n) (begun c o)
-unfolding begun size
+unfolding begun messageSize
 begun-sends c o h = started-sends (c .n) (begun c o .node) (c .own) (One (Read (c .request + 1)))
     (λ u. record { lawful-all = (is-request (c .request) h, tt); small = omega arith })
 
@@ -264,8 +264,8 @@ lawful-append n v (m ∷ a) b x y = (x .0, lawful-append n v a b (x .1) y)
 
 sizes-append : (n : ℕ) (a b : List Message) → sizes n (a ++ b) ≡ sizes n a + sizes n b
 sizes-append n [] b = omega arith
-sizes-append n (m ∷ a) b = ap (λ (x : ℕ). size n m + x) (sizes-append n a b)
-    ∙ sym (add-assoc (size n m) (sizes n a) (sizes n b))
+sizes-append n (m ∷ a) b = ap (λ (x : ℕ). messageSize n m + x) (sizes-append n a b)
+    ∙ sym (add-assoc (messageSize n m) (sizes n a) (sizes n b))
 
 pub all-lawful : (n : ℕ) (s : Step) → Sends n s → AllLawful n (s .outbox .view) (messages (s .outbox))
 all-lawful n s k =

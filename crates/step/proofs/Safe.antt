@@ -10,11 +10,11 @@ use borrow.Author.Tests.{eqb-true, eqb-false, ltb-true, le-leb}
 use Rattle.view.specs.Size.{limit}
 use Rattle.view.specs.View.{noView}
 use Rattle.view.specs.declared.View.{View}
-use Rattle.table.specs.Table.{newest, within}
-use Rattle.table.specs.Quorum.{size, isQuorum, agreeing}
-use Rattle.table.proofs.Entries.{within-absent, within-newest}
+use Rattle.table.specs.Table.{newest, viewWithin}
+use Rattle.table.specs.Quorum.{setSize, isQuorum, agreeing}
+use Rattle.table.proofs.Entries.{viewWithin-absent, viewWithin-newest}
 use Rattle.table.proofs.Sets.{only-none}
-use Rattle.record.specs.Record.{setWait, waiting, closed}
+use Rattle.record.specs.Record.{setWait, withWait, closed}
 use Rattle.record.specs.Usable.{stillUses, roundTag, waitOk}
 use Rattle.record.specs.declared.Node.{Node}
 use Rattle.record.specs.declared.Operation.{Operation}
@@ -35,7 +35,7 @@ Fit s = Parts (s .node)
 
 -- another request number, wait and reports held for the round
 pub set-wait-parts : (c : Node) (q : ℕ) (w : Wait) (v : View) → Parts c → q ≤ limit → waitOk (c .n) w ≡ true
-    → stillUses w ≤ limit - q → within (roundTag w) v ≡ true → Parts (setWait c q w v)
+    → stillUses w ≤ limit - q → viewWithin (roundTag w) v ≡ true → Parts (setWait c q w v)
 set-wait-parts c q w v p a b e h =
     record {
       n-low = p .n-low;
@@ -56,7 +56,7 @@ set-wait-parts c q w v p a b e h =
 
 closed-parts : (c : Node) (w : Wait) → Parts c → waitOk (c .n) w ≡ true → stillUses w ≡ 0 → Parts (closed c w)
 closed-parts c w p b e =
-    set-wait-parts c (c .request) w noView p (p .request-high) b (rw e (omega arith)) (within-absent (roundTag w))
+    set-wait-parts c (c .request) w noView p (p .request-high) b (rw e (omega arith)) (viewWithin-absent (roundTag w))
 
 -- a round opens with a tag that is not below maxtag
 opened-parts : (c : Node) (k : Kind) (i r : ℕ) → Parts c → c .maxtag ≤ r → Round i r → 1 + (3 - i) ≤ limit - c .request
@@ -65,7 +65,7 @@ unfolding opened
 opened-parts c k i r p h o e =
     set-wait-parts c (c .request + 1) (Writing k i r 0) (newest r (c .last) (c .atmax)) p (omega arith)
     (writing-of (c .n) k i r 0 (only-none (c .n)) o) (omega arith)
-    (within-newest limit (c .maxtag) r (c .last) (c .atmax) (p .last-ok) (p .max-ok) h)
+    (viewWithin-newest limit (c .maxtag) r (c .last) (c .atmax) (p .last-ok) (p .max-ok) h)
 
 -- ---- after a quorum of read answers
 
@@ -85,12 +85,12 @@ after-read-parts s c Scan a m r p h l e =
     opened-parts c ScanKind 1 r p h (record { round = omega arith; tag = l; first = λ z. absurd (omega arith) }) e
 
 -- each pass, at the record with any wait
-read-pass-parts : (f : ℕ) (s : Step) (c : Node) (w : Wait) → Parts (s .node) → Parts (waiting c w)
-    → Parts (readPass f s (waiting c w) w .node)
+read-pass-parts : (f : ℕ) (s : Step) (c : Node) (w : Wait) → Parts (s .node) → Parts (withWait c w)
+    → Parts (readPass f s (withWait c w) w .node)
 unfolding readPass
 read-pass-parts f s c (Reading o a m) q p =
-    on-pick Fit (isQuorum (c .n) f (size (c .n) a)) _ _
-    (λ t. after-read-parts s (waiting c (Reading o a m)) o a m (max m (c .maxtag)) p (le-max-right m (c .maxtag))
+    on-pick Fit (isQuorum (c .n) f (setSize (c .n) a)) _ _
+    (λ t. after-read-parts s (withWait c (Reading o a m)) o a m (max m (c .maxtag)) p (le-max-right m (c .maxtag))
     (max-most m (c .maxtag) limit (reading-ok (c .n) o a m (p .wait-ok) .1) (p .max-high)) (p .enough))
     (λ t. q)
 read-pass-parts f s c Idle q p = q
@@ -98,12 +98,12 @@ read-pass-parts f s c (Writing k i r a) q p = q
 read-pass-parts f s c (Comparing k i r) q p = q
 read-pass-parts f s c (Borrowing k r) q p = q
 
-write-pass-parts : (f : ℕ) (s : Step) (c : Node) (w : Wait) → Parts (s .node) → Parts (waiting c w)
-    → Parts (writePass f s (waiting c w) w .node)
+write-pass-parts : (f : ℕ) (s : Step) (c : Node) (w : Wait) → Parts (s .node) → Parts (withWait c w)
+    → Parts (writePass f s (withWait c w) w .node)
 unfolding writePass
 write-pass-parts f s c (Writing k i r a) q p =
-    on-pick Fit (isQuorum (c .n) f (size (c .n) a)) _ _
-    (λ t. set-wait-parts (waiting c (Writing k i r a)) (c .request) (Comparing k i r) (c .atround) p (p .request-high)
+    on-pick Fit (isQuorum (c .n) f (setSize (c .n) a)) _ _
+    (λ t. set-wait-parts (withWait c (Writing k i r a)) (c .request) (Comparing k i r) (c .atround) p (p .request-high)
     (round-of i r (writing-ok (c .n) k i r a (p .wait-ok) .1)) (p .enough) (p .round-ok))
     (λ t. q)
 write-pass-parts f s c Idle q p = q
@@ -142,11 +142,11 @@ after-failed-parts s c k i r p o e = on-pick Fit (ltb i 3) _ _
     (record { round = omega arith; tag = next-high c i r p o; first = λ x. absurd (omega arith) }) (omega arith))
     (λ t. closed-parts c (Borrowing k r) p (le-leb r limit (o .tag)) refl)
 
-compare-pass-parts : (f : ℕ) (s : Step) (c : Node) (w : Wait) → Parts (s .node) → Parts (waiting c w)
-    → Parts (comparePass f s (waiting c w) w .node)
+compare-pass-parts : (f : ℕ) (s : Step) (c : Node) (w : Wait) → Parts (s .node) → Parts (withWait c w)
+    → Parts (comparePass f s (withWait c w) w .node)
 unfolding comparePass
 compare-pass-parts f s c (Comparing k i r) q p =
-    let d = waiting c (Comparing k i r) in
+    let d = withWait c (Comparing k i r) in
     let o : Round i r = round-parts i r (p .wait-ok) in
     on-pick Fit (isQuorum (c .n) f (agreeing (c .n) (c .own) (c .heard) (c .atround .tags))) _ _
     (λ t. on-pick Fit (leb (c .maxtag) r) _ _
@@ -158,11 +158,11 @@ compare-pass-parts f s c (Reading o a m) q p = q
 compare-pass-parts f s c (Writing k i r a) q p = q
 compare-pass-parts f s c (Borrowing k r) q p = q
 
-borrow-pass-parts : (s : Step) (c : Node) (w : Wait) → Parts (s .node) → Parts (waiting c w)
-    → Parts (borrowPass s (waiting c w) w .node)
+borrow-pass-parts : (s : Step) (c : Node) (w : Wait) → Parts (s .node) → Parts (withWait c w)
+    → Parts (borrowPass s (withWait c w) w .node)
 unfolding borrowPass
 borrow-pass-parts s c (Borrowing k r) q p = on-pick Fit (leb r (c .kept)) _ _
-    (λ t. closed-parts (waiting c (Borrowing k r)) Idle p refl refl)
+    (λ t. closed-parts (withWait c (Borrowing k r)) Idle p refl refl)
     (λ t. q)
 borrow-pass-parts s c Idle q p = q
 borrow-pass-parts s c (Reading o a m) q p = q

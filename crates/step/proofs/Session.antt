@@ -9,9 +9,9 @@ use Rattle.wire.specs.declared.Message.{Message}
 use Rattle.wire.specs.declared.Message.the-variants.{ReadAnswer, Write, WriteAnswer, Echo, Value, Good}
 use Rattle.octets.specs.Loop as Octets
 use Rattle.view.specs.View.{noView, firstOf}
-use Rattle.table.specs.Loop.{all, count, tab}
-use Rattle.table.specs.Table.{put, newest}
-use Rattle.table.specs.Quorum.{member, with, size, agrees, agreeing}
+use Rattle.table.specs.Loop.{all, count, numbered}
+use Rattle.table.specs.Table.{putEntry, newest}
+use Rattle.table.specs.Quorum.{member, with, setSize, agrees, agreeing}
 use Rattle.record.specs.Record.{blank}
 use Rattle.record.specs.declared.Node.{Node}
 use Rattle.record.specs.declared.Operation.the-variants.{Update, Scan}
@@ -68,10 +68,10 @@ updated : deliver 12 (update .node) (letters update) ≡
     quiet (ReadAnswer 1 0 ∷ []) ∷ quiet (Value 1 1 p ∷ Write 2 0 ∷ []) ∷ quiet (Value 1 1 p ∷ []) ∷ quiet
     (WriteAnswer 2 0 ∷ [])
     ∷ quiet [] ∷ quiet (Good 0 ∷ Write 3 1 ∷ []) ∷ quiet [] ∷ quiet (Echo 1 ∷ WriteAnswer 3 1 ∷ []) ∷ quiet []
-    ∷ record { sent = Good 1 ∷ []; ending = Done (Direct 1); view = put noView 1 1 p } ∷ quiet [] ∷ []
+    ∷ record { sent = Good 1 ∷ []; ending = Done (Direct 1); view = putEntry noView 1 1 p } ∷ quiet [] ∷ []
 unfolding deliver update p quiet messageStep begun beginStep moveOn readPass writePass comparePass borrowPass afterRead
-    afterGood afterFailed opened react raised received keep all count tab newest member with size agrees agreeing
-    firstOf Octets.tab
+    afterGood afterFailed opened react raised received keep all count numbered newest member with setSize agrees
+    agreeing firstOf Octets.tab
 updated = refl
 
 -- the scan after it
@@ -80,8 +80,8 @@ scan = beginStep 0 (last 11 (update .node) (letters update)) Scan
 
 scanned : deliver 6 (scan .node) (letters scan) ≡
     quiet (ReadAnswer 4 1 ∷ []) ∷ quiet (Write 5 1 ∷ []) ∷ quiet (WriteAnswer 5 1 ∷ [])
-    ∷ record { sent = Good 1 ∷ []; ending = Scanned (Direct 1); view = put noView 1 1 p } ∷ quiet [] ∷ []
+    ∷ record { sent = Good 1 ∷ []; ending = Scanned (Direct 1); view = putEntry noView 1 1 p } ∷ quiet [] ∷ []
 unfolding deliver last scan update p quiet messageStep begun beginStep moveOn readPass writePass comparePass borrowPass
-    afterRead afterGood afterFailed opened react raised received keep all count tab newest member with size agrees
-    agreeing firstOf Octets.tab
+    afterRead afterGood afterFailed opened react raised received keep all count numbered newest member with setSize
+    agrees agreeing firstOf Octets.tab
 scanned = refl

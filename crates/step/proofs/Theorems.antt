@@ -13,12 +13,12 @@ use Rattle.view.specs.Size.{limit, nodes}
 use Rattle.view.specs.View.{AbsentPast}
 use Rattle.view.proofs.First.{none-absent}
 use Rattle.view.specs.declared.View.{View}
-use Rattle.wire.specs.Layout.{size as wire-size}
+use Rattle.wire.specs.Layout.{messageSize}
 use Rattle.wire.specs.declared.Message.{Message}
 use Rattle.wire.specs.declared.Message.the-variants.{Read, ReadAnswer, Write, WriteAnswer, Echo, Value, Good}
-use Rattle.table.proofs.Sets.{size-with}
+use Rattle.table.proofs.Sets.{setSize-with}
 use Rattle.record.specs.Usable.{usable}
-use Rattle.record.specs.Record.{waiting}
+use Rattle.record.specs.Record.{withWait}
 use Rattle.record.specs.declared.Node.{Node}
 use Rattle.record.specs.declared.Wait.{Wait}
 use Rattle.record.specs.declared.Wait.the-variants.{Idle, Reading, Writing, Comparing, Borrowing}
@@ -131,8 +131,8 @@ growth-echoed f c s (Good t) v = carried f (c .maxtag) (react c s (Good t) v) (�
 -- ---- answers
 
 -- a handler that leaves the wait
-left : (c : Node) (s : ℕ) {w : Wait} → w ≡ c .wait → started (waiting c w) s Nothing ≡ started c s Nothing
-left c s e = ap (λ (w : Wait). started (waiting c w) s Nothing) e
+left : (c : Node) (s : ℕ) {w : Wait} → w ≡ c .wait → started (withWait c w) s Nothing ≡ started c s Nothing
+left c s e = ap (λ (w : Wait). started (withWait c w) s Nothing) e
 
 pub read-unawaited : claim.ReadUnawaited
 unfolding react
@@ -166,9 +166,9 @@ read-again c s q t v o a m e h =
 pub read-counts : claim.ReadCounts
 unfolding react
 read-counts c s q t v o a m e n h l k = (
-  ap (λ (w : Wait). started (waiting c w) s Nothing)
+  ap (λ (w : Wait). started (withWait c w) s Nothing)
       (ap (readWait (c .request) s q t) e ∙ rw (eq-eqb q (c .request) n, h)),
-  size-with (c .n) a s l k h,
+  setSize-with (c .n) a s l k h,
 )
 
 pub write-again : claim.WriteAgain
@@ -188,9 +188,9 @@ write-other-tag c s q t v k i r a e d =
 pub write-counts : claim.WriteCounts
 unfolding react
 write-counts c s q t v k i r a e n y h l z = (
-  ap (λ (w : Wait). started (waiting c w) s Nothing)
+  ap (λ (w : Wait). started (withWait c w) s Nothing)
       (ap (writeWait (c .request) s q t) e ∙ rw (eq-eqb q (c .request) n, eq-eqb t r y, h)),
-  size-with (c .n) a s l z h,
+  setSize-with (c .n) a s l z h,
 )
 
 -- ---- the begin
@@ -216,5 +216,5 @@ unfolding beginStep begun
 begin-waits f c o u i j h = must-wait f (begun c o) h
 
 pub begin-fits : claim.BeginFits
-unfolding wire-size
+unfolding messageSize
 begin-fits f c o u i j h = rw (begin-asks-only f c o u i j h .1) (omega arith)

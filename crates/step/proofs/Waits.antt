@@ -6,9 +6,9 @@ use native.Mathlib.Omega.{arith}
 use lib.Dec.{leb, ltb, eqb}
 use borrow.Author.Tests.{lt-leb}
 use Rattle.view.specs.Size.{limit}
-use Rattle.table.specs.Quorum.{size, isQuorum, agreeing}
-use Rattle.table.proofs.Sets.{size-none}
-use Rattle.record.specs.Record.{waiting}
+use Rattle.table.specs.Quorum.{setSize, isQuorum, agreeing}
+use Rattle.table.proofs.Sets.{setSize-none}
+use Rattle.record.specs.Record.{withWait}
 use Rattle.record.specs.declared.Node.{Node}
 use Rattle.record.specs.declared.Operation.{Operation}
 use Rattle.record.specs.declared.Operation.the-variants.{Update, Scan}
@@ -23,8 +23,8 @@ use Rattle.step.proofs.Numbers.{on-pick}
 use Rattle.step.proofs.Same.{reads-keep, writes-keep, compares-keep}
 
 -- nobody is no quorum
-pub no-quorum : (n f : ℕ) → f < n → isQuorum n f (size n 0) ≡ false
-no-quorum n f h = rw (size-none n) (lt-leb (n - f) 0 (omega arith))
+pub no-quorum : (n f : ℕ) → f < n → isQuorum n f (setSize n 0) ≡ false
+no-quorum n f h = rw (setSize-none n) (lt-leb (n - f) 0 (omega arith))
 
 -- ---- pass by pass
 
@@ -41,35 +41,35 @@ At f k s = Past f k (s .node) (s .node .wait)
 
 -- the step with another wait
 abbrev with-wait : Step → Wait → Step
-with-wait s w = ended s (waiting (s .node) w) (s .ending) (s .view)
+with-wait s w = ended s (withWait (s .node) w) (s .ending) (s .view)
 
 module _ (f : ℕ) (s : Step) (h : f < s .node .n) where
-  read-past : (w : Wait) → At f 1 (readPass f (with-wait s w) (waiting (s .node) w) w)
+  read-past : (w : Wait) → At f 1 (readPass f (with-wait s w) (withWait (s .node) w) w)
   unfolding readPass afterRead opened
   read-past (Reading (Update p) a m) =
-      on-pick (At f 1) (isQuorum (s .node .n) f (size (s .node .n) a)) _ _
+      on-pick (At f 1) (isQuorum (s .node .n) f (setSize (s .node .n) a)) _ _
       (λ e. on-pick (At f 1) (eqb (max m (s .node .maxtag)) limit) _ _ (λ e. tt) (λ e l. no-quorum (s .node .n) f h))
       (λ e l. e)
   read-past (Reading Scan a m) =
-      on-pick (At f 1) (isQuorum (s .node .n) f (size (s .node .n) a)) _ _ (λ e l. no-quorum (s .node .n) f h)
+      on-pick (At f 1) (isQuorum (s .node .n) f (setSize (s .node .n) a)) _ _ (λ e l. no-quorum (s .node .n) f h)
       (λ e l. e)
   read-past Idle = tt
   read-past (Writing kd i r a) = λ l. absurd (omega arith)
   read-past (Comparing kd i r) = λ l. absurd (omega arith)
   read-past (Borrowing kd r) = λ l. absurd (omega arith)
 
-  write-past : (w : Wait) → Past f 1 (waiting (s .node) w) w
-      → At f 2 (writePass f (with-wait s w) (waiting (s .node) w) w)
+  write-past : (w : Wait) → Past f 1 (withWait (s .node) w) w
+      → At f 2 (writePass f (with-wait s w) (withWait (s .node) w) w)
   unfolding writePass
   write-past (Writing kd i r a) p =
-      on-pick (At f 2) (isQuorum (s .node .n) f (size (s .node .n) a)) _ _ (λ e l. absurd (omega arith)) (λ e l. e)
+      on-pick (At f 2) (isQuorum (s .node .n) f (setSize (s .node .n) a)) _ _ (λ e l. absurd (omega arith)) (λ e l. e)
   write-past Idle p = tt
   write-past (Reading o a m) p = λ l. p (omega arith)
   write-past (Comparing kd i r) p = λ l. absurd (omega arith)
   write-past (Borrowing kd r) p = λ l. absurd (omega arith)
 
-  compare-past : (w : Wait) → Past f 2 (waiting (s .node) w) w
-      → At f 3 (comparePass f (with-wait s w) (waiting (s .node) w) w)
+  compare-past : (w : Wait) → Past f 2 (withWait (s .node) w) w
+      → At f 3 (comparePass f (with-wait s w) (withWait (s .node) w) w)
   unfolding comparePass afterGood afterFailed opened
   compare-past (Comparing kd i r) p =
       on-pick (At f 3) (isQuorum (s .node .n) f (agreeing (s .node .n) (s .node .own) (s .node .heard)
@@ -83,8 +83,8 @@ module _ (f : ℕ) (s : Step) (h : f < s .node .n) where
   compare-past (Writing kd i r a) p = λ l. p (omega arith)
   compare-past (Borrowing kd r) p = λ l. absurd (omega arith)
 
-  borrow-past : (w : Wait) → Past f 3 (waiting (s .node) w) w
-      → At f 4 (borrowPass (with-wait s w) (waiting (s .node) w) w)
+  borrow-past : (w : Wait) → Past f 3 (withWait (s .node) w) w
+      → At f 4 (borrowPass (with-wait s w) (withWait (s .node) w) w)
   unfolding borrowPass
   borrow-past (Borrowing kd r) p = on-pick (At f 4) (leb r (s .node .kept)) _ _ (λ e. tt) (λ e l. e)
   borrow-past Idle p = tt

@@ -8,7 +8,7 @@ use Rattle.view.specs.declared.View.{View}
 use Rattle.wire.specs.Layout.{isRequest, isTag}
 use Rattle.wire.specs.declared.Message.{Message}
 use Rattle.wire.specs.declared.Message.the-variants.{Read, ReadAnswer, Write, WriteAnswer, Echo, Value, Good}
-use Rattle.table.specs.Table.{within}
+use Rattle.table.specs.Table.{viewWithin}
 
 -- a message for n nodes, with its view where it is a good one
 abbrev pub lawful : ℕ → Message → View → Bool
@@ -18,4 +18,4 @@ lawful n (Write q t) v = both (isRequest q) (isTag t)
 lawful n (WriteAnswer q t) v = both (isRequest q) (isTag t)
 lawful n (Echo t) v = both (leb 1 t) (isTag t)
 lawful n (Value t w p) v = both (both (leb 1 t) (isTag t)) (both (leb 1 w) (leb w n))
-lawful n (Good t) v = both (isTag t) (within t v)
+lawful n (Good t) v = both (isTag t) (viewWithin t v)

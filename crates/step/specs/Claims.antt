@@ -9,10 +9,10 @@ use lib.Dec.{leb}
 use lib.ListN.{length}
 use Rattle.view.specs.declared.View.{View}
 use Rattle.view.specs.Size.{nodes}
-use Rattle.wire.specs.Layout.{oneSize, twoSize, valueSize, goodSize, size}
+use Rattle.wire.specs.Layout.{oneSize, twoSize, valueSize, goodSize, messageSize}
 use Rattle.wire.specs.declared.Message.{Message}
 use Rattle.wire.specs.declared.Message.the-variants.{Echo}
-use Rattle.table.specs.Quorum.{size as setSize, isQuorum, agreeing}
+use Rattle.table.specs.Quorum.{setSize, isQuorum, agreeing}
 use Rattle.record.specs.declared.Node.{Node}
 use Rattle.record.specs.declared.Wait.{Wait}
 use Rattle.record.specs.declared.Wait.the-variants.{Idle, Reading, Writing, Comparing, Borrowing}
@@ -32,7 +32,7 @@ AllLawful n v (m ∷ ms) = (lawful n m v ≡ true) × AllLawful n v ms
 -- how many bytes the messages of a list have together
 abbrev pub sizes : ℕ → List Message → ℕ
 sizes n [] = 0
-sizes n (m ∷ ms) = size n m + sizes n ms
+sizes n (m ∷ ms) = messageSize n m + sizes n ms
 
 -- The most bytes that each part of a step sends: a handler an echo and a write answer, or a value; after a quorum of
 -- read answers a value and a write; after agreement a good message and a write. Of the last two one is empty.

@@ -10,9 +10,9 @@ use Rattle.view.specs.declared.View.{View}
 use Rattle.wire.specs.declared.Message.{Message}
 use Rattle.wire.specs.declared.Message.the-variants.{Read, ReadAnswer, Write, WriteAnswer, Echo, Value, Good}
 use Rattle.octets.specs.Test.{pick, both}
-use Rattle.table.specs.Table.{tagOf, put, newest, cell}
+use Rattle.table.specs.Table.{tagOf, putEntry, newest, cell}
 use Rattle.table.specs.Quorum.{member, with}
-use Rattle.record.specs.Record.{setTop, setTables, setKept, waiting}
+use Rattle.record.specs.Record.{setTop, setTables, setKept, withWait}
 use Rattle.record.specs.declared.Node.{Node}
 use Rattle.record.specs.declared.Wait.{Wait}
 use Rattle.record.specs.declared.Wait.the-variants.{Idle, Reading, Writing, Comparing, Borrowing}
@@ -63,9 +63,9 @@ isNew c w t = ltb (tagOf (c .last) w) t
 unfoldable pub received : Node → ℕ → ℕ → ℕ → Report → Node
 received c s w t p =
     setTables c (set (c .heard) (cell s w) t)
-    (pick (isNew c w t) (put (c .last) w t p) (c .last))
-    (pick (both (isNew c w t) (leb t (c .maxtag))) (put (c .atmax) w t p) (c .atmax))
-    (pick (both (isNew c w t) (roundHolds (c .wait) t)) (put (c .atround) w t p) (c .atround))
+    (pick (isNew c w t) (putEntry (c .last) w t p) (c .last))
+    (pick (both (isNew c w t) (leb t (c .maxtag))) (putEntry (c .atmax) w t p) (c .atmax))
+    (pick (both (isNew c w t) (roundHolds (c .wait) t)) (putEntry (c .atround) w t p) (c .atround))
 
 -- Line 49, amendment 4: of the good messages the one with the greatest tag is kept, the earlier on a tie.
 unfoldable pub keep : Node → ℕ → View → Node
@@ -74,10 +74,10 @@ keep c t v = setKept c (pick (ltb (c .kept) t) t (c .kept)) (pick (ltb (c .kept)
 -- The handler of each kind and what it sends: line 48; none; lines 45 and 46; none; amendment 1; line 42; none.
 unfoldable pub react : Node → ℕ → Message → View → Step
 react c s (Read q) v = started c s (One (ReadAnswer q (c .maxtag)))
-react c s (ReadAnswer q t) v = started (waiting c (readWait (c .request) s q t (c .wait))) s Nothing
+react c s (ReadAnswer q t) v = started (withWait c (readWait (c .request) s q t (c .wait))) s Nothing
 react c s (Write q t) v =
     started (raised c t) s (pick (ltb (c .maxtag) t) (Two (Echo t) (WriteAnswer q t)) (One (WriteAnswer q t)))
-react c s (WriteAnswer q t) v = started (waiting c (writeWait (c .request) s q t (c .wait))) s Nothing
+react c s (WriteAnswer q t) v = started (withWait c (writeWait (c .request) s q t (c .wait))) s Nothing
 react c s (Echo t) v = started (raised c t) s (pick (ltb (c .maxtag) t) (One (Echo t)) Nothing)
 react c s (Value t w p) v = started (received c s w t p) s (pick (isNew c w t) (One (Value t w p)) Nothing)
 react c s (Good t) v = started (keep c t v) s Nothing

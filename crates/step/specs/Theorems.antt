@@ -13,8 +13,8 @@ use Rattle.view.specs.declared.Report.{Report}
 use Rattle.view.specs.declared.View.{View}
 use Rattle.wire.specs.declared.Message.{Message}
 use Rattle.wire.specs.declared.Message.the-variants.{Read, ReadAnswer, WriteAnswer, Value}
-use Rattle.table.specs.Quorum.{member, with, size}
-use Rattle.record.specs.Record.{waiting}
+use Rattle.table.specs.Quorum.{member, with, setSize}
+use Rattle.record.specs.Record.{withWait}
 use Rattle.record.specs.Usable.{isOpen, full, usable}
 use Rattle.record.specs.declared.Node.{Node}
 use Rattle.record.specs.declared.Operation.{Operation}
@@ -107,14 +107,14 @@ WriteAgain = (c : Node) (s q t : ℕ) (v : View) (k : Kind) (i r a : ℕ) → c 
 abbrev pub ReadCounts : Type 0
 ReadCounts = (c : Node) (s q t : ℕ) (v : View) (o : Operation) (a m : ℕ) → c .wait ≡ Reading o a m → q ≡ c .request
     → member a s ≡ false → 1 ≤ s → s ≤ c .n
-    → (react c s (ReadAnswer q t) v ≡ started (waiting c (Reading o (with a s) (max m t))) s Nothing)
-    × (size (c .n) (with a s) ≡ size (c .n) a + 1)
+    → (react c s (ReadAnswer q t) v ≡ started (withWait c (Reading o (with a s) (max m t))) s Nothing)
+    × (setSize (c .n) (with a s) ≡ setSize (c .n) a + 1)
 
 abbrev pub WriteCounts : Type 0
 WriteCounts = (c : Node) (s q t : ℕ) (v : View) (k : Kind) (i r a : ℕ) → c .wait ≡ Writing k i r a → q ≡ c .request
     → t ≡ r → member a s ≡ false → 1 ≤ s → s ≤ c .n
-    → (react c s (WriteAnswer q t) v ≡ started (waiting c (Writing k i r (with a s))) s Nothing)
-    × (size (c .n) (with a s) ≡ size (c .n) a + 1)
+    → (react c s (WriteAnswer q t) v ≡ started (withWait c (Writing k i r (with a s))) s Nothing)
+    × (setSize (c .n) (with a s) ≡ setSize (c .n) a + 1)
 
 -- ---- the begin of an operation, at a usable record with none open and request numbers enough
 

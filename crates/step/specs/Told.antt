@@ -29,9 +29,9 @@ told (result (Scan r)) v = scan v
 told (result Spent) v = spent spentNumber
 
 -- the view that is shown, only by a scan
-abbrev pub shown : Told → View
-shown (refusal k) = noView
-shown nothing = noView
-shown done = noView
-shown (scan v) = v
-shown (spent k) = noView
+abbrev pub toldView : Told → View
+toldView (refusal k) = noView
+toldView nothing = noView
+toldView done = noView
+toldView (scan v) = v
+toldView (spent k) = noView

@@ -11,8 +11,8 @@ use Rattle.view.specs.Size.{limit}
 use Rattle.view.specs.View.{noView}
 use Rattle.wire.specs.declared.Message.the-variants.{Read}
 use Rattle.table.specs.Table.{cells}
-use Rattle.table.specs.Quorum.{size, isQuorum, agreeing}
-use Rattle.record.specs.Record.{waiting, closed}
+use Rattle.table.specs.Quorum.{setSize, isQuorum, agreeing}
+use Rattle.record.specs.Record.{withWait, closed}
 use Rattle.record.specs.Usable.{waitOk}
 use Rattle.record.specs.declared.Node.{Node}
 use Rattle.record.specs.declared.Operation.{Operation}
@@ -34,7 +34,7 @@ use Rattle.step.proofs.Numbers.{on-pick}
 use Rattle.step.proofs.Turns.{reads-on}
 use Rattle.step.proofs.Waits.{no-quorum, waits-still}
 use Rattle.region.specs.Record.{recordSize, heardPlace, viewIn, waitIn, recordOf, recordBytes, nPlace, ownPlace, headOf}
-use Rattle.region.specs.Record.{maxtagPlace, keptPlace, atroundIn, headBytes, withRequest, withWait}
+use Rattle.region.specs.Record.{maxtagPlace, keptPlace, atroundIn, headBytes, withRequest, withWait as headWithWait}
 use Rattle.region.specs.declared.stored.Head.{Head}
 use Rattle.react_bytes.proofs.Sections.{tables-of, assembled}
 use Rattle.step_bytes.specs.declared.Effect.{Effect}
@@ -58,7 +58,7 @@ module _ (f : ℕ) (s : Step) where
   read-waits h Scan t = no-quorum (s .node .n) f h
 
   pub read-on : f < s .node .n → {o : Operation} {a m t : ℕ} → s .node .wait ≡ Reading o a m
-      → isQuorum (s .node .n) f (size (s .node .n) a) ≡ true → t ≡ max m (s .node .maxtag)
+      → isQuorum (s .node .n) f (setSize (s .node .n) a) ≡ true → t ≡ max m (s .node .maxtag)
       → moveOn f s ≡ afterRead s (s .node) o t
   unfolding moveOn
   read-on h {o} {a} {m} {t} e q z =
@@ -74,7 +74,7 @@ module _ (f : ℕ) (s : Step) where
 
   -- a quorum has answered the round, or had before: it is compared
   pub write-on : {k : Kind} {i r a : ℕ} → s .node .wait ≡ Writing k i r a
-      → isQuorum (s .node .n) f (size (s .node .n) a) ≡ true → moveOn f s ≡ compared f s k i r
+      → isQuorum (s .node .n) f (setSize (s .node .n) a) ≡ true → moveOn f s ≡ compared f s k i r
   unfolding readPass writePass
   write-on e q = past (ap (readPass f s (s .node)) e) (ap (writePass f s (s .node)) e ∙ rw q)
 
@@ -82,7 +82,7 @@ module _ (f : ℕ) (s : Step) where
   unfolding readPass writePass
   compare-on e =
       past (ap (readPass f s (s .node)) e) (ap (writePass f s (s .node)) e)
-      ∙ ap (λ (x : Wait). borrows (compares f (ended s (waiting (s .node) x) (s .ending) (s .view)))) e
+      ∙ ap (λ (x : Wait). borrows (compares f (ended s (withWait (s .node) x) (s .ending) (s .view)))) e
 
   -- the view kept is borrowed
   pub borrow-on : {k : Kind} {r : ℕ} → s .node .wait ≡ Borrowing k r → leb r (s .node .kept) ≡ true
@@ -112,7 +112,7 @@ module _ (f : ℕ) (s : Step) where
     compared-failed q h = rw (q, h) refl
 
     pub compared-not : Agreed false
-        → compared f s k i r ≡ ended s (waiting (s .node) (Comparing k i r)) (s .ending) (s .view)
+        → compared f s k i r ≡ ended s (withWait (s .node) (Comparing k i r)) (s .ending) (s .view)
     unfolding comparePass borrowPass
     compared-not q = rw q refl
 
@@ -120,12 +120,12 @@ module _ (f : ℕ) (s : Step) where
 
 -- the head of a record that begins o
 abbrev asking : Head → Operation → Head
-asking h o = withWait (withRequest h (h .request + 1)) (Reading o 0 0)
+asking h o = headWithWait (withRequest h (h .request + 1)) (Reading o 0 0)
 
 -- what the code sends, and that head written over the bytes
 pub begins : (r : List ℕ) → Bytes r → length r ≡ recordSize → (o : Operation) {h g : Head} {e : Effect} {b : List ℕ}
     → h ≡ headOf r → e ≡ effectOf (h .own) (One (Read (h .request + 1))) Nothing Nothing noView None noView
-    → g ≡ withWait (withRequest h (h .request + 1)) (Reading o 0 0) → b ≡ put r nPlace (headBytes g)
+    → g ≡ headWithWait (withRequest h (h .request + 1)) (Reading o 0 0) → b ≡ put r nPlace (headBytes g)
     → isStep e b (begun (recordOf r) o)
 unfolding recordOf begun
 begins r y l o q x g z = (
@@ -154,8 +154,8 @@ kept-of r = refl
 
 -- the quorums as the code counts them, of those who answered and of those who agree
 module _ (r : List ℕ) (f : ℕ) {n k : ℕ} {b : Bool} (m : recordOf r .n ≡ n) (p : b ≡ isQuorum n f k) where
-  pub answered-of : (a : ℕ) → k ≡ size n a → b ≡ isQuorum (recordOf r .n) f (size (recordOf r .n) a)
-  answered-of a q = p ∙ ap (isQuorum n f) q ∙ ap (λ (x : ℕ). isQuorum x f (size x a)) (sym m)
+  pub answered-of : (a : ℕ) → k ≡ setSize n a → b ≡ isQuorum (recordOf r .n) f (setSize (recordOf r .n) a)
+  answered-of a q = p ∙ ap (isQuorum n f) q ∙ ap (λ (x : ℕ). isQuorum x f (setSize x a)) (sym m)
 
   pub agreed-of : {own : ℕ} → k ≡ agreeing n own (words cells r heardPlace) (viewIn r atroundIn .tags) → own
       ≡ word r ownPlace

@@ -3,7 +3,7 @@ use Prim.Native.Nat.{ℕ}
 use mathlib.Core.Path.{_≡_}
 use mathlib.Core.List.{List}
 use Rattle.view.specs.declared.View.{View}
-use Rattle.record.specs.Record.{waiting}
+use Rattle.record.specs.Record.{withWait}
 use Rattle.record.specs.declared.Node.{Node}
 use Rattle.record.specs.declared.Kind.{Kind}
 use Rattle.record.specs.declared.Wait.the-variants.{Comparing}
@@ -36,4 +36,4 @@ isStep e r s = (e ≡ effect s) × (r ≡ recordBytes (s .node))
 
 -- The comparison of round i with tag r, and what follows it in the same step.
 abbrev pub compared : ℕ → Step → Kind → (i r : ℕ) → Step
-compared f s k i r = borrows (compares f (ended s (waiting (s .node) (Comparing k i r)) (s .ending) (s .view)))
+compared f s k i r = borrows (compares f (ended s (withWait (s .node) (Comparing k i r)) (s .ending) (s .view)))

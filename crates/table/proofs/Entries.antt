@@ -19,42 +19,43 @@ use Rattle.view.specs.Size.{limit, nodes}
 use Rattle.view.specs.View.{noView, firstOf}
 use Rattle.view.proofs.First.{first-tag, first-report, first-absent}
 use Rattle.table.specs.Loop.{either, all}
-use Rattle.table.specs.Table.{at, tagOf, reportOf, put, newestTag, newestReport, newest, entryOk, entryWithin}
-use Rattle.table.specs.Table.{within, heardWithin}
+use Rattle.table.specs.Table.{at, tagOf, reportOf, putEntry, newestTag, newestReport, newest, entryOk}
+use Rattle.table.specs.Table.{entryWithin, viewWithin, heardWithin}
 use Rattle.table.specs.Table.{cells}
-use Rattle.table.proofs.Laws.{all-at, all-all, getD-tab}
+use Rattle.table.proofs.Laws.{all-at, all-all, getD-numbered}
 
 -- ---- the entries of a view by the newest reports
 
 pub newest-tag : (t : ℕ) (last held : View) (w : ℕ) → 1 ≤ w → w ≤ nodes
     → tagOf (newest t last held) w ≡ newestTag t last held w
 unfolding newest
-newest-tag t last held w l k = getD-tab nodes (newestTag t last held) w 0 l k
+newest-tag t last held w l k = getD-numbered nodes (newestTag t last held) w 0 l k
 
 pub newest-report : (t : ℕ) (last held : View) (w : ℕ) → 1 ≤ w → w ≤ nodes
     → reportOf (newest t last held) w ≡ newestReport t last held w
 unfolding newest
-newest-report t last held w l k = getD-tab nodes (newestReport t last held) w noReport l k
+newest-report t last held w l k = getD-numbered nodes (newestReport t last held) w noReport l k
 
 -- ---- views within a tag
 
-pub within-at : (t : ℕ) (v : View) (w : ℕ) → within t v ≡ true → 1 ≤ w → w ≤ nodes → entryWithin t v w ≡ true
-unfolding within
-within-at t v w h l k = all-at nodes (entryWithin t v) w h l k
+pub viewWithin-at : (t : ℕ) (v : View) (w : ℕ) → viewWithin t v ≡ true → 1 ≤ w → w ≤ nodes → entryWithin t v w ≡ true
+unfolding viewWithin
+viewWithin-at t v w h l k = all-at nodes (entryWithin t v) w h l k
 
-pub within-all : (t : ℕ) (v : View) → ((w : ℕ) → 1 ≤ w → w ≤ nodes → entryWithin t v w ≡ true) → within t v ≡ true
-unfolding within
-within-all t v h = all-all nodes (entryWithin t v) h
+pub viewWithin-all : (t : ℕ) (v : View) → ((w : ℕ) → 1 ≤ w → w ≤ nodes → entryWithin t v w ≡ true)
+    → viewWithin t v ≡ true
+unfolding viewWithin
+viewWithin-all t v h = all-all nodes (entryWithin t v) h
 
-pub within-absent : (t : ℕ) → within t noView ≡ true
-unfolding within all
-within-absent t = simp (leb·zero t)
+pub viewWithin-absent : (t : ℕ) → viewWithin t noView ≡ true
+unfolding viewWithin all
+viewWithin-absent t = simp (leb·zero t)
 
 -- so are its first places
-pub within-first : (n t : ℕ) (v : View) → within t v ≡ true → within t (firstOf n v) ≡ true
-within-first n t v e = within-all t (firstOf n v) (λ w l k. elim (decLe w n) [
+pub viewWithin-first : (n t : ℕ) (v : View) → viewWithin t v ≡ true → viewWithin t (firstOf n v) ≡ true
+viewWithin-first n t v e = viewWithin-all t (firstOf n v) (λ w l k. elim (decLe w n) [
   | yes h ↦ let i : w - 1 < n = omega arith in
-      rw (first-tag n v (w - 1) i, first-report n v (w - 1) i) (within-at t v w e l k)
+      rw (first-tag n v (w - 1) i, first-report n v (w - 1) i) (viewWithin-at t v w e l k)
   | no h ↦ let i : n ≤ w - 1 = omega arith in
       let a = first-absent n v (omega arith) in
       rw (a .no-tag (w - 1) i, a .no-report (w - 1) i) (rw (leb·zero t) refl)
@@ -67,10 +68,10 @@ entry-up t u x p h e =
     (both-right (leb x t) (either (leb 1 x) (isNone p)) e)
 
 -- the tag of an entry of such a view
-pub within-tag : (t : ℕ) (v : View) (w : ℕ) → within t v ≡ true → 1 ≤ w → w ≤ nodes → tagOf v w ≤ t
-within-tag t v w e l k =
+pub viewWithin-tag : (t : ℕ) (v : View) (w : ℕ) → viewWithin t v ≡ true → 1 ≤ w → w ≤ nodes → tagOf v w ≤ t
+viewWithin-tag t v w e l k =
     leb-true (tagOf v w) t (both-left (leb (tagOf v w) t) (either (leb 1 (tagOf v w)) (isNone (reportOf v w)))
-    (within-at t v w e l k))
+    (viewWithin-at t v w e l k))
 
 -- of two entries that are fit for t, the chosen one
 entry-pick : (b : Bool) (t x y : ℕ) (p q : Report) → (b ≡ true → entryOk t x p ≡ true)
@@ -79,14 +80,14 @@ entry-pick : (b : Bool) (t x y : ℕ) (p q : Report) → (b ≡ true → entryOk
 entry-pick true t x y p q f g = f refl
 entry-pick false t x y p q f g = g refl
 
-pub within-newest : (u m t : ℕ) (last held : View) → within u last ≡ true → within m held ≡ true → m ≤ t
-    → within t (newest t last held) ≡ true
-within-newest u m t last held a b h = within-all t (newest t last held) (λ w l k.
+pub viewWithin-newest : (u m t : ℕ) (last held : View) → viewWithin u last ≡ true → viewWithin m held ≡ true → m ≤ t
+    → viewWithin t (newest t last held) ≡ true
+viewWithin-newest u m t last held a b h = viewWithin-all t (newest t last held) (λ w l k.
     rw (newest-tag t last held w l k, newest-report t last held w l k)
     (entry-pick (leb (tagOf last w) t) t (tagOf last w) (tagOf held w) (reportOf last w) (reportOf held w)
     (λ e. both-true e (both-right (leb (tagOf last w) u) (either (leb 1 (tagOf last w)) (isNone (reportOf last w)))
-    (within-at u last w a l k)))
-    (λ e. entry-up m t (tagOf held w) (reportOf held w) h (within-at m held w b l k))))
+    (viewWithin-at u last w a l k)))
+    (λ e. entry-up m t (tagOf held w) (reportOf held w) h (viewWithin-at m held w b l k))))
 
 -- ---- one entry stored
 
@@ -95,22 +96,23 @@ abbrev pub Sized : View → Type 0
 Sized v = (length (v .tags) ≡ nodes) × (length (v .reports) ≡ nodes)
 
 module _ (v : View) (w : ℕ) (t : ℕ) (p : Report) (l : 1 ≤ w) (k : w ≤ nodes) where
-  pub put-tag : Sized v → tagOf (put v w t p) w ≡ t
-  put-tag z = getD-set-same (v .tags) (w - 1) t 0 (rw (z .0) (omega arith))
+  pub putEntry-tag : Sized v → tagOf (putEntry v w t p) w ≡ t
+  putEntry-tag z = getD-set-same (v .tags) (w - 1) t 0 (rw (z .0) (omega arith))
 
-  pub put-report : Sized v → reportOf (put v w t p) w ≡ p
-  put-report z = getD-set-same (v .reports) (w - 1) p noReport (rw (z .1) (omega arith))
+  pub putEntry-report : Sized v → reportOf (putEntry v w t p) w ≡ p
+  putEntry-report z = getD-set-same (v .reports) (w - 1) p noReport (rw (z .1) (omega arith))
 
-  pub put-tag-other : (x : ℕ) → 1 ≤ x → (x ≡ w → ⊥) → tagOf (put v w t p) x ≡ tagOf v x
-  put-tag-other x m d = getD-set-other (v .tags) (w - 1) (x - 1) t 0 (λ e. d (omega arith))
+  pub putEntry-tag-other : (x : ℕ) → 1 ≤ x → (x ≡ w → ⊥) → tagOf (putEntry v w t p) x ≡ tagOf v x
+  putEntry-tag-other x m d = getD-set-other (v .tags) (w - 1) (x - 1) t 0 (λ e. d (omega arith))
 
-  pub put-report-other : (x : ℕ) → 1 ≤ x → (x ≡ w → ⊥) → reportOf (put v w t p) x ≡ reportOf v x
-  put-report-other x m d = getD-set-other (v .reports) (w - 1) (x - 1) p noReport (λ e. d (omega arith))
+  pub putEntry-report-other : (x : ℕ) → 1 ≤ x → (x ≡ w → ⊥) → reportOf (putEntry v w t p) x ≡ reportOf v x
+  putEntry-report-other x m d = getD-set-other (v .reports) (w - 1) (x - 1) p noReport (λ e. d (omega arith))
 
-  pub within-put : (u : ℕ) → Sized v → 1 ≤ t → t ≤ u → within u v ≡ true → within u (put v w t p) ≡ true
-  within-put u z a b e = within-all u (put v w t p) (λ x m j. elim (ℕ-discrete x w) [
-    | yes q ↦ rw (q, put-tag z, put-report z) (both-true (le-leb t u b) (rw (le-leb 1 t a)))
-    | no d ↦ rw (put-tag-other x m d, put-report-other x m d) (within-at u v x e m j)
+  pub viewWithin-putEntry : (u : ℕ) → Sized v → 1 ≤ t → t ≤ u → viewWithin u v ≡ true
+      → viewWithin u (putEntry v w t p) ≡ true
+  viewWithin-putEntry u z a b e = viewWithin-all u (putEntry v w t p) (λ x m j. elim (ℕ-discrete x w) [
+    | yes q ↦ rw (q, putEntry-tag z, putEntry-report z) (both-true (le-leb t u b) (rw (le-leb 1 t a)))
+    | no d ↦ rw (putEntry-tag-other x m d, putEntry-report-other x m d) (viewWithin-at u v x e m j)
   ])
 
 -- ---- the tags heard

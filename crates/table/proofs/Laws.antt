@@ -12,7 +12,7 @@ use lib.ListN.{length, length-map, getD, set, drop, length-append, List·getD-ap
 use lib.Seq.{getD-at, set-at, drop-cons, drop-length, append-snoc}
 use Rattle.octets.specs.Test.{pick, both}
 use Rattle.octets.proofs.Test.{both-left, both-right, both-true}
-use Rattle.table.specs.Loop.{all, count, tab}
+use Rattle.table.specs.Loop.{all, count, numbered}
 
 pub all-none : (p : ℕ → Bool) → all 0 p ≡ true
 unfolding all
@@ -46,56 +46,59 @@ pub count-more : (k : ℕ) (p : ℕ → Bool) → count (k + 1) p ≡ pick (p (k
 unfolding count
 count-more k p = rw (add-one k)
 
-pub tab-none {ℓ} : {X : Type ℓ} (f : ℕ → X) → tab 0 f ≡ []
-unfolding tab
-tab-none f = refl
+pub numbered-none {ℓ} : {X : Type ℓ} (f : ℕ → X) → numbered 0 f ≡ []
+unfolding numbered
+numbered-none f = refl
 
-pub tab-more {ℓ} : {X : Type ℓ} (k : ℕ) (f : ℕ → X) → tab (k + 1) f ≡ tab k f ++ (f (k + 1) ∷ [])
-unfolding tab
-tab-more k f = rw (add-one k)
+pub numbered-more {ℓ} : {X : Type ℓ} (k : ℕ) (f : ℕ → X) → numbered (k + 1) f ≡ numbered k f ++ (f (k + 1) ∷ [])
+unfolding numbered
+numbered-more k f = rw (add-one k)
 
-pub length-tab {ℓ} : {X : Type ℓ} (n : ℕ) (f : ℕ → X) → length (tab n f) ≡ n
-unfolding tab
-length-tab zero f = refl
-length-tab (suc k) f = length-append (tab k f) (f (suc k) ∷ []) ∙ simp (length-tab k f, add-one)
+pub length-numbered {ℓ} : {X : Type ℓ} (n : ℕ) (f : ℕ → X) → length (numbered n f) ≡ n
+unfolding numbered
+length-numbered zero f = refl
+length-numbered (suc k) f = length-append (numbered k f) (f (suc k) ∷ []) ∙ simp (length-numbered k f, add-one)
 
 -- entry w of a table
-pub getD-tab : {X : Type 0} (n : ℕ) (f : ℕ → X) (w : ℕ) (d : X) → 1 ≤ w → w ≤ n → getD (tab n f) (w - 1) d ≡ f w
-unfolding tab
-getD-tab zero f w d l k = absurd (let e : 1 ≤ 0 = omega arith in not-suc-le-zero e)
-getD-tab (suc n) f w d l k =
+pub getD-numbered : {X : Type 0} (n : ℕ) (f : ℕ → X) (w : ℕ) (d : X) → 1 ≤ w → w ≤ n
+    → getD (numbered n f) (w - 1) d ≡ f w
+unfolding numbered
+getD-numbered zero f w d l k = absurd (let e : 1 ≤ 0 = omega arith in not-suc-le-zero e)
+getD-numbered (suc n) f w d l k =
     upTo-suc k
-    (λ e. getD-at (tab n f) (f (suc n)) [] d (w - 1) (length-tab n f ∙ let q : n ≡ w - 1 = omega arith in q)
+    (λ e. getD-at (numbered n f) (f (suc n)) [] d (w - 1) (length-numbered n f ∙ let q : n ≡ w - 1 = omega arith in q)
     ∙ ap f (sym e))
-    (λ m. let q : w - 1 < length (tab n f) = rw (length-tab n f) (omega arith) in
-    List·getD-append (tab n f) (f (suc n) ∷ []) d (w - 1) q ∙ getD-tab n f w d l m)
+    (λ m. let q : w - 1 < length (numbered n f) = rw (length-numbered n f) (omega arith) in
+    List·getD-append (numbered n f) (f (suc n) ∷ []) d (w - 1) q ∙ getD-numbered n f w d l m)
 
 -- a table that is filled up to k, with entry k + 1 chosen and stored, is filled up to k + 1
 pub filled {ℓ} : {X : Type ℓ} (k : ℕ) (f : ℕ → X) (l : List X) (b : Bool) (x d : X) → k < length l
     → f (k + 1) ≡ pick b x (getD l (k + 1 - 1) d)
-    → pick b (set (tab k f ++ drop k l) (k + 1 - 1) x) (tab k f ++ drop k l) ≡ tab (k + 1) f ++ drop (k + 1) l
+    → pick b (set (numbered k f ++ drop k l) (k + 1 - 1) x) (numbered k f ++ drop k l)
+    ≡ numbered (k + 1) f ++ drop (k + 1) l
 filled k f l true x d h e =
     let back : k + 1 - 1 ≡ k = omega arith in
     rw (
       back,
       drop-cons l k d,
-      set-at (tab k f) (getD l k d) (drop (suc k) l) x k (length-tab k f),
-      tab-more k f,
+      set-at (numbered k f) (getD l k d) (drop (suc k) l) x k (length-numbered k f),
+      numbered-more k f,
       e,
       add-one k,
     )
-    (sym (append-snoc (tab k f) x (drop (suc k) l)))
+    (sym (append-snoc (numbered k f) x (drop (suc k) l)))
 filled k f l false x d h e =
     let back : k + 1 - 1 ≡ k = omega arith in
-    rw (tab-more k f, e, back, add-one k, drop-cons l k d)
-    (sym (append-snoc (tab k f) (getD l k d) (drop (suc k) l)))
+    rw (numbered-more k f, e, back, add-one k, drop-cons l k d)
+    (sym (append-snoc (numbered k f) (getD l k d) (drop (suc k) l)))
 
-pub filled-none {ℓ} : {X : Type ℓ} (f : ℕ → X) (l : List X) → l ≡ tab 0 f ++ drop 0 l
-unfolding tab
+pub filled-none {ℓ} : {X : Type ℓ} (f : ℕ → X) (l : List X) → l ≡ numbered 0 f ++ drop 0 l
+unfolding numbered
 filled-none f l = refl
 
-pub filled-all {ℓ} : {X : Type ℓ} (n : ℕ) (f : ℕ → X) (l : List X) → length l ≡ n → tab n f ++ drop n l ≡ tab n f
-filled-all n f l e = rw (← e, drop-length l) (append-nil (tab (length l) f))
+pub filled-all {ℓ} : {X : Type ℓ} (n : ℕ) (f : ℕ → X) (l : List X) → length l ≡ n
+    → numbered n f ++ drop n l ≡ numbered n f
+filled-all n f l e = rw (← e, drop-length l) (append-nil (numbered (length l) f))
 
 -- a list has as many elements as what it is mapped to
 pub length-mapped : {X Y : Type 0} (f : X → Y) (l : List X) (n : ℕ) → length (map f l) ≡ n → length l ≡ n

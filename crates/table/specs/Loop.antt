@@ -20,6 +20,6 @@ count zero p = 0
 count (suc k) p = pick (p (suc k)) (count k p + 1) (count k p)
 
 -- the list of f 1 to f n
-unfoldable pub tab {ℓ} : {X : Type ℓ} → ℕ → (ℕ → X) → List X
-tab zero f = []
-tab (suc k) f = tab k f ++ (f (suc k) ∷ [])
+unfoldable pub numbered {ℓ} : {X : Type ℓ} → ℕ → (ℕ → X) → List X
+numbered zero f = []
+numbered (suc k) f = numbered k f ++ (f (suc k) ∷ [])

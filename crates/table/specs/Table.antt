@@ -12,7 +12,7 @@ use Rattle.view.specs.declared.View.{View}
 use Rattle.octets.specs.Test.{pick, both}
 use Rattle.view.specs.Size.{limit, nodes}
 use Rattle.view.specs.Report.{noReport, isNone}
-use Rattle.table.specs.Loop.{either, all, tab}
+use Rattle.table.specs.Loop.{either, all, numbered}
 
 -- writer w's entry in a list of tags, and in a view
 abbrev pub at : List ℕ → ℕ → ℕ
@@ -25,8 +25,8 @@ abbrev pub reportOf : View → ℕ → Report
 reportOf v w = getD (v .reports) (w - 1) noReport
 
 -- the view with another entry for writer w
-abbrev pub put : View → ℕ → ℕ → Report → View
-put v w t p = record { tags = set (v .tags) (w - 1) t; reports = set (v .reports) (w - 1) p }
+abbrev pub putEntry : View → ℕ → ℕ → Report → View
+putEntry v w t p = record { tags = set (v .tags) (w - 1) t; reports = set (v .reports) (w - 1) p }
 
 -- For each writer the newest report not above t, where `last` is its last one and `held` is the newest not above
 -- a tag below t: the last one if that is not above t, and else the one held.
@@ -37,7 +37,8 @@ abbrev pub newestReport : ℕ → View → View → ℕ → Report
 newestReport t last held w = pick (leb (tagOf last w) t) (reportOf last w) (reportOf held w)
 
 unfoldable pub newest : ℕ → View → View → View
-newest t last held = record { tags = tab nodes (newestTag t last held); reports = tab nodes (newestReport t last held) }
+newest t last held =
+    record { tags = numbered nodes (newestTag t last held); reports = numbered nodes (newestReport t last held) }
 
 -- a tag that is not above t, with no report beside tag 0
 abbrev pub entryOk : ℕ → ℕ → Report → Bool
@@ -47,8 +48,8 @@ abbrev pub entryWithin : ℕ → View → ℕ → Bool
 entryWithin t v w = entryOk t (tagOf v w) (reportOf v w)
 
 -- every entry of the view is such
-unfoldable pub within : ℕ → View → Bool
-within t v = all nodes (entryWithin t v)
+unfoldable pub viewWithin : ℕ → View → Bool
+viewWithin t v = all nodes (entryWithin t v)
 
 -- how many cells the square table has, the cell of sender s and writer w, and the last tag heard there
 abbrev pub cells : ℕ

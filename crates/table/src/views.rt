@@ -13,7 +13,7 @@ ghost use lib.Dec.{leb};
 ghost use lib.ListN.{set};
 ghost use Rattle.octets.specs.Test.{pick};
 ghost use Rattle.view.specs.Size.{nodes};
-ghost use Rattle.table.specs.Table.{tagOf, reportOf, put, newest, entryWithin, within, heardWithin};
+ghost use Rattle.table.specs.Table.{tagOf, reportOf, putEntry, newest, entryWithin, viewWithin, heardWithin};
 
 pub fn tag_of(v: View, w: usize) -> u64
     requires { ⌜ (1 ≤ w) × (w ≤ nodes) ⌝ }
@@ -26,7 +26,7 @@ pub fn tag_of(v: View, w: usize) -> u64
 // The view with another entry for writer w.
 pub fn put_entry(v: View, w: usize, t: u64, p: Report) -> View
     requires { ⌜ (1 ≤ w) × (w ≤ nodes) ⌝ }
-    ensures { λ r. ⌜ r ≡ put v w t p ⌝ }
+    ensures { λ r. ⌜ r ≡ putEntry v w t p ⌝ }
 {
     let mut u = v;
     u.tags[w - 1] = t;
@@ -73,7 +73,7 @@ fn entry_within(t: u64, v: View, w: usize) -> bool
 
 // Whether no entry of the view is above t and none has a report beside tag 0.
 pub fn view_within(t: u64, v: View) -> bool
-    ensures { λ r. ⌜ r ≡ within t v ⌝ }
+    ensures { λ r. ⌜ r ≡ viewWithin t v ⌝ }
 {
     let mut ok = true;
     let mut w = 0;

@@ -9,7 +9,7 @@ use Rattle.octets.specs.Test.{pick, both}
 use Rattle.octets.specs.Bytes.{Bytes}
 use Rattle.octets.proofs.Test.{both-right}
 use Rattle.view.specs.Size.{isSize}
-use Rattle.wire.specs.Layout.{encode, allowed, size}
+use Rattle.wire.specs.Layout.{encode, allowed, messageSize}
 use Rattle.wire.specs.Codec.{said, viewAt, front}
 use Rattle.wire.specs.Shape.{shape}
 use Rattle.wire.specs.declared.Message.{Message}
@@ -49,11 +49,11 @@ module _ (n : ℕ) (b : List ℕ) (bytes : Bytes b) (n-ok : isSize n ≡ true) w
       (shape-is n b bytes))
 
   pub front-judged : front n b
-      ≡ pick (both (shape n b) (allowed n (said b) (viewAt n b))) (result (said b, size n (said b))) (refused 7)
+      ≡ pick (both (shape n b) (allowed n (said b) (viewAt n b))) (result (said b, messageSize n (said b))) (refused 7)
   front-judged =
       front-is
       ∙ picked (both (shape n b) (allowed n (said b) (viewAt n b)))
-      (result (said b, length (encode (said b) (viewAt n b)))) (result (said b, size n (said b))) (refused 7)
+      (result (said b, length (encode (said b) (viewAt n b)))) (result (said b, messageSize n (said b))) (refused 7)
       (λ h. ap (λ (k : ℕ). result (said b, k))
       (length-encode n (said b) (viewAt n b) (both-right (shape n b) (allowed n (said b) (viewAt n b)) h)))
 

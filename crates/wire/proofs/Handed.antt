@@ -8,7 +8,7 @@ use lib.ListN.{length, take, drop, length-take, length-drop}
 use lib.Seq.{take-length}
 use Rattle.octets.specs.Answer.{Answer, result, refused}
 use Rattle.view.specs.Size.{viewSize}
-use Rattle.wire.specs.Layout.{encode, size, goodHead}
+use Rattle.wire.specs.Layout.{encode, messageSize, goodHead}
 use Rattle.wire.specs.Codec.{front, decode, viewAt, isGood, viewIn, viewRead, viewPart, viewFound, frontPart}
 use Rattle.wire.specs.Codec.{addressRead, viewAddress, addressFound, frontAddress}
 use Rattle.wire.specs.declared.Message.{Message}
@@ -37,14 +37,14 @@ view-none (Good t) v h = absurd (h t refl)
 
 -- a good message that was read has its head and its view
 pub good-long : (n t : ℕ) (b : List ℕ) → decode n b ≡ result (Good t) → length b ≡ goodHead + viewSize n
-unfolding size
+unfolding messageSize
 good-long n t b e =
     let w = read-only n b (Good t) e in
     ap (λ (x : List ℕ). length x) (w .bytes) ∙ length-encode n (Good t) (viewPart n b) (w .allowed-is)
 
 pub good-front : (n t k : ℕ) (b : List ℕ) → front n b ≡ result (Good t, k) → (k ≡ goodHead + viewSize n)
     × (k ≤ length b)
-unfolding size
+unfolding messageSize
 good-front n t k b e =
     let f = front-only n b (Good t) k e in
     let v = viewAt n b in

@@ -12,7 +12,7 @@ use Rattle.octets.proofs.Test.{both-left, both-right}
 use Rattle.view.specs.Size.{isSize, nodes, viewSize}
 use Rattle.view.specs.View.{viewOk}
 use Rattle.view.specs.declared.Report.{Report}
-use Rattle.wire.specs.Layout.{encode, allowed, size, isTag}
+use Rattle.wire.specs.Layout.{encode, allowed, messageSize, isTag}
 use Rattle.wire.specs.declared.Message.{Message}
 use Rattle.wire.specs.declared.Message.the-variants.{Read, ReadAnswer, Write, WriteAnswer, Echo, Value, Good}
 
@@ -38,8 +38,8 @@ view-some n t h =
     ap (λ (x : Bool). both x (both (isTag t) (viewOk n t []))) (ne-eqb 0 (viewSize n) e)
 
 -- the seven lengths
-pub length-encode : (n : ℕ) (m : Message) (v : List ℕ) → allowed n m v ≡ true → length (encode m v) ≡ size n m
-unfolding encode size
+pub length-encode : (n : ℕ) (m : Message) (v : List ℕ) → allowed n m v ≡ true → length (encode m v) ≡ messageSize n m
+unfolding encode messageSize
 length-encode n (Read r) v h = refl
 length-encode n (ReadAnswer r t) v h = refl
 length-encode n (Write r t) v h = refl

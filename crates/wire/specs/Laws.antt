@@ -9,7 +9,7 @@ use lib.ListN.{length}
 use Rattle.octets.specs.Answer.{result, refused}
 use Rattle.octets.specs.Bytes.{part}
 use Rattle.view.specs.Size.{isSize, viewSize}
-use Rattle.wire.specs.Layout.{encode, allowed, size, goodHead}
+use Rattle.wire.specs.Layout.{encode, allowed, messageSize, goodHead}
 use Rattle.wire.specs.Codec.{front, decode, viewIn, viewPart, viewAddress, frontPart, frontAddress}
 use Rattle.wire.specs.declared.Message.{Message}
 use Rattle.wire.specs.declared.Message.the-variants.{Good}
@@ -55,7 +55,7 @@ Injective = (n : ℕ) (m m′ : Message) (v v′ : List ℕ) → isSize n ≡ tr
 
 -- The seven lengths.
 abbrev pub Lengths : Type 0
-Lengths = (n : ℕ) (m : Message) (v : List ℕ) → allowed n m v ≡ true → length (encode m v) ≡ size n m
+Lengths = (n : ℕ) (m : Message) (v : List ℕ) → allowed n m v ≡ true → length (encode m v) ≡ messageSize n m
 
 -- The view of a good message is what stands after its head, in the caller's memory. With bytes after the message it is
 -- the same part.

@@ -110,11 +110,11 @@ valueSize = thirdAt + reportSize
 abbrev pub goodSize : ℕ → ℕ
 goodSize n = goodHead + viewSize n
 
-unfoldable pub size : ℕ → Message → ℕ
-size n (Read r) = oneSize
-size n (ReadAnswer r t) = twoSize
-size n (Write r t) = twoSize
-size n (WriteAnswer r t) = twoSize
-size n (Echo t) = oneSize
-size n (Value t w p) = valueSize
-size n (Good t) = goodSize n
+unfoldable pub messageSize : ℕ → Message → ℕ
+messageSize n (Read r) = oneSize
+messageSize n (ReadAnswer r t) = twoSize
+messageSize n (Write r t) = twoSize
+messageSize n (WriteAnswer r t) = twoSize
+messageSize n (Echo t) = oneSize
+messageSize n (Value t w p) = valueSize
+messageSize n (Good t) = goodSize n

@@ -28,7 +28,7 @@ ghost use lib.ListN.{length, getD};
 ghost use Rattle.octets.specs.Answer.{result, refused};
 ghost use Rattle.octets.specs.Test.{pick, both};
 ghost use Rattle.view.specs.Size.{nodes, reportSize};
-ghost use Rattle.wire.specs.Layout.{allowed, size, headSize, numberSize, firstAt, secondAt, thirdAt, goodHead};
+ghost use Rattle.wire.specs.Layout.{allowed, messageSize, headSize, numberSize, firstAt, secondAt, thirdAt, goodHead};
 ghost use Rattle.wire.specs.Codec.{said, viewAt};
 ghost use Rattle.wire.specs.Shape.{headAt, twoHeads, valueHeads, goodHeads, shapeAs, shape};
 ghost use Rattle.wire.specs.Outcome.{found};
@@ -86,7 +86,7 @@ fn of_kind(n: usize, b: &[u8]) -> Found
     requires { ⌜ (n ≤ nodes) × (firstAt + numberSize ≤ length (now b)) ⌝ }
     ensures { λ r. ⌜ found r ≡ pick (both (shapeAs (getD (now (b .entry)) 3 0) n (now (b .entry)))
         (allowed n (said (now (b .entry))) (viewAt n (now (b .entry)))))
-        (result (said (now (b .entry)), size n (said (now (b .entry))))) (refused 7) ⌝ }
+        (result (said (now (b .entry)), messageSize n (said (now (b .entry))))) (refused 7) ⌝ }
 {
     let kind = b[3];
     match kind {
@@ -208,7 +208,7 @@ pub fn at_front(n: usize, b: &[u8]) -> Found
     requires { ⌜ n ≤ nodes ⌝ }
     ensures { λ r. ⌜ found r ≡ pick (both (shape n (now (b .entry)))
         (allowed n (said (now (b .entry))) (viewAt n (now (b .entry)))))
-        (result (said (now (b .entry)), size n (said (now (b .entry))))) (refused 7) ⌝ }
+        (result (said (now (b .entry)), messageSize n (said (now (b .entry))))) (refused 7) ⌝ }
 {
     if READ <= b.len() {
         if has_head(b, 0, 1, 1) {

@@ -7,7 +7,7 @@ use native.Mathlib.Omega.{arith}
 use Rattle.octets.specs.Bytes.{put}
 use Rattle.octets.proofs.Lent.{lent-back}
 use Rattle.region.specs.Record.{recordBytes, recordSize}
-use Rattle.block.specs.Block.{keep, recordPlace}
+use Rattle.block.specs.Block.{keepRecord, recordPlace}
 use Rattle.block.proofs.keep_node.Statement.{statement}
 use Rattle.block.proofs.keep_node.Tie as tie
 
@@ -27,7 +27,7 @@ same-length : tie.Need-same-length
 same-length c = search needs
 
 returns : tie.Need-returns
-unfolding keep
+unfolding keepRecord
 returns c =
     let c5 = c .before .before .before .before .before in
     lent-back (c5 .args .k .now) recordPlace recordSize (λ (r : List ℕ). put r 0 (recordBytes (c5 .args .c))) refl

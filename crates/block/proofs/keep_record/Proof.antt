@@ -8,12 +8,12 @@ use lib.ListN.{length}
 use Rattle.octets.specs.Bytes.{part, put}
 use Rattle.octets.proofs.Put.{put-over, length-part}
 use Rattle.region.specs.Record.{recordOf, recordBytes, recordSize}
-use Rattle.block.specs.Block.{keep, recordPlace}
+use Rattle.block.specs.Block.{keepRecord, recordPlace}
 use Rattle.block.proofs.keep_record.Statement.{statement}
 use Rattle.block.proofs.keep_record.Tie as tie
 
 returns : tie.Need-returns
-unfolding keep
+unfolding keepRecord
 returns c =
     let c6 = c .before .before .before .before .before .before in
     let k = c6 .args .k .now in

@@ -10,13 +10,13 @@ use Rattle.octets.specs.Loop.{upTo}
 use Rattle.octets.proofs.Loop.{upTo-none, upTo-more}
 use Rattle.record.specs.Record.{blank}
 use Rattle.record.specs.declared.Node.{Node}
-use Rattle.block.specs.Block.{keep}
+use Rattle.block.specs.Block.{keepRecord}
 use Rattle.layout.specs.Layout.{clusterSize, onBlock}
 use Rattle.cluster.proofs.blank_blocks.Tie as tie
 
 abbrev Inv-loop : tie.InvT-loop
 Inv-loop b₀ n i₀ b i = (i ≤ n) × (length b ≡ clusterSize n) × (b
-    ≡ upTo i (λ j. onBlock (j + 1) (keep (blank n (j + 1)))) b₀)
+    ≡ upTo i (λ j. onBlock (j + 1) (keepRecord (blank n (j + 1)))) b₀)
 
 abbrev μ-loop : tie.MeasureT-loop
 μ-loop b₀ n i₀ b i = n - i
@@ -46,9 +46,9 @@ loop-again c =
       search needs,
       search needs,
       c .before .before .keep-at .ensures
-          ∙ ap (λ (d : Node). onBlock (i + 1) (keep d) (c6 .loop .b)) (c3 .blank-node .ensures)
-          ∙ ap (λ (t : List ℕ). onBlock (i + 1) (keep (blank (a .n) (i + 1))) t) (c6 .loop .inv .2)
-          ∙ sym (upTo-more i (λ j. onBlock (j + 1) (keep (blank (a .n) (j + 1)))) (a .b .now)),
+          ∙ ap (λ (d : Node). onBlock (i + 1) (keepRecord d) (c6 .loop .b)) (c3 .blank-node .ensures)
+          ∙ ap (λ (t : List ℕ). onBlock (i + 1) (keepRecord (blank (a .n) (i + 1))) t) (c6 .loop .inv .2)
+          ∙ sym (upTo-more i (λ j. onBlock (j + 1) (keepRecord (blank (a .n) (j + 1)))) (a .b .now)),
     )
 
 same-length : tie.Need-same-length Inv-loop μ-loop

@@ -7,8 +7,8 @@ use Rattle.octets.proofs.Loop.{sumTo-none, sumTo-more}
 use Rattle.octets.proofs.Lent.{lent}
 use Rattle.view.specs.Report.{reportOf}
 use Rattle.view.specs.declared.Report.{Report}
-use Rattle.figures.specs.Figures.{shown, total, totals}
-use Rattle.figures.proofs.Bounds.{shown-is}
+use Rattle.figures.specs.Figures.{countedReport, total, totals}
+use Rattle.figures.proofs.Bounds.{countedReport-is}
 use Rattle.figures.proofs.sums.Statement.{statement}
 use Rattle.figures.proofs.sums.Tie as tie
 
@@ -24,13 +24,13 @@ abbrev μ-loop : tie.MeasureT-loop
 loop-holds : tie.Need-loop-holds Inv-loop μ-loop
 loop-holds c = (
   search needs,
-  sym (sumTo-none (λ j. shown (c .before .args .v .now) j .extensions)),
+  sym (sumTo-none (λ j. countedReport (c .before .args .v .now) j .extensions)),
   sym
-      (sumTo-none (λ j. shown (c .before .args .v .now) j .lines)),
+      (sumTo-none (λ j. countedReport (c .before .args .v .now) j .lines)),
   sym
-      (sumTo-none (λ j. shown (c .before .args .v .now) j .waiting)),
+      (sumTo-none (λ j. countedReport (c .before .args .v .now) j .waiting)),
   sym
-      (sumTo-none (λ j. shown (c .before .args .v .now) j .wakeups)),
+      (sumTo-none (λ j. countedReport (c .before .args .v .now) j .wakeups)),
   search needs,
   search needs,
   search needs,
@@ -46,19 +46,19 @@ loop-again c =
     let v = a .v .now in
     let i = c7 .loop .i in
     let e : 16 * i + 8 + 8 ≡ 16 * i + 16 = omega arith in
-    let p : c4 .read-report .result ≡ shown v i =
+    let p : c4 .read-report .result ≡ countedReport v i =
     c4 .read-report .ensures ∙ ap reportOf (lent v (16 * i + 8) 8 e)
-    ∙ shown-is (a .n) v (c7 .before .before .pre .2) (λ k. c7 .before .shared-slice-known .given k .fits)
+    ∙ countedReport-is (a .n) v (c7 .before .before .pre .2) (λ k. c7 .before .shared-slice-known .given k .fits)
     (c7 .before .before .pre .1) i (c4 .before .before .loop-test .taken) in (
       search needs,
       ap₂ (λ (x y : ℕ). x + y) (c7 .loop .inv .1) (ap (λ (q : Report). q .extensions) p) ∙ sym (sumTo-more i
-          (λ j. shown v j .extensions)),
+          (λ j. countedReport v j .extensions)),
       ap₂ (λ (x y : ℕ). x + y) (c7 .loop .inv .2) (ap (λ (q : Report). q .lines) p)
-          ∙ sym (sumTo-more i (λ j. shown v j .lines)),
+          ∙ sym (sumTo-more i (λ j. countedReport v j .lines)),
       ap₂ (λ (x y : ℕ). x + y) (c7 .loop .inv .3) (ap (λ (q : Report). q .waiting) p) ∙ sym (sumTo-more i
-          (λ j. shown v j .waiting)),
+          (λ j. countedReport v j .waiting)),
       ap₂ (λ (x y : ℕ). x + y) (c7 .loop .inv .4) (ap (λ (q : Report). q .wakeups) p) ∙ sym (sumTo-more i
-          (λ j. shown v j .wakeups)),
+          (λ j. countedReport v j .wakeups)),
       search needs,
       search needs,
       search needs,

@@ -3,7 +3,7 @@ use borrow.Author.Needs.{needs}
 use mathlib.Core.Path.{refl}
 use native.Mathlib.Omega.{arith}
 use Rattle.octets.proofs.Lent.{lent-back}
-use Rattle.block.specs.Block.{keep, blockSize}
+use Rattle.block.specs.Block.{keepRecord, blockSize}
 use Rattle.layout.specs.Layout.{blockPlace, onBlock}
 use Rattle.layout.proofs.keep_at.Statement.{statement}
 use Rattle.layout.proofs.keep_at.Tie as tie
@@ -39,7 +39,7 @@ returns : tie.Need-returns
 unfolding onBlock
 returns c =
     let c5 = c .before .before .before .before .before in
-    lent-back (c5 .args .b .now) (blockPlace (c5 .args .c)) blockSize (keep (c5 .args .d)) refl (omega arith)
+    lent-back (c5 .args .b .now) (blockPlace (c5 .args .c)) blockSize (keepRecord (c5 .args .d)) refl (omega arith)
     (c .before .before .keep-node .kept .0) (c .before .before .keep-node .ensures)
 
 pub keep-at-spec : {M : Type 1} → statement M

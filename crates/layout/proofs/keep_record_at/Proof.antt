@@ -4,7 +4,7 @@ use mathlib.Core.Path.{refl}
 use native.Mathlib.Omega.{arith}
 use Rattle.octets.proofs.Lent.{lent-back}
 use Rattle.region.specs.Record.{recordOf}
-use Rattle.block.specs.Block.{keep, blockSize}
+use Rattle.block.specs.Block.{keepRecord, blockSize}
 use Rattle.layout.specs.Layout.{blockPlace, onBlock}
 use Rattle.layout.proofs.keep_record_at.Statement.{statement}
 use Rattle.layout.proofs.keep_record_at.Tie as tie
@@ -13,7 +13,7 @@ returns : tie.Need-returns
 unfolding onBlock
 returns c =
     let c6 = c .before .before .before .before .before .before in
-    lent-back (c6 .args .b .now) (blockPlace (c6 .args .c)) blockSize (keep (recordOf (c6 .args .r .now))) refl
+    lent-back (c6 .args .b .now) (blockPlace (c6 .args .c)) blockSize (keepRecord (recordOf (c6 .args .r .now))) refl
     (omega arith)
     (c .before .before .keep-record .kept .0) (c .before .before .keep-record .ensures)
 

@@ -2,7 +2,7 @@
 use borrow.Author.Needs.{needs}
 use mathlib.Core.Path.{refl, sym, _∙_}
 use native.Mathlib.Omega.{arith}
-use Rattle.layout.specs.Layout.{size}
+use Rattle.layout.specs.Layout.{sizeFor}
 use Rattle.layout.proofs.Check.{is-size}
 use Rattle.layout.proofs.size.Statement.{statement}
 use Rattle.layout.proofs.size.Tie as tie
@@ -19,11 +19,11 @@ add-result c = let h = is-size (c .before .before .args .n) (sym (c .before .and
     ∙ c .if1 .taken) in omega arith
 
 returns : tie.Need-returns
-unfolding size
+unfolding sizeFor
 returns c = rw (sym (c .before .and .ensures) ∙ c .if1 .taken) refl
 
 returns-2 : tie.Need-returns-2
-unfolding size
+unfolding sizeFor
 returns-2 c = rw (sym (c .before .and .ensures) ∙ c .if1 .left) refl
 
 pub size-spec : {M : Type 1} → statement M

@@ -3,7 +3,7 @@ use borrow.Author.Needs.{needs}
 use mathlib.Core.Path.{refl, ap, ap₂, _∙_}
 use Prim.Native.Nat.{ℕ, _-_}
 use Rattle.wire.specs.declared.Message.the-variants.{ReadAnswer}
-use Rattle.record.specs.Record.{waiting}
+use Rattle.record.specs.Record.{withWait}
 use Rattle.record.specs.declared.Wait.{Wait}
 use Rattle.step.specs.React.{readWait, writeWait, react}
 use Rattle.step.specs.declared.Sent.the-variants.{One}
@@ -26,7 +26,7 @@ returns c =
     let q = c .before .before .before .before .before .before .before .before .before .m .given .0 .0 in
     rw (c .before .before .before .before .before .before .before .before .before .m .given .1) (
       ap (λ (x : ℕ). One (ReadAnswer q x)) (c .before .before .before .before .before .before .get-word .ensures),
-      c .before .before .waiting-in .ensures ∙ ap (λ (w : Wait). recordBytes (waiting (recordOf r) w))
+      c .before .before .waiting-in .ensures ∙ ap (λ (w : Wait). recordBytes (withWait (recordOf r) w))
           (c .before .before .before .load-wait .ensures),
     )
 
@@ -43,7 +43,7 @@ returns-2 c =
     let t = c10 .m2 .given .0 .1 .0 in
     rw (c10 .m2 .given .1) (
       refl,
-      c .before .before .waiting-in2 .ensures ∙ ap (λ (w : Wait). recordBytes (waiting (recordOf r) w))
+      c .before .before .waiting-in2 .ensures ∙ ap (λ (w : Wait). recordBytes (withWait (recordOf r) w))
           (c3 .read-wait .ensures
           ∙ ap₂ (λ (w : Wait) (x : ℕ). readWait x (a .s) q t w) (c6 .load-wait2 .ensures)
           (c3 .before .get-word2 .ensures)),
@@ -69,7 +69,7 @@ returns-4 c =
     let t = c10 .m4 .given .0 .1 .0 in
     rw (c10 .m4 .given .1) (
       refl,
-      c .before .before .waiting-in3 .ensures ∙ ap (λ (w : Wait). recordBytes (waiting (recordOf r) w))
+      c .before .before .waiting-in3 .ensures ∙ ap (λ (w : Wait). recordBytes (withWait (recordOf r) w))
           (c3 .write-wait .ensures
           ∙ ap₂ (λ (w : Wait) (x : ℕ). writeWait x (a .s) q t w) (c6 .load-wait3 .ensures)
           (c3 .before .get-word3 .ensures)),

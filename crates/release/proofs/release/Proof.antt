@@ -8,7 +8,7 @@ use mathlib.Core.List.{List}
 use lib.ListN.{take}
 use Rattle.outgoing.specs.Entries.{Entry, entries}
 use Rattle.outgoing.specs.Outgoing.{haltIf, letOut}
-use Rattle.outgoing.proofs.Out.{within-most}
+use Rattle.outgoing.proofs.Out.{shortened-most}
 use Rattle.release.proofs.release.Statement.{statement}
 use Rattle.release.proofs.release.Tie as tie
 
@@ -22,7 +22,7 @@ returns c =
     let n = a .n in
     c .before .before .let-out .ensures ∙ ap₂ (λ (l : List Entry) (t : List ℕ). letOut n (a .c) l t)
     (ap (λ (j : ℕ). take j (entries n (a .a) (a .o))) (c3 .allowance .ensures)
-    ∙ within-most n (a .a) (a .x) (a .o) (omega (arith, p .1, p .2)) (p .0))
+    ∙ shortened-most n (a .a) (a .x) (a .o) (omega (arith, p .1, p .2)) (p .0))
     (c7 .halt-if .ensures ∙ ap (λ (t : Bool). haltIf t n (a .c) (a .b .now)) (c7 .before .is-cut .ensures))
 
 pub release-spec : {M : Type 1} → statement M

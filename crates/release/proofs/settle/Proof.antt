@@ -6,7 +6,7 @@ use mathlib.Core.Bool.{false}
 use mathlib.Core.List.{List}
 use borrow.Author.Tests.{not-true, not-false}
 use Rattle.outgoing.specs.Entries.{entries}
-use Rattle.outgoing.specs.Outgoing.{within, isCut, haltIf, letOut}
+use Rattle.outgoing.specs.Outgoing.{shortened, isCut, haltIf, letOut}
 use Rattle.outgoing.proofs.Judged.{judged}
 use Rattle.release.proofs.settle.Statement.{statement}
 use Rattle.release.proofs.settle.Tie as tie
@@ -47,7 +47,7 @@ returns-2 c =
     (c11 .is-cut .ensures) refl (c8 .before .before .allowance .ensures) (c8 .before .has-room .ensures) in (
       sym (not-false _ (c8 .if1 .left)) ∙ j,
       c2 .release .ensures
-          ∙ ap (λ (u : List ℕ). letOut (a .n) (a .c) (within (a .x) (entries (a .n) (a .c) (a .o)))
+          ∙ ap (λ (u : List ℕ). letOut (a .n) (a .c) (shortened (a .x) (entries (a .n) (a .c) (a .o)))
           (haltIf (isCut (a .x)) (a .n) (a .c) u)) (c6 .keep-record-at .ensures),
     )
 

@@ -6,10 +6,10 @@ use mathlib.Core.Bool.{true}
 use mathlib.Core.List.{List}
 use borrow.Author.Tests.{not-true, not-false}
 use Rattle.region.specs.Record.{recordOf}
-use Rattle.block.specs.Block.{keep}
+use Rattle.block.specs.Block.{keepRecord}
 use Rattle.layout.specs.Layout.{onBlock}
 use Rattle.outgoing.specs.Entries.{entries}
-use Rattle.outgoing.specs.Outgoing.{within, isCut, haltIf, letOut}
+use Rattle.outgoing.specs.Outgoing.{shortened, isCut, haltIf, letOut}
 use Rattle.outgoing.proofs.Judged.{judged}
 use Rattle.release.proofs.settle_delivery.Statement.{statement}
 use Rattle.release.proofs.settle_delivery.Tie as tie
@@ -54,9 +54,10 @@ returns-2 c =
     (c13 .has-room .ensures) in (
       sym (not-false _ (c10 .before .before .if1 .left)) ∙ j,
       c2 .release .ensures
-          ∙ ap (λ (u : List ℕ). letOut (a .n) (a .c) (within (a .x) (entries (a .n) (a .a) (a .o)))
+          ∙ ap (λ (u : List ℕ). letOut (a .n) (a .c) (shortened (a .x) (entries (a .n) (a .a) (a .o)))
           (haltIf (isCut (a .x)) (a .n) (a .c) u))
-          (c6 .keep-record-at .ensures ∙ ap (onBlock (a .c) (keep (recordOf (a .r .now)))) (c10 .take-off-at .ensures)),
+          (c6 .keep-record-at .ensures ∙ ap (onBlock (a .c) (keepRecord (recordOf (a .r .now))))
+          (c10 .take-off-at .ensures)),
     )
 
 pub settle-delivery-spec : {M : Type 1} → statement M

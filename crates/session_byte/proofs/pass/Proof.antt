@@ -3,7 +3,7 @@ use borrow.Author.Needs.{needs}
 use mathlib.Core.Path.{refl, sym, ap}
 use native.Mathlib.Nat.{add-zero}
 use Rattle.octets.proofs.Put.{put-nil}
-use Rattle.session_byte.specs.Memory.{told}
+use Rattle.session_byte.specs.Memory.{lineEffect}
 use Rattle.session_progress.specs.declared.Stage.the-variants.{Events}
 use Rattle.session_byte.proofs.pass.Statement.{statement}
 use Rattle.session_byte.proofs.pass.Tie as tie
@@ -39,7 +39,7 @@ same-length-2 : tie.Need-same-length-2
 same-length-2 c = search needs
 
 returns : tie.Need-returns
-unfolding told
+unfolding lineEffect
 returns c = rw (
   c .before .before .before .before .before .before .before .before .enum-told .given .1,
   sym
@@ -54,7 +54,7 @@ same-length-4 : tie.Need-same-length-4
 same-length-4 c = search needs
 
 returns-2 : tie.Need-returns-2
-unfolding told
+unfolding lineEffect
 returns-2 c =
     let r = c .before .before .before .before .before .run-in .ensures in
     let s = c .before .before .before .before .before .before .before .before .before .before .s .given in
@@ -62,7 +62,7 @@ returns-2 c =
     (ap (λ k. Events (s .0 .0) k) (c .next .ensures), r .0, r .1, r .2)
 
 returns-3 : tie.Need-returns-3
-unfolding told
+unfolding lineEffect
 returns-3 c =
     let x = c .before .before .before .before .args in
     rw (c .enum-told2 .given .1) (refl, refl, sym (put-nil (x .out .now) (x .at)), sym (add-zero (x .at)))

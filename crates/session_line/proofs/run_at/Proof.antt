@@ -4,16 +4,16 @@ use Prim.Native.Nat.{ℕ}
 use mathlib.Core.Path.{_≡_, refl, sym, ap, ap₂, _∙_}
 use mathlib.Core.List.{List}
 use Rattle.octets.specs.Answer.{result, refused}
-use Rattle.octets.specs.Answer.{Answer as Said}
+use Rattle.octets.specs.Answer.{Answer}
 use Rattle.view.specs.declared.View.{View}
 use Rattle.step.specs.declared.Ending.{Ending}
 use Rattle.step.specs.declared.Ending.the-variants.{None, Done, Scan, Spent}
-use Rattle.step.specs.Told.{Told, told, shown}
+use Rattle.step.specs.Told.{Told, told, toldView}
 use Rattle.layout.specs.Layout.{stated}
-use Rattle.events.specs.declared.Answer.{Answer}
-use Rattle.events.specs.Outcome.{said, tells, toldBy, toldOf}
+use Rattle.events.specs.declared.Reply.{Reply}
+use Rattle.events.specs.Outcome.{answerOf, tells, toldBy, toldOf}
 use Rattle.lines.specs.declared.Line.{Line}
-use Rattle.answers.specs.declared.Reply.{Reply}
+use Rattle.answers.specs.declared.Printed.{Printed}
 use Rattle.answers.specs.Answer.{line}
 use Rattle.session_reply.specs.Reply.{handler, replyOf}
 use Rattle.session_line.specs.Act.{ran, printed}
@@ -42,8 +42,8 @@ same-length-2 : tie.Need-same-length-2
 same-length-2 c = search needs
 
 -- only a scan's view is printed
-seen : (e c n : ℕ) (x : Said Ending) (v : View)
-    → line e (replyOf c (told x v)) n v ≡ line e (replyOf c (told x v)) n (shown (told x v))
+seen : (e c n : ℕ) (x : Answer Ending) (v : View)
+    → line e (replyOf c (told x v)) n v ≡ line e (replyOf c (told x v)) n (toldView (told x v))
 unfolding line
 seen e c n (refused i) v = refl
 seen e c n (result None) v = refl
@@ -52,14 +52,14 @@ seen e c n (result (Scan i)) v = refl
 seen e c n (result Spent) v = refl
 
 -- what is printed, from what was answered
-says : (e : ℕ) (l : Line) (b k : List ℕ) {c n : ℕ} (a : Answer) {r : Reply} → n ≡ stated b → c ≡ handler l
+says : (e : ℕ) (l : Line) (b k : List ℕ) {c n : ℕ} (a : Reply) {r : Printed} → n ≡ stated b → c ≡ handler l
     → r ≡ replyOf c (toldBy a) → tells a k (ran l b) → line e r n (a .view) ≡ printed e l b
 unfolding printed
 says e l b k {c} {n} a {r} p q s t =
     let u : toldBy a ≡ toldOf (ran l b) = t .0 in
-    ap (λ (x : Reply). line e x n (a .view)) s ∙ seen e c n (said (a .outcome)) (a .view)
-    ∙ ap (λ (x : Told). line e (replyOf c x) n (shown x)) u
-    ∙ ap₂ (λ (i j : ℕ). line e (replyOf i (toldOf (ran l b))) j (shown (toldOf (ran l b)))) q p
+    ap (λ (x : Printed). line e x n (a .view)) s ∙ seen e c n (answerOf (a .outcome)) (a .view)
+    ∙ ap (λ (x : Told). line e (replyOf c x) n (toldView x)) u
+    ∙ ap₂ (λ (i j : ℕ). line e (replyOf i (toldOf (ran l b))) j (toldView (toldOf (ran l b)))) q p
 
 returns : tie.Need-returns
 returns c =

@@ -8,7 +8,7 @@ use native.Mathlib.Omega.{arith}
 use Rattle.octets.specs.Bytes.{part}
 use Rattle.octets.proofs.Lent.{lent}
 use Rattle.view.specs.Size.{viewSize}
-use Rattle.wire.specs.Layout.{allowed, size, secondAt, goodHead}
+use Rattle.wire.specs.Layout.{allowed, messageSize, secondAt, goodHead}
 use Rattle.wire.specs.Codec.{said, viewAt}
 use Rattle.wire.specs.Shape.{shapeAs}
 use Rattle.wire.specs.declared.Message.the-variants.{Good}
@@ -19,7 +19,7 @@ cast-writer : tie.Need-cast-writer
 cast-writer c = omega (arith, c .shared-slice-known3 .given secondAt)
 
 returns : tie.Need-returns
-unfolding shapeAs said allowed size part
+unfolding shapeAs said allowed messageSize part
 returns c =
     let c3 = c .before .before .before in
     let t = rw (c3 .has-head .ensures, c .before .before .is-request .ensures, c3 .before .get-word .ensures) at
@@ -28,7 +28,7 @@ returns c =
     (simp (t, c3 .before .get-word .ensures))
 
 returns-2 : tie.Need-returns-2
-unfolding shapeAs said allowed size part
+unfolding shapeAs said allowed messageSize part
 returns-2 c =
     let c3 = c .before .before .before in
     let t = rw (c3 .has-head .ensures, c .before .before .is-request .ensures, c3 .before .get-word .ensures) at
@@ -37,7 +37,7 @@ returns-2 c =
     (simp (t))
 
 returns-3 : tie.Need-returns-3
-unfolding shapeAs said allowed size part
+unfolding shapeAs said allowed messageSize part
 returns-3 c =
     let c3 = c .before .before .before in
     let c6 = c3 .before .before .before in
@@ -52,7 +52,7 @@ returns-3 c =
     (simp (le-leb _ _ (c6 .if2 .taken), t, c3 .before .before .get-word2 .ensures, c3 .before .get-word3 .ensures))
 
 returns-4 : tie.Need-returns-4
-unfolding shapeAs said allowed size part
+unfolding shapeAs said allowed messageSize part
 returns-4 c =
     let c3 = c .before .before .before in
     let c6 = c3 .before .before .before in
@@ -67,11 +67,11 @@ returns-4 c =
     (simp (le-leb _ _ (c6 .if2 .taken), t))
 
 returns-5 : tie.Need-returns-5
-unfolding shapeAs said allowed size part
+unfolding shapeAs said allowed messageSize part
 returns-5 c = rw (c .before .match .keys2) (simp (lt-leb _ _ (c .if2 .left)))
 
 returns-6 : tie.Need-returns-6
-unfolding shapeAs said allowed size part
+unfolding shapeAs said allowed messageSize part
 returns-6 c =
     let c3 = c .before .before .before in
     let c6 = c3 .before .before .before in
@@ -86,7 +86,7 @@ returns-6 c =
     (simp (le-leb _ _ (c6 .if4 .taken), t, c3 .before .before .get-word4 .ensures, c3 .before .get-word5 .ensures))
 
 returns-7 : tie.Need-returns-7
-unfolding shapeAs said allowed size part
+unfolding shapeAs said allowed messageSize part
 returns-7 c =
     let c3 = c .before .before .before in
     let c6 = c3 .before .before .before in
@@ -101,11 +101,11 @@ returns-7 c =
     (simp (le-leb _ _ (c6 .if4 .taken), t))
 
 returns-8 : tie.Need-returns-8
-unfolding shapeAs said allowed size part
+unfolding shapeAs said allowed messageSize part
 returns-8 c = rw (c .before .match .keys3) (simp (lt-leb _ _ (c .if4 .left)))
 
 returns-9 : tie.Need-returns-9
-unfolding shapeAs said allowed size part
+unfolding shapeAs said allowed messageSize part
 returns-9 c =
     let c3 = c .before .before .before in
     let c6 = c3 .before .before .before in
@@ -120,7 +120,7 @@ returns-9 c =
     (simp (le-leb _ _ (c6 .if6 .taken), t, c3 .before .before .get-word6 .ensures, c3 .before .get-word7 .ensures))
 
 returns-10 : tie.Need-returns-10
-unfolding shapeAs said allowed size part
+unfolding shapeAs said allowed messageSize part
 returns-10 c =
     let c3 = c .before .before .before in
     let c6 = c3 .before .before .before in
@@ -135,11 +135,11 @@ returns-10 c =
     (simp (le-leb _ _ (c6 .if6 .taken), t))
 
 returns-11 : tie.Need-returns-11
-unfolding shapeAs said allowed size part
+unfolding shapeAs said allowed messageSize part
 returns-11 c = rw (c .before .match .keys4) (simp (lt-leb _ _ (c .if6 .left)))
 
 returns-12 : tie.Need-returns-12
-unfolding shapeAs said allowed size part
+unfolding shapeAs said allowed messageSize part
 returns-12 c =
     let c3 = c .before .before .before in
     let t = rw (c3 .has-head2 .ensures, c .before .before .is-request2 .ensures, c3 .before .get-word8 .ensures) at
@@ -148,7 +148,7 @@ returns-12 c =
     (simp (t, c3 .before .get-word8 .ensures))
 
 returns-13 : tie.Need-returns-13
-unfolding shapeAs said allowed size part
+unfolding shapeAs said allowed messageSize part
 returns-13 c =
     let c3 = c .before .before .before in
     let t = rw (c3 .has-head2 .ensures, c .before .before .is-request2 .ensures, c3 .before .get-word8 .ensures) at
@@ -157,7 +157,7 @@ returns-13 c =
     (simp (t))
 
 returns-14 : tie.Need-returns-14
-unfolding shapeAs said allowed size part
+unfolding shapeAs said allowed messageSize part
 returns-14 c =
     let c3 = c .before .before .before in
     let c7 = c3 .before .before .before .before in
@@ -167,7 +167,7 @@ returns-14 c =
     (simp (le-leb _ _ (c7 .before .if9 .taken), t, c7 .get-word9 .ensures, c .read-report .ensures))
 
 returns-15 : tie.Need-returns-15
-unfolding shapeAs said allowed size part
+unfolding shapeAs said allowed messageSize part
 returns-15 c =
     let c3 = c .before .before .before in
     let c6 = c3 .before .before .before in
@@ -177,11 +177,11 @@ returns-15 c =
     (simp (le-leb _ _ (c6 .if9 .taken), t))
 
 returns-16 : tie.Need-returns-16
-unfolding shapeAs said allowed size part
+unfolding shapeAs said allowed messageSize part
 returns-16 c = rw (c .before .match .keys6) (simp (lt-leb _ _ (c .if9 .left)))
 
 returns-17 : tie.Need-returns-17
-unfolding shapeAs said allowed size part
+unfolding shapeAs said allowed messageSize part
 returns-17 c =
     let c4 = c .before .before .before .before in
     let c7 = c4 .before .before .before in
@@ -196,7 +196,7 @@ returns-17 c =
     rw (c7 .match .keys7) (simp (le-leb _ _ (c4 .before .before .if11 .taken), t, c4 .before .get-word10 .ensures))
 
 returns-18 : tie.Need-returns-18
-unfolding shapeAs said allowed size part
+unfolding shapeAs said allowed messageSize part
 returns-18 c =
     let c4 = c .before .before .before .before in
     let c7 = c4 .before .before .before in
@@ -211,7 +211,7 @@ returns-18 c =
     rw (c7 .match .keys7) (simp (le-leb _ _ (c4 .before .before .if11 .taken), t))
 
 returns-19 : tie.Need-returns-19
-unfolding shapeAs said allowed size part
+unfolding shapeAs said allowed messageSize part
 returns-19 c = rw (c .before .match .keys7) (simp (lt-leb _ _ (c .if11 .left)))
 
 returns-20 : tie.Need-returns-20

@@ -10,15 +10,15 @@ use lib.Dec.{leb}
 use Rattle.view.specs.Size.{nodes}
 use Rattle.view.specs.declared.Report.{Report}
 use Rattle.view.specs.Report.{noReport}
-use Rattle.table.specs.Loop.{tab}
+use Rattle.table.specs.Loop.{numbered}
 use Rattle.table.specs.Table.{tagOf, reportOf, newestTag, newestReport, newest}
 use Rattle.table.proofs.Laws.{filled, filled-none, filled-all, length-mapped}
 use Rattle.table.proofs.views.newest_view.Statement.{statement}
 use Rattle.table.proofs.views.newest_view.Tie as tie
 
 abbrev Inv-loop : tie.InvT-loop
-Inv-loop t last v₀ w₀ v w = (w ≤ nodes) × (v .tags ≡ tab w (newestTag t last v₀) ++ drop w (v₀ .tags))
-    × (v .reports ≡ tab w (newestReport t last v₀) ++ drop w (v₀ .reports))
+Inv-loop t last v₀ w₀ v w = (w ≤ nodes) × (v .tags ≡ numbered w (newestTag t last v₀) ++ drop w (v₀ .tags))
+    × (v .reports ≡ numbered w (newestReport t last v₀) ++ drop w (v₀ .reports))
 
 abbrev μ-loop : tie.MeasureT-loop
 μ-loop t last v₀ w₀ v w = nodes - w

@@ -5,7 +5,7 @@ use Prim.Native.Nat.{_-_, _≤_}
 use native.Mathlib.Omega.{arith}
 use Rattle.view.specs.Size.{nodes}
 use Rattle.table.specs.Loop.{all}
-use Rattle.table.specs.Table.{entryWithin, within}
+use Rattle.table.specs.Table.{entryWithin, viewWithin}
 use Rattle.table.proofs.Laws.{all-none, all-more}
 use Rattle.table.proofs.views.view_within.Statement.{statement}
 use Rattle.table.proofs.views.view_within.Tie as tie
@@ -31,7 +31,7 @@ loop-again c = (
 )
 
 returns : tie.Need-returns Inv-loop μ-loop
-unfolding within
+unfolding viewWithin
 returns c = let e : c .before .loop .w ≡ nodes = omega arith in rw e at (c .before .loop .inv .1)
 
 pub view-within-spec : {M : Type 1} → statement M
