@@ -1,4 +1,4 @@
--- The handler's part of a delivery, done on a copy of the record's bytes.
+-- Cited by inner contracts only: the handler's part of a delivery, done on a copy of the record's bytes.
 use Prim.Native.Nat.{ℕ}
 use mathlib.Core.List.{List}
 use Rattle.view.specs.View.{viewOf}

@@ -1,4 +1,5 @@
--- When messages can be written at a place: each is of the layout, and there is room for all. Assumes nothing.
+-- Cited by inner contracts only: when messages can be written at a place. Each is of the layout, and there is room for
+-- all. Assumes nothing.
 use mathlib.Core.Path.{_≡_}
 use mathlib.Core.Bool.{true}
 use mathlib.Core.List.{List, [], _∷_}

@@ -1,4 +1,5 @@
--- What an admitted event knows of the bytes b: n, a sender a, and node c, whose record can be used.
+-- Cited by inner contracts only: what an admitted event knows of the bytes b. They state n, a is a sender, and the
+-- record of node c can be used.
 use Prim.Native.Nat.{ℕ, _≤_}
 use mathlib.Core.Path.{_≡_}
 use mathlib.Core.Bool.{true}

@@ -1,5 +1,6 @@
--- How refusal 11 is judged before anything is written: on the cluster as it is, with what the event will take away from
--- the channels to the stepping node c itself. The theorem `room-before` of proofs/ says that this is `roomy`.
+-- Cited by inner contracts only: how refusal 11 is judged before anything is written, on the cluster as it is, with
+-- what the event will take away from the channels to the stepping node c itself. The theorem `room-before` of proofs/
+-- says that this is `roomy`.
 use Prim.Native.Nat.{ℕ, _+_, _-_}
 use mathlib.Core.Bool.{Bool, true}
 use mathlib.Core.List.{List}

@@ -1,4 +1,5 @@
--- A message handled on the bytes of a record: the words that the handlers' contracts use beside those of the record.
+-- Cited by inner contracts only: a message handled on the bytes of a record, the words that the handlers' contracts use
+-- beside those of the record.
 use Prim.Native.Nat.{ℕ, _+_, _-_, _*_}
 use mathlib.Core.Bool.{Bool}
 use mathlib.Core.List.{List}

@@ -1,4 +1,5 @@
--- A step done on the bytes of a record: the words that the contracts use beside those of the step.
+-- Cited by inner contracts only: a step done on the bytes of a record, the words that the contracts use beside those of
+-- the step.
 use Prim.Native.Nat.{ℕ}
 use mathlib.Core.Path.{_≡_}
 use mathlib.Core.List.{List}

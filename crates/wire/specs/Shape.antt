@@ -1,5 +1,5 @@
--- How the reader tests the layout: the lengths and the heads of the fields, by kind. The theorem `shape-is` of proofs/
--- says that these tests find just the bytes that begin with an allowed message.
+-- Cited by inner contracts only: how the reader tests the layout, the lengths and the heads of the fields, by kind. The
+-- theorem `shape-is` of proofs/ says that these tests find just the bytes that begin with an allowed message.
 use Prim.Native.Nat.{ℕ, _+_}
 use mathlib.Core.Bool.{Bool, false}
 use mathlib.Core.List.{List, _∷_}
