@@ -7,7 +7,7 @@ use native.Mathlib.Decide.{ℕ-discrete}
 use native.Mathlib.Omega.{arith}
 use lib.ListN.{length, getD, length-take}
 use lib.Pow.{pow-mono}
-use lib.Dec.{eqb, ltb, leb}
+use lib.Dec.{eqb, ltb}
 use borrow.Author.Tests.{eqb-true, eq-eqb, ne-eqb, le-leb, ltb-true}
 use Rattle.octets.specs.Test.{pick, both}
 use Rattle.octets.specs.Bytes.{Bytes, num, part}
@@ -49,26 +49,16 @@ long-is n len =
 
 -- entry i is plain
 abbrev pub plainAt : List ℕ → ℕ → Bool
-plainAt v i = plain (getD v (16 * i) 0) (getD v (16 * i + 7) 0) (word v (16 * i + 8))
+plainAt v i = plain (getD v (16 * i) 0) (getD v (16 * i + 7) 0)
 
--- no report may stand beside any tag, and any report beside a tag that is not 0
+-- any report may stand beside a tag that is not 0
 beside : (tag report : ℕ) → (tag ≡ 0 → ⊥) → pick (eqb tag 0) (eqb report 0) true ≡ true
 beside tag report t = rw (ne-eqb tag 0 t) refl
-
-beside-none : (tag report : ℕ) → report ≡ 0 → pick (eqb tag 0) (eqb report 0) true ≡ true
-beside-none tag report x = rw (eq-eqb report 0 x) (go (eqb tag 0))
-  where
-    go : (t : Bool) → pick t true true ≡ true
-    go true = refl
-    go false = refl
 
 -- a plain entry may stand in a view
 module _ (v : List ℕ) (i : ℕ) (h : Bytes v) (l : 16 * i + 8 ≤ length v) where
   abbrev at : ℕ
   at = 16 * i
-
-  abbrev x : ℕ
-  x = word v (at + 8)
 
   abbrev lo : Bool
   lo = ltb (getD v at 0) 128
@@ -85,27 +75,14 @@ module _ (v : List ℕ) (i : ℕ) (h : Bytes v) (l : 16 * i + 8 ≤ length v) wh
   last : getD (part v at 8) 7 0 ≡ getD v (at + 7) 0
   last = getD-part v at 8 7 (omega arith)
 
-  most : lo ≡ true → leb (word v at) limit ≡ true
-  most m =
-      let k = num-eight (part v at 8) (length-part v at 8 l) in
-      let n : getD v at 0 < 128 = ltb-true _ _ m in
-      le-leb (word v at) limit (omega (arith, k, first, n, g 1, g 2, g 3, g 4, g 5, g 6, g 7))
-
-  none : plainAt v i ≡ true → x ≡ 0 → entryOkAt limit v i ≡ true
-  none e z =
-      let m : lo ≡ true = sym (ap (λ (t : Bool). pick t lo (both lo hi)) (eq-eqb x 0 z)) ∙ e in
-      both-true (most m) (beside-none (word v at) x z)
-
-  some : plainAt v i ≡ true → (x ≡ 0 → ⊥) → entryOkAt limit v i ≡ true
-  some e z =
-      let m : both lo hi ≡ true = sym (ap (λ (t : Bool). pick t lo (both lo hi)) (ne-eqb x 0 z)) ∙ e in
-      let k = num-eight (part v at 8) (length-part v at 8 l) in
-      let n : 0 < getD v (at + 7) 0 = ltb-true _ _ (both-right lo hi m) in
-      let t : word v at ≡ 0 → ⊥ = λ y. omega (arith, k, last, n, y) in
-      both-true (most (both-left lo hi m)) (beside (word v at) x t)
-
   pub plain-entry : plainAt v i ≡ true → entryOkAt limit v i ≡ true
-  plain-entry e = elim (ℕ-discrete x 0) [ yes z ↦ none e z | no z ↦ some e z ]
+  plain-entry e =
+      let k = num-eight (part v at 8) (length-part v at 8 l) in
+      let m : getD v at 0 < 128 = ltb-true _ _ (both-left lo hi e) in
+      let n : 0 < getD v (at + 7) 0 = ltb-true _ _ (both-right lo hi e) in
+      let t : word v at ≡ 0 → ⊥ = λ y. omega (arith, k, last, n, y) in
+      both-true (le-leb (word v at) limit (omega (arith, k, first, m, g 1, g 2, g 3, g 4, g 5, g 6, g 7)))
+      (beside (word v at) (word v (at + 8)) t)
 
 -- plain entries are a view
 pub plain-view : (n : ℕ) (v : List ℕ) → Bytes v → 16 * n ≤ length v → allTo n (plainAt v) ≡ true → viewOk n limit v

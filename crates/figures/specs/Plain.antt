@@ -2,10 +2,9 @@
 -- entries are a view.
 use Prim.Native.Nat.{ℕ}
 use mathlib.Core.Bool.{Bool}
-use lib.Dec.{eqb, ltb}
-use Rattle.octets.specs.Test.{pick, both}
+use lib.Dec.{ltb}
+use Rattle.octets.specs.Test.{both}
 
--- What the first and the last byte of a tag and the number of the report beside it can show: that both may stand in a
--- view.
-abbrev pub plain : (first last report : ℕ) → Bool
-plain first last report = pick (eqb report 0) (ltb first 128) (both (ltb first 128) (ltb 0 last))
+-- What the first and the last byte of a tag can show: that it may stand in a view, beside any report.
+abbrev pub plain : (first last : ℕ) → Bool
+plain first last = both (ltb first 128) (ltb 0 last)

@@ -33,63 +33,53 @@ fn is_long(n: usize, len: usize) -> bool
     octets::and(len % ENTRY == 0, len / ENTRY == n)
 }
 
-// Whether the first and last byte of a tag and the number of the report beside it show that they may stand in a view. A
-// tag is within its limit where its first byte is below 128; beside it there may be no report, and any where its last
-// byte is not 0.
-fn is_plain(first: u8, last: u8, report: u64) -> bool
-    ensures { λ r. ⌜ r ≡ plain first last report ⌝ }
+// Whether the first and the last byte of a tag show that it may stand in a view beside any report: it is within its
+// limit where the first is below 128, and not 0 where the last is not.
+fn is_plain(first: u8, last: u8) -> bool
+    ensures { λ r. ⌜ r ≡ plain first last ⌝ }
 {
-    if report == 0 {
-        first < 128
-    } else {
-        octets::and(first < 128, 0 < last)
-    }
+    octets::and(first < 128, 0 < last)
 }
 
-// Whether n entries are a view. One with an entry that is not plain is looked at whole.
-fn is_view(n: usize, v: &[u8]) -> bool
-    requires { ⌜ 16 * n ≤ length (now v) ⌝ }
-    ensures { λ r. ⌜ r ≡ viewOk n limit (now (v .entry)) ⌝ }
-{
-    let mut ok = true;
-    let mut i = 0;
-    while i < n {
-        let at = ENTRY * i;
-        ok = octets::and(is_plain(v[at], v[at + 7], octets::get_word(v, at + 8)), ok);
-        i += 1;
-    }
-    if ok {
-        return true;
-    }
-    view::view_ok(n, LIMIT, v)
+// The sums over n entries, and whether each of them is plain.
+struct Tally {
+    sums: Totals,
+    plain: bool,
 }
 
-// The sums over n entries. What stands beside tag 0 is no report, so it adds nothing.
-fn sums(n: usize, v: &[u8]) -> Totals
-    requires { ⌜ (n ≤ 16) × (16 * n ≤ length (now v)) × (viewOk n limit (now v) ≡ true) ⌝ }
-    ensures { λ r. ⌜ r ≡ totals n (now (v .entry)) ⌝ }
+// Adds up n entries. If all are plain, they are a view; if not, they may be one, and what stands beside tag 0 of a view
+// adds nothing. The loop tests no report, and is quicker so.
+fn add_up(n: usize, v: &[u8]) -> Tally
+    requires { ⌜ (n ≤ 16) × (16 * n ≤ length (now v)) ⌝ }
+    ensures { λ r. ⌜ (r .plain ≡ true → viewOk n limit (now (v .entry)) ≡ true)
+        × (viewOk n limit (now (v .entry)) ≡ true → r .sums ≡ totals n (now (v .entry))) ⌝ }
 {
     let mut extensions: u32 = 0;
     let mut lines: u32 = 0;
     let mut waiting: u32 = 0;
     let mut wakeups: u32 = 0;
+    let mut all = true;
     let mut i = 0;
     while i < n {
         let at = ENTRY * i;
         let middle = at + 8;
         let end = at + ENTRY;
         let p = view::read_report(&v[middle..end]);
+        all = octets::and(is_plain(v[at], v[at + 7]), all);
         extensions += p.extensions as u32;
         lines += p.lines as u32;
         waiting += p.waiting as u32;
         wakeups += p.wakeups as u32;
         i += 1;
     }
-    Totals {
-        extensions: extensions,
-        lines: lines,
-        waiting: waiting,
-        wakeups: wakeups,
+    Tally {
+        sums: Totals {
+            extensions: extensions,
+            lines: lines,
+            waiting: waiting,
+            wakeups: wakeups,
+        },
+        plain: all,
     }
 }
 
@@ -99,10 +89,16 @@ pub fn figures(n: usize, v: &[u8]) -> Summed
 {
     if is_long(n, v.len()) {
         if octets::and(1 <= n, n <= NODES) {
-            if is_view(n, v) {
-                Summed::Sums(sums(n, v))
+            let t = add_up(n, v);
+            let sums = t.sums;
+            if t.plain {
+                Summed::Sums(sums)
             } else {
-                Summed::Refused(7)
+                if view::view_ok(n, LIMIT, v) {
+                    Summed::Sums(sums)
+                } else {
+                    Summed::Refused(7)
+                }
             }
         } else {
             Summed::Refused(1)
