@@ -1,5 +1,5 @@
--- How most entries of a view are judged by two bytes of their tag. The theorem `plain-view` of proofs/ says that plain
--- entries are a view.
+-- Cited by inner contracts only: how most entries of a view are judged, by two bytes of their tag. The theorem
+-- `plain-view` of proofs/ says that plain entries are a view.
 use Prim.Native.Nat.{ℕ}
 use mathlib.Core.Bool.{Bool}
 use lib.Dec.{ltb}

@@ -1,16 +1,17 @@
 // House figures: four sums over the bytes of a view.
 ghost use mathlib.Core.Path.{_≡_};
 ghost use mathlib.Core.Bool.{true};
-ghost use Prim.Native.Nat.{_*_, _≤_};
+ghost use Prim.Native.Nat.{_≤_};
 ghost use lib.ListN.{length};
 ghost use lib.Dec.{eqb};
-ghost use Rattle.view.specs.Size.{limit};
+ghost use Rattle.view.specs.Size.{nodes, limit, viewSize};
 ghost use Rattle.view.specs.View.{viewOk};
 ghost use Rattle.figures.specs.Figures.{totals, figuresOf, summed};
 ghost use Rattle.figures.specs.Plain.{plain};
 use view::ENTRY;
 use view::LIMIT;
 use view::NODES;
+use view::TAG;
 
 // The four sums.
 pub struct Totals {
@@ -28,10 +29,13 @@ pub enum Summed {
 
 // Whether `len` bytes are n entries. The product is not computed, since n may be any number.
 fn is_long(n: usize, len: usize) -> bool
-    ensures { λ r. ⌜ r ≡ eqb len (16 * n) ⌝ }
+    ensures { λ r. ⌜ r ≡ eqb len (viewSize n) ⌝ }
 {
     octets::and(len % ENTRY == 0, len / ENTRY == n)
 }
+
+// Where the last byte of a tag stands in it.
+const LAST: usize = TAG - 1;
 
 // Whether the first and the last byte of a tag show that it may stand in a view beside any report: it is within its
 // limit where the first is below 128, and not 0 where the last is not.
@@ -50,7 +54,7 @@ struct Tally {
 // Adds up n entries. If all are plain, they are a view; if not, they may be one, and what stands beside tag 0 of a view
 // adds nothing. The loop tests no report, and is quicker so.
 fn add_up(n: usize, v: &[u8]) -> Tally
-    requires { ⌜ (n ≤ 16) × (16 * n ≤ length (now v)) ⌝ }
+    requires { ⌜ (n ≤ nodes) × (viewSize n ≤ length (now v)) ⌝ }
     ensures { λ r. ⌜ (r .plain ≡ true → viewOk n limit (now (v .entry)) ≡ true)
         × (viewOk n limit (now (v .entry)) ≡ true → r .sums ≡ totals n (now (v .entry))) ⌝ }
 {
@@ -62,10 +66,10 @@ fn add_up(n: usize, v: &[u8]) -> Tally
     let mut i = 0;
     while i < n {
         let at = ENTRY * i;
-        let middle = at + 8;
+        let middle = at + TAG;
         let end = at + ENTRY;
         let p = view::read_report(&v[middle..end]);
-        all = octets::and(is_plain(v[at], v[at + 7]), all);
+        all = octets::and(is_plain(v[at], v[at + LAST]), all);
         extensions += p.extensions as u32;
         lines += p.lines as u32;
         waiting += p.waiting as u32;

@@ -11,11 +11,11 @@ use Rattle.octets.specs.Test.{both}
 use Rattle.octets.proofs.Loop.{allTo-none, sumTo-none, sumTo-more}
 use Rattle.octets.proofs.Lent.{lent}
 use Rattle.view.specs.Report.{reportOf}
-use Rattle.view.specs.Size.{limit}
+use Rattle.view.specs.Size.{limit, tagSize, reportSize, entrySize}
 use Rattle.view.specs.View.{viewOk}
 use Rattle.view.specs.declared.Report.{Report}
-use Rattle.figures.specs.Figures.{shown, total, totals}
-use Rattle.figures.proofs.Bounds.{plainAt, plain-view, shown-is}
+use Rattle.figures.specs.Figures.{countedReport, total, totals}
+use Rattle.figures.proofs.Bounds.{plainAt, plain-view, countedReport-is}
 use Rattle.figures.proofs.add_up.Statement.{statement}
 use Rattle.figures.proofs.add_up.Tie as tie
 
@@ -33,10 +33,10 @@ loop-holds c =
     let v = c .before .args .v .now in (
       search needs,
       λ h. (
-        sym (sumTo-none (λ j. shown v j .extensions)),
-        sym (sumTo-none (λ j. shown v j .lines)),
-        sym (sumTo-none (λ j. shown v j .waiting)),
-        sym (sumTo-none (λ j. shown v j .wakeups)),
+        sym (sumTo-none (λ j. countedReport v j .extensions)),
+        sym (sumTo-none (λ j. countedReport v j .lines)),
+        sym (sumTo-none (λ j. countedReport v j .waiting)),
+        sym (sumTo-none (λ j. countedReport v j .wakeups)),
       ),
       sym (allTo-none (plainAt v)),
       search needs,
@@ -50,9 +50,9 @@ judged : (i : ℕ) (v : List ℕ) → both (plainAt v i) (allTo i (plainAt v)) �
 unfolding allTo
 judged i v = rw (add-one i) refl
 
-added : (v : List ℕ) (count : Report → ℕ) (i : ℕ) {x : ℕ} {p : Report} → x ≡ total count i v → p ≡ shown v i
+added : (v : List ℕ) (count : Report → ℕ) (i : ℕ) {x : ℕ} {p : Report} → x ≡ total count i v → p ≡ countedReport v i
     → x + count p ≡ total count (i + 1) v
-added v count i e q = ap₂ (λ (x y : ℕ). x + y) e (ap count q) ∙ sym (sumTo-more i (λ j. count (shown v j)))
+added v count i e q = ap₂ (λ (x y : ℕ). x + y) e (ap count q) ∙ sym (sumTo-more i (λ j. count (countedReport v j)))
 
 loop-again : tie.Need-loop-again Inv-loop μ-loop
 loop-again c =
@@ -62,10 +62,10 @@ loop-again c =
     let a = s .args in
     let v = a .v .now in
     let i = c11 .loop .i in
-    let e : 16 * i + 8 + 8 ≡ 16 * i + 16 = omega arith in
-    let p : viewOk (a .n) limit v ≡ true → c8 .read-report .result ≡ shown v i = λ h.
-    c8 .read-report .ensures ∙ ap reportOf (lent v (16 * i + 8) 8 e)
-    ∙ shown-is (a .n) v h (λ k. c11 .before .shared-slice-known .given k .fits) (s .pre .1) i
+    let e : entrySize * i + tagSize + reportSize ≡ entrySize * i + entrySize = omega arith in
+    let p : viewOk (a .n) limit v ≡ true → c8 .read-report .result ≡ countedReport v i = λ h.
+    c8 .read-report .ensures ∙ ap reportOf (lent v (entrySize * i + tagSize) reportSize e)
+    ∙ countedReport-is (a .n) v h (λ k. c11 .before .shared-slice-known .given k .fits) (s .pre .1) i
     (c8 .before .before .loop-test .taken) in (
       search needs,
       λ h. (

@@ -8,7 +8,7 @@ use lib.ListN.{length}
 use lib.Dec.{leb}
 use borrow.Author.Tests.{eqb-true, leb-true}
 use Rattle.octets.proofs.Test.{both-right}
-use Rattle.view.specs.Size.{limit}
+use Rattle.view.specs.Size.{nodes, limit, entrySize}
 use Rattle.view.specs.View.{viewOk}
 use Rattle.figures.specs.Figures.{figuresOf}
 use Rattle.figures.proofs.figures.Statement.{statement}
@@ -17,9 +17,9 @@ use Rattle.figures.proofs.figures.Tie as tie
 add-up-requires : tie.Need-add-up-requires
 add-up-requires c κs =
     let a = c .before .before .before .before .before .args in
-    let e : length (a .v .now) ≡ 16 * a .n = eqb-true (length (a .v .now)) (16 * a .n)
+    let e : length (a .v .now) ≡ entrySize * a .n = eqb-true (length (a .v .now)) (entrySize * a .n)
     (sym (c .before .before .before .is-long .ensures) ∙ c .before .before .if1 .taken) in (
-      leb-true (a .n) 16 (both-right (leb 1 (a .n)) (leb (a .n) 16)
+      leb-true (a .n) nodes (both-right (leb 1 (a .n)) (leb (a .n) nodes)
           (sym (c .before .and .ensures) ∙ c .if2 .taken)),
       omega arith,
     )
@@ -28,7 +28,7 @@ view-ok-requires : tie.Need-view-ok-requires
 view-ok-requires c κs =
     let c5 = c .before .before .before .before .before in
     let a = c5 .before .before .before .args in
-    let e : length (a .v .now) ≡ 16 * a .n = eqb-true (length (a .v .now)) (16 * a .n)
+    let e : length (a .v .now) ≡ entrySize * a .n = eqb-true (length (a .v .now)) (entrySize * a .n)
     (sym (c5 .before .is-long .ensures) ∙ c5 .if1 .taken) in
     omega arith
 
