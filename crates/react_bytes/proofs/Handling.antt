@@ -2,7 +2,7 @@
 use Prim.Native.Nat.{ℕ, _+_, _-_, _*_, _≤_, max}
 use mathlib.Core.Path.{_≡_, refl, sym, ap, ap₂, _∙_, subst}
 use mathlib.Core.Bool.{Bool, true, false}
-use mathlib.Core.List.{List}
+use mathlib.Core.List.{List, [], _∷_}
 use native.Mathlib.Omega.{arith}
 use lib.ListN.{length, length-set}
 use lib.Dec.{ltb, leb, eqb}
@@ -32,14 +32,14 @@ use Rattle.region.specs.Record.{ownPlace, maxtagPlace, requestPlace, keptPlace,
 use Rattle.region.specs.Record.{headOf, headBytes, withMaxtag, withKept, withWait as headWithWait}
 use Rattle.region.proofs.Back.{Sized, SizedNode, record-back}
 use Rattle.react_bytes.specs.Handled.{entered}
-use Rattle.react_bytes.proofs.Sections.{Tables, tables-of, heard-put, atmax-put, kept-put, last-entry}
-use Rattle.react_bytes.proofs.Sections.{atmax-entry, atround-entry, assembled}
+use Rattle.react_bytes.proofs.Sections.{Tables, tables-of, heard-put, view-put, view-entry, assembled}
 
 pub sized-view : (n : ℕ) (b : List ℕ) → n ≤ nodes → Sized (viewOf n b)
 sized-view n b h = record { tags = view-absent n b h .tags-length; reports = view-absent n b h .reports-length }
 
 module _ (r : List ℕ) (h : Bytes r) (l : length r ≡ recordSize) where
-  T : Tables r (words cells r heardPlace) (viewIn r lastIn) (viewIn r atmaxIn) (viewIn r atroundIn) (viewIn r keptIn)
+  T : Tables r (words cells r heardPlace)
+      (viewIn r lastIn ∷ viewIn r atmaxIn ∷ viewIn r atroundIn ∷ viewIn r keptIn ∷ [])
   T = tables-of r h l
 
   pub withWait-bytes : (w : Wait) → put r nPlace (headBytes (headWithWait (headOf r) w))
@@ -64,7 +64,7 @@ module _ (r : List ℕ) (h : Bytes r) (l : length r ≡ recordSize) where
           nPlace
           (headBytes (pick x (withMaxtag (headOf r) t) (headOf r)))
           ≡ recordBytes (grown x)
-      go true = assembled (grown true) (atmax-put T (newest t (viewIn r lastIn) (viewIn r atmaxIn)))
+      go true = assembled (grown true) (view-put T atmaxIn (omega arith) (newest t (viewIn r lastIn) (viewIn r atmaxIn)))
       go false = assembled (grown false) T
 
   pub kept-bytes : (t : ℕ) (v : View) (b : Bool) → ltb (word r keptPlace) t ≡ b
@@ -79,7 +79,7 @@ module _ (r : List ℕ) (h : Bytes r) (l : length r ≡ recordSize) where
 
       go : (x : Bool) → put (pick x (put r (viewPlace keptIn) (viewBytes nodes v)) r) nPlace
           (headBytes (pick x (withKept (headOf r) t) (headOf r))) ≡ recordBytes (grown x)
-      go true = assembled (grown true) (kept-put T v)
+      go true = assembled (grown true) (view-put T keptIn (omega arith) v)
       go false = assembled (grown false) T
 
   pub received-bytes : (s w t : ℕ) (p : Report) → 1 ≤ s → s ≤ nodes → 1 ≤ w → w ≤ nodes
@@ -92,10 +92,11 @@ module _ (r : List ℕ) (h : Bytes r) (l : length r ≡ recordSize) where
       let z : (i : ℕ) → Sized (viewIn r i) = λ i. sized-view nodes (part r (viewPlace i) (viewSize nodes))
       (omega arith) in
       assembled (received (recordOf r) s w t p)
-      (atround-entry (atmax-entry (last-entry (heard-put T (cell s w) t (omega arith)
+      (view-entry (view-entry (view-entry (heard-put T (cell s w) t (omega arith)
       (length-tab cells (λ i. word r (heardPlace + wordSize * i))))
-      new w t p (z lastIn) lw hw) (both new (leb t (word r maxtagPlace))) w t p (z atmaxIn) lw hw)
-      (both new (roundHolds (waitIn r) t)) w t p (z atroundIn) lw hw)
+      lastIn (omega arith) new w t p (z lastIn) lw hw)
+      atmaxIn (omega arith) (both new (leb t (word r maxtagPlace))) w t p (z atmaxIn) lw hw)
+      atroundIn (omega arith) (both new (roundHolds (waitIn r) t)) w t p (z atroundIn) lw hw)
 
 -- ---- the sizes of the tables after a handler, so that the record is read back
 
