@@ -1,11 +1,11 @@
 -- What the bytes of a record are after each handler: those of the record by value after it.
-use Prim.Native.Nat.{ℕ, _+_, _-_, _*_, _≤_, max}
-use mathlib.Core.Path.{_≡_, refl, sym, ap, ap₂, _∙_, subst}
+use Prim.Native.Nat.{ℕ, _+_, _-_, _*_, _≤_}
+use mathlib.Core.Path.{_≡_, refl, sym, ap, ap₂, _∙_}
 use mathlib.Core.Bool.{Bool, true, false}
 use mathlib.Core.List.{List, [], _∷_}
 use native.Mathlib.Omega.{arith}
 use lib.ListN.{length, length-set}
-use lib.Dec.{ltb, leb, eqb}
+use lib.Dec.{ltb, leb}
 use Rattle.octets.specs.Test.{pick, both}
 use Rattle.octets.specs.Bytes.{Bytes, part, put}
 use Rattle.octets.specs.Word.{word, words, wordSize}
@@ -22,13 +22,12 @@ use Rattle.wire.specs.declared.Message.the-variants.{Read, ReadAnswer, Write, W
 use Rattle.record.specs.Record.{setTop, setKept, withWait}
 use Rattle.record.specs.declared.Node.{Node}
 use Rattle.record.specs.declared.Wait.{Wait}
-use Rattle.record.specs.declared.Wait.the-variants.{Idle, Reading, Writing, Comparing, Borrowing}
 use Rattle.step.specs.React.{raised, roundHolds, isNew, received, keep, react}
 use Rattle.step.specs.Step.{started}
 use Rattle.step.specs.declared.Sent.{Sent}
 use Rattle.step.proofs.Lawful.{react-started}
 use Rattle.region.specs.Record.{recordSize, heardPlace, viewPlace, viewIn, waitIn, recordOf, recordBytes, nPlace}
-use Rattle.region.specs.Record.{ownPlace, maxtagPlace, requestPlace, keptPlace, lastIn, atmaxIn, atroundIn, keptIn}
+use Rattle.region.specs.Record.{maxtagPlace, keptPlace, lastIn, atmaxIn, atroundIn, keptIn}
 use Rattle.region.specs.Record.{headOf, headBytes, withMaxtag, withKept, withWait as headWithWait}
 use Rattle.region.proofs.Back.{Sized, SizedNode, record-back}
 use Rattle.react_bytes.specs.Handled.{entered}
@@ -64,7 +63,8 @@ module _ (r : List ℕ) (h : Bytes r) (l : length r ≡ recordSize) where
           nPlace
           (headBytes (pick x (withMaxtag (headOf r) t) (headOf r)))
           ≡ recordBytes (grown x)
-      go true = assembled (grown true) (view-put T atmaxIn (omega arith) (newest t (viewIn r lastIn) (viewIn r atmaxIn)))
+      go true = assembled (grown true)
+          (view-put T atmaxIn (omega arith) (newest t (viewIn r lastIn) (viewIn r atmaxIn)))
       go false = assembled (grown false) T
 
   pub kept-bytes : (t : ℕ) (v : View) (b : Bool) → ltb (word r keptPlace) t ≡ b

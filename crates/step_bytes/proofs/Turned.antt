@@ -30,7 +30,7 @@ use Rattle.step.specs.Move.{opened, writing, nextTag, heldView, lentView, after
 use Rattle.step.specs.Move.{borrows}
 use Rattle.region.specs.Record.{recordSize, viewIn, recordOf, recordBytes, nPlace, atroundIn, viewPlace, headOf}
 use Rattle.region.specs.Record.{headBytes, withRequest, withWait}
-use Rattle.region.specs.declared.stored.Head.{Head}
+use Rattle.region.specs.declared.head.Head.{Head}
 use Rattle.react_bytes.proofs.Sections.{tables-of, view-put, assembled}
 use Rattle.step_bytes.specs.declared.Effect.{Effect}
 use Rattle.step_bytes.specs.Moved.{effectOf, stepOf, effect, isStep}
