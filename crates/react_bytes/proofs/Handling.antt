@@ -1,11 +1,11 @@
 -- What the bytes of a record are after each handler: those of the record by value after it.
-use Prim.Native.Nat.{ℕ, _+_, _-_, _*_, _≤_, max}
-use mathlib.Core.Path.{_≡_, refl, sym, ap, ap₂, _∙_, subst}
+use Prim.Native.Nat.{ℕ, _+_, _-_, _*_, _≤_}
+use mathlib.Core.Path.{_≡_, refl, sym, ap, ap₂, _∙_}
 use mathlib.Core.Bool.{Bool, true, false}
-use mathlib.Core.List.{List}
+use mathlib.Core.List.{List, [], _∷_}
 use native.Mathlib.Omega.{arith}
 use lib.ListN.{length, length-set}
-use lib.Dec.{ltb, leb, eqb}
+use lib.Dec.{ltb, leb}
 use Rattle.octets.specs.Test.{pick, both}
 use Rattle.octets.specs.Bytes.{Bytes, part, put}
 use Rattle.octets.specs.Word.{word, words, wordSize}
@@ -22,24 +22,23 @@ use Rattle.wire.specs.declared.Message.the-variants.{Read, ReadAnswer, Write, W
 use Rattle.record.specs.Record.{setTop, setKept, withWait}
 use Rattle.record.specs.declared.Node.{Node}
 use Rattle.record.specs.declared.Wait.{Wait}
-use Rattle.record.specs.declared.Wait.the-variants.{Idle, Reading, Writing, Comparing, Borrowing}
 use Rattle.step.specs.React.{raised, roundHolds, isNew, received, keep, react}
 use Rattle.step.specs.Step.{started}
 use Rattle.step.specs.declared.Sent.{Sent}
 use Rattle.step.proofs.Lawful.{react-started}
 use Rattle.region.specs.Record.{recordSize, heardPlace, viewPlace, viewIn, waitIn, recordOf, recordBytes, nPlace}
-use Rattle.region.specs.Record.{ownPlace, maxtagPlace, requestPlace, keptPlace, lastIn, atmaxIn, atroundIn, keptIn}
+use Rattle.region.specs.Record.{maxtagPlace, keptPlace, lastIn, atmaxIn, atroundIn, keptIn}
 use Rattle.region.specs.Record.{headOf, headBytes, withMaxtag, withKept, withWait as headWithWait}
 use Rattle.region.proofs.Back.{Sized, SizedNode, record-back}
 use Rattle.react_bytes.specs.Handled.{entered}
-use Rattle.react_bytes.proofs.Sections.{Tables, tables-of, heard-put, atmax-put, kept-put, last-entry}
-use Rattle.react_bytes.proofs.Sections.{atmax-entry, atround-entry, assembled}
+use Rattle.react_bytes.proofs.Sections.{Tables, tables-of, heard-put, view-put, view-entry, assembled}
 
 pub sized-view : (n : ℕ) (b : List ℕ) → n ≤ nodes → Sized (viewOf n b)
 sized-view n b h = record { tags = view-absent n b h .tags-length; reports = view-absent n b h .reports-length }
 
 module _ (r : List ℕ) (h : Bytes r) (l : length r ≡ recordSize) where
-  T : Tables r (words cells r heardPlace) (viewIn r lastIn) (viewIn r atmaxIn) (viewIn r atroundIn) (viewIn r keptIn)
+  T : Tables r (words cells r heardPlace)
+      (viewIn r lastIn ∷ viewIn r atmaxIn ∷ viewIn r atroundIn ∷ viewIn r keptIn ∷ [])
   T = tables-of r h l
 
   pub withWait-bytes : (w : Wait) → put r nPlace (headBytes (headWithWait (headOf r) w))
@@ -64,7 +63,8 @@ module _ (r : List ℕ) (h : Bytes r) (l : length r ≡ recordSize) where
           nPlace
           (headBytes (pick x (withMaxtag (headOf r) t) (headOf r)))
           ≡ recordBytes (grown x)
-      go true = assembled (grown true) (atmax-put T (newest t (viewIn r lastIn) (viewIn r atmaxIn)))
+      go true = assembled (grown true)
+          (view-put T atmaxIn (omega arith) (newest t (viewIn r lastIn) (viewIn r atmaxIn)))
       go false = assembled (grown false) T
 
   pub kept-bytes : (t : ℕ) (v : View) (b : Bool) → ltb (word r keptPlace) t ≡ b
@@ -79,7 +79,7 @@ module _ (r : List ℕ) (h : Bytes r) (l : length r ≡ recordSize) where
 
       go : (x : Bool) → put (pick x (put r (viewPlace keptIn) (viewBytes nodes v)) r) nPlace
           (headBytes (pick x (withKept (headOf r) t) (headOf r))) ≡ recordBytes (grown x)
-      go true = assembled (grown true) (kept-put T v)
+      go true = assembled (grown true) (view-put T keptIn (omega arith) v)
       go false = assembled (grown false) T
 
   pub received-bytes : (s w t : ℕ) (p : Report) → 1 ≤ s → s ≤ nodes → 1 ≤ w → w ≤ nodes
@@ -92,10 +92,11 @@ module _ (r : List ℕ) (h : Bytes r) (l : length r ≡ recordSize) where
       let z : (i : ℕ) → Sized (viewIn r i) = λ i. sized-view nodes (part r (viewPlace i) (viewSize nodes))
       (omega arith) in
       assembled (received (recordOf r) s w t p)
-      (atround-entry (atmax-entry (last-entry (heard-put T (cell s w) t (omega arith)
+      (view-entry (view-entry (view-entry (heard-put T (cell s w) t (omega arith)
       (length-tab cells (λ i. word r (heardPlace + wordSize * i))))
-      new w t p (z lastIn) lw hw) (both new (leb t (word r maxtagPlace))) w t p (z atmaxIn) lw hw)
-      (both new (roundHolds (waitIn r) t)) w t p (z atroundIn) lw hw)
+      lastIn (omega arith) new w t p (z lastIn) lw hw)
+      atmaxIn (omega arith) (both new (leb t (word r maxtagPlace))) w t p (z atmaxIn) lw hw)
+      atroundIn (omega arith) (both new (roundHolds (waitIn r) t)) w t p (z atroundIn) lw hw)
 
 -- ---- the sizes of the tables after a handler, so that the record is read back
 

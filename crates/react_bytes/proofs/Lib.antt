@@ -1,2 +1,3 @@
 pub mod Handling
+pub mod Replaced
 pub mod Sections

@@ -31,7 +31,7 @@ use Rattle.region.specs.Record.{nPlace, codePlace, reportPlace, heardPla
 use Rattle.region.specs.Record.{lastIn, atmaxIn, atroundIn, keptIn, waitIn, waitOf, waitWords, waitReport, kindOf}
 use Rattle.region.specs.Record.{kindCode, codesKnown, headOf, headIn, headBytes, numbers}
 use Rattle.region.specs.Record.{recordBytes, recordOf, viewIn}
-use Rattle.region.specs.declared.stored.Head.{Head}
+use Rattle.region.specs.declared.head.Head.{Head}
 use Rattle.region.proofs.Saved.{six-words, head-end}
 
 -- A view whose lists have their sizes.

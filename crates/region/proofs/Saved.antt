@@ -16,7 +16,7 @@ use Rattle.record.specs.declared.Wait.{Wait}
 use Rattle.record.specs.declared.Wait.the-variants.{Idle, Reading, Writing, Comparing, Borrowing}
 use Rattle.region.specs.Record.{nPlace, codePlace, reportPlace, heardPlace, lastIn, views, viewPlace, recordSize}
 use Rattle.region.specs.Record.{waitWords, waitBytes, headIn, numbers, headBytes, recordBytes}
-use Rattle.region.specs.declared.stored.Head.{Head}
+use Rattle.region.specs.declared.head.Head.{Head}
 
 pub six-words : (w : Wait) → length (waitWords w) ≡ 6
 six-words Idle = refl

@@ -35,7 +35,7 @@ use Rattle.step.proofs.Turns.{reads-on}
 use Rattle.step.proofs.Waits.{no-quorum, waits-still}
 use Rattle.region.specs.Record.{recordSize, heardPlace, viewIn, waitIn, recordOf, recordBytes, nPlace, ownPlace, headOf}
 use Rattle.region.specs.Record.{maxtagPlace, keptPlace, atroundIn, headBytes, withRequest, withWait as headWithWait}
-use Rattle.region.specs.declared.stored.Head.{Head}
+use Rattle.region.specs.declared.head.Head.{Head}
 use Rattle.react_bytes.proofs.Sections.{tables-of, assembled}
 use Rattle.step_bytes.specs.declared.Effect.{Effect}
 use Rattle.step_bytes.specs.Moved.{effectOf, isStep, compared}

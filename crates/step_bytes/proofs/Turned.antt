@@ -3,6 +3,7 @@ use Prim.Native.Nat.{ℕ, _+_}
 use mathlib.Core.Path.{_≡_, refl, sym, ap, ap₂, _∙_}
 use mathlib.Core.Bool.{true, false}
 use mathlib.Core.List.{List}
+use native.Mathlib.Omega.{arith}
 use lib.ListN.{length, replicate}
 use lib.Dec.{eqb, ltb, leb}
 use Rattle.octets.specs.Bytes.{Bytes, put}
@@ -29,8 +30,8 @@ use Rattle.step.specs.Move.{opened, writing, nextTag, heldView, lentView, after
 use Rattle.step.specs.Move.{borrows}
 use Rattle.region.specs.Record.{recordSize, viewIn, recordOf, recordBytes, nPlace, atroundIn, viewPlace, headOf}
 use Rattle.region.specs.Record.{headBytes, withRequest, withWait}
-use Rattle.region.specs.declared.stored.Head.{Head}
-use Rattle.react_bytes.proofs.Sections.{tables-of, atround-put, assembled}
+use Rattle.region.specs.declared.head.Head.{Head}
+use Rattle.react_bytes.proofs.Sections.{tables-of, view-put, assembled}
 use Rattle.step_bytes.specs.declared.Effect.{Effect}
 use Rattle.step_bytes.specs.Moved.{effectOf, stepOf, effect, isStep}
 
@@ -43,7 +44,8 @@ unfolding recordOf
 turned-bytes r b l next w v d e q p =
     p ∙ ap₂ (λ (g : Head) (x : List ℕ). put x nPlace (headBytes g))
     (q ∙ ap (λ (h : Head). withWait (withRequest h (next (h .request))) w) d) e
-    ∙ assembled (setWait (recordOf r) (next (recordOf r .request)) w v) (atround-put (tables-of r b l) v)
+    ∙ assembled (setWait (recordOf r) (next (recordOf r .request)) w v)
+    (view-put (tables-of r b l) atroundIn (omega arith) v)
 
 -- the places of a view that are given out: as many as the record has nodes
 pub places-of : (r : List ℕ) (i : ℕ) {n : ℕ} → recordOf r .n ≡ n

@@ -12,7 +12,7 @@ use Rattle.view.specs.Size.{nodes}
 use Rattle.view.specs.View.{viewBytes, viewOf}
 use Rattle.view.specs.declared.View.{View}
 use Rattle.region.specs.Record.{nPlace, keptPlace, keptIn, viewPlace, headBytes, withKept}
-use Rattle.region.specs.declared.stored.Head.{Head}
+use Rattle.region.specs.declared.head.Head.{Head}
 use Rattle.react_bytes.proofs.Handling.{kept-bytes}
 use Rattle.react_bytes.proofs.kept_in.Statement.{statement}
 use Rattle.react_bytes.proofs.kept_in.Tie as tie

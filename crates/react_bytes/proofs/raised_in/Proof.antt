@@ -9,7 +9,7 @@ use borrow.Author.Tests.{lt-ltb, le-ltb}
 use Rattle.octets.specs.Bytes.{put}
 use Rattle.octets.specs.Word.{word}
 use Rattle.region.specs.Record.{recordOf, nPlace, maxtagPlace, atmaxIn, viewPlace, headBytes, withMaxtag}
-use Rattle.region.specs.declared.stored.Head.{Head}
+use Rattle.region.specs.declared.head.Head.{Head}
 use Rattle.react_bytes.proofs.Handling.{raised-bytes}
 use Rattle.react_bytes.proofs.raised_in.Statement.{statement}
 use Rattle.react_bytes.proofs.raised_in.Tie as tie

@@ -10,7 +10,7 @@ use Rattle.octets.specs.Bytes.{put}
 use Rattle.octets.specs.Word.{word}
 use Rattle.step.specs.React.{isNew, roundHolds}
 use Rattle.region.specs.Record.{waitIn, recordOf, nPlace, maxtagPlace, headBytes}
-use Rattle.region.specs.declared.stored.Head.{Head}
+use Rattle.region.specs.declared.head.Head.{Head}
 use Rattle.react_bytes.specs.Handled.{entered}
 use Rattle.react_bytes.proofs.Handling.{received-bytes}
 use Rattle.react_bytes.proofs.received_in.Statement.{statement}

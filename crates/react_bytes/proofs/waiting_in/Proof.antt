@@ -3,7 +3,7 @@ use borrow.Author.Needs.{needs}
 use mathlib.Core.Path.{ap, _∙_}
 use Rattle.octets.specs.Bytes.{put}
 use Rattle.region.specs.Record.{nPlace, headBytes, withWait}
-use Rattle.region.specs.declared.stored.Head.{Head}
+use Rattle.region.specs.declared.head.Head.{Head}
 use Rattle.react_bytes.proofs.Handling.{withWait-bytes}
 use Rattle.react_bytes.proofs.waiting_in.Statement.{statement}
 use Rattle.react_bytes.proofs.waiting_in.Tie as tie

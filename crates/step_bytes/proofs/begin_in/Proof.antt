@@ -4,7 +4,7 @@ use mathlib.Core.Path.{_≡_, ap, _∙_}
 use Rattle.octets.specs.Word.{word}
 use Rattle.record.specs.declared.Wait.the-variants.{Reading}
 use Rattle.region.specs.Record.{recordOf, requestPlace, withWait}
-use Rattle.region.specs.declared.stored.Head.{Head}
+use Rattle.region.specs.declared.head.Head.{Head}
 use Rattle.step_bytes.proofs.Cases.{begins}
 use Rattle.step_bytes.proofs.begin_in.Statement.{statement}
 use Rattle.step_bytes.proofs.begin_in.Tie as tie

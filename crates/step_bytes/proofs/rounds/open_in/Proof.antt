@@ -7,7 +7,7 @@ use Rattle.table.specs.Table.{newest}
 use Rattle.record.specs.declared.Wait.the-variants.{Writing}
 use Rattle.step.specs.Move.{opened}
 use Rattle.region.specs.Record.{viewIn, recordOf, lastIn, atmaxIn, atroundIn, viewPlace, withWait}
-use Rattle.region.specs.declared.stored.Head.{Head}
+use Rattle.region.specs.declared.head.Head.{Head}
 use Rattle.step_bytes.proofs.Turned.{turned-bytes}
 use Rattle.step_bytes.proofs.rounds.open_in.Statement.{statement}
 use Rattle.step_bytes.proofs.rounds.open_in.Tie as tie

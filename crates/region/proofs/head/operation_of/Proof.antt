@@ -1,7 +1,7 @@
--- `region::stored::operation_of` meets its contract.
-use Rattle.region.proofs.stored.operation_of.Statement.{statement}
+-- `region::head::operation_of` meets its contract.
+use Rattle.region.proofs.head.operation_of.Statement.{statement}
 use borrow.Author.Tests.{eq-eqb, ne-eqb}
-use Rattle.region.proofs.stored.operation_of.Tie as tie
+use Rattle.region.proofs.head.operation_of.Tie as tie
 
 returns : tie.Need-returns
 returns c = simp (eq-eqb _ _ (c .if1 .taken))

@@ -1,11 +1,11 @@
--- `region::stored::load_wait` meets its contract.
+-- `region::head::load_wait` meets its contract.
 use borrow.Author.Needs.{needs}
 use mathlib.Core.Path.{refl}
 use Rattle.octets.proofs.Lent.{lent}
 use Rattle.view.specs.Size.{reportSize}
 use Rattle.region.specs.Record.{reportPlace}
-use Rattle.region.proofs.stored.load_wait.Statement.{statement}
-use Rattle.region.proofs.stored.load_wait.Tie as tie
+use Rattle.region.proofs.head.load_wait.Statement.{statement}
+use Rattle.region.proofs.head.load_wait.Tie as tie
 
 sub-read-report : tie.Need-sub-read-report
 sub-read-report c = search needs

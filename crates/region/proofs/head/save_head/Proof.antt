@@ -1,12 +1,12 @@
--- `region::stored::save_head` meets its contract.
+-- `region::head::save_head` meets its contract.
 use borrow.Author.Needs.{needs}
 use native.Mathlib.Omega.{arith}
 use Rattle.octets.specs.Word.{wordBytes}
 use Rattle.octets.proofs.Put.{put-then}
 use Rattle.region.specs.Record.{waitBytes, nPlace, codePlace, numbers}
 use Rattle.region.proofs.Saved.{numbers-end}
-use Rattle.region.proofs.stored.save_head.Statement.{statement}
-use Rattle.region.proofs.stored.save_head.Tie as tie
+use Rattle.region.proofs.head.save_head.Statement.{statement}
+use Rattle.region.proofs.head.save_head.Tie as tie
 
 returns : tie.Need-returns
 returns c =

@@ -1,7 +1,7 @@
--- `region::stored::kind_of` meets its contract.
-use Rattle.region.proofs.stored.kind_of.Statement.{statement}
+-- `region::head::kind_of` meets its contract.
+use Rattle.region.proofs.head.kind_of.Statement.{statement}
 use borrow.Author.Tests.{eq-eqb, ne-eqb}
-use Rattle.region.proofs.stored.kind_of.Tie as tie
+use Rattle.region.proofs.head.kind_of.Tie as tie
 
 returns : tie.Need-returns
 returns c = simp (eq-eqb _ _ (c .if1 .taken))

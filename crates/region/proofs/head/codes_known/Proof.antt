@@ -1,9 +1,9 @@
--- `region::stored::codes_known` meets its contract.
+-- `region::head::codes_known` meets its contract.
 use borrow.Author.Needs.{needs}
 use borrow.Author.Tests.{eq-eqb, ne-eqb}
 use mathlib.Core.Path.{sym, _∙_}
-use Rattle.region.proofs.stored.codes_known.Statement.{statement}
-use Rattle.region.proofs.stored.codes_known.Tie as tie
+use Rattle.region.proofs.head.codes_known.Statement.{statement}
+use Rattle.region.proofs.head.codes_known.Tie as tie
 
 returns : tie.Need-returns
 returns c = simp (eq-eqb _ _ (sym (c .before .get-word .ensures) ∙ c .if1 .taken))

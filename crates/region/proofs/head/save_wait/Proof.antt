@@ -1,4 +1,4 @@
--- `region::stored::save_wait` meets its contract.
+-- `region::head::save_wait` meets its contract.
 use borrow.Author.Needs.{needs}
 use native.Mathlib.Omega.{arith}
 use Prim.Native.Nat.{ℕ}
@@ -10,8 +10,8 @@ use Rattle.octets.proofs.Put.{put-then}
 use Rattle.view.specs.Report.{reportBytes}
 use Rattle.region.specs.Record.{waitWords, waitReport, codePlace, reportPlace}
 use Rattle.region.proofs.Saved.{wait-end}
-use Rattle.region.proofs.stored.save_wait.Statement.{statement}
-use Rattle.region.proofs.stored.save_wait.Tie as tie
+use Rattle.region.proofs.head.save_wait.Statement.{statement}
+use Rattle.region.proofs.head.save_wait.Tie as tie
 
 wait-words-requires : tie.Need-wait-words-requires
 wait-words-requires c κs = search needs

@@ -1,7 +1,7 @@
--- `region::stored::head_of` meets its contract.
+-- `region::head::head_of` meets its contract.
 use borrow.Author.Needs.{needs}
-use Rattle.region.proofs.stored.head_of.Statement.{statement}
-use Rattle.region.proofs.stored.head_of.Tie as tie
+use Rattle.region.proofs.head.head_of.Statement.{statement}
+use Rattle.region.proofs.head.head_of.Tie as tie
 
 returns : tie.Need-returns
 returns c =

@@ -1,8 +1,8 @@
--- `region::stored::wait_of` meets its contract.
+-- `region::head::wait_of` meets its contract.
 use borrow.Author.Needs.{needs}
 use borrow.Author.Tests.{eq-eqb, ne-eqb}
-use Rattle.region.proofs.stored.wait_of.Statement.{statement}
-use Rattle.region.proofs.stored.wait_of.Tie as tie
+use Rattle.region.proofs.head.wait_of.Statement.{statement}
+use Rattle.region.proofs.head.wait_of.Tie as tie
 
 operation-of-requires : tie.Need-operation-of-requires
 operation-of-requires c κs = search needs
