@@ -1,6 +1,5 @@
 -- A borrowed view: its tag is above what was read, and, for an update, above all that the quorum of its round 1 had
--- echoed
--- when it had the update's value.
+-- echoed when it had the update's value.
 use Prim.Native.Nat.{ℕ, _+_, _≤_, _<_}
 use native.Mathlib.Omega.{arith}
 use native.Mathlib.Decide.{decLe}

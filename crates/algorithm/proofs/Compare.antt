@@ -1,6 +1,5 @@
 -- After a quorum agrees. A good round leaves a certificate, and what it saw covers every certificate that was there
--- when
--- its operation began. A failed round leaves to the next what it has learnt.
+-- when its operation began. A failed round leaves to the next what it has learnt.
 use Prim.Native.Nat.{ℕ, suc, _+_, _-_, _≤_, _<_}
 use native.Mathlib.Omega.{arith}
 use native.Mathlib.Decide.{decLe}
@@ -21,7 +20,7 @@ use Rattle.algorithm.proofs.Cert.{Log, Logs, echoed-up, Inside, Cert, c
 use Rattle.algorithm.proofs.Local.{Past, Own, Held, Settled, Spread, Stage, Wrote, Compares, Local}
 use Rattle.algorithm.proofs.Grow.{≼-refl, upd-up, upd-longer}
 use Rattle.algorithm.proofs.Change.{post}
-use Rattle.algorithm.proofs.Turn.{have-withRequest, moved}
+use Rattle.algorithm.proofs.Turn.{have-withRequestAndWait, moved}
 use Rattle.algorithm.proofs.Sets.{includedUpTo-to, agrees-to}
 use Rattle.algorithm.proofs.Outcome.{Final}
 use Rattle.algorithm.proofs.Open.{rise-le}
@@ -131,7 +130,7 @@ module _ (n f : ℕ) (half : f + f < n) where
       → ((v : Value) → Own i r op v → Settled n f out v)
       → Local n f out γ i r op (withWait idle ν) l
   rested {out} {γ} {i} {r} op ν c known own = moved n f c r (ν .request) idle here (omega arith) (c .due)
-      (have-withRequest n f c r (ν .request) idle (omega arith)
+      (have-withRequestAndWait n f c r (ν .request) idle (omega arith)
       (λ v m x. (inl (known v m .0), λ e. rest v (known v m .1 e))))
       tt
     where

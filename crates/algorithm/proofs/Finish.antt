@@ -1,6 +1,5 @@
 -- The wait for a quorum that agrees: a good round ends the operation, or leads from round 0 to round 1; a failed one
--- leads
--- on to the next round, and the third to a wait for a good message.
+-- leads on to the next round, and the third to a wait for a good message.
 use Prim.Native.Nat.{ℕ, suc, _+_, _-_, _≤_, _<_, max}
 use native.Mathlib.Omega.{arith}
 use native.Mathlib.Decide.{decLe}
@@ -18,7 +17,7 @@ use Rattle.algorithm.proofs.Cert.{Log, Logs}
 use Rattle.algorithm.proofs.Local.{Past, Settled, Local}
 use Rattle.algorithm.proofs.Grow.{upd-longer, settled-up}
 use Rattle.algorithm.proofs.Change.{stage-post}
-use Rattle.algorithm.proofs.Turn.{have-withRequest, moved}
+use Rattle.algorithm.proofs.Turn.{have-withRequestAndWait, moved}
 use Rattle.algorithm.proofs.Outcome.{Fine, fine-still}
 use Rattle.algorithm.proofs.Open.{onward, opened}
 use Rattle.algorithm.proofs.Compare.{cmp, known, final, posted, own-spread, spread-settled, rested}
@@ -93,7 +92,7 @@ module _ (n f : ℕ) (half : f + f < n) {out : Logs} {γ : Past} {i r : ℕ} {l 
   third-failed : {op : Operation} {t : ℕ} → Local n f out γ i r op (withWait (comparing o round3 t) ν) l
       → Fine n f out γ i r op l (still (withWait (borrowing op t) ν))
   third-failed {op} {t} c = fine-still n f (moved n f c r (ν .request) (borrowing op t) here (omega arith) (c .due)
-      (have-withRequest n f c r (ν .request) (borrowing op t) (omega arith) (λ v m h. h))
+      (have-withRequestAndWait n f c r (ν .request) (borrowing op t) (omega arith) (λ v m h. h))
       (refl, cmp n f half ν c .stage))
 
   compare-failed : (op : Operation) (rnd : Round) {t : ℕ} → Local n f out γ i r op (withWait (comparing o rnd t) ν) l

@@ -23,3 +23,6 @@ pub mod World
 -- How an operation moves on, for any property of a node.
 pub mod Passes
 pub mod MoveOn
+-- What no step loses: what it was handed, and the good message of every tag below one in use.
+pub mod Live
+pub mod Mark

@@ -11,9 +11,9 @@ use Rattle.history.specs.Event.{Operation, update, scan, Round, round0, round1,
 use Rattle.algorithm.specs.Algorithm.{nobody, Wait, writing, comparing, Node, withWait, opening}
 use Rattle.algorithm.proofs.Cert.{Log, Logs}
 use Rattle.algorithm.proofs.Local.{Past, Held, Rise, Have, Before, Stage, Local}
-use Rattle.algorithm.specs.Node.{withRequest}
+use Rattle.algorithm.specs.Node.{withRequestAndWait}
 use Rattle.algorithm.proofs.Change.{stage-post}
-use Rattle.algorithm.proofs.Turn.{have-withRequest, unused, moved}
+use Rattle.algorithm.proofs.Turn.{have-withRequestAndWait, unused, moved}
 use Rattle.algorithm.proofs.Outcome.{Fine}
 
 pub rise-le : (op : Operation) (rnd : Round) {r t : ℕ} → Rise op rnd r t → r ≤ t
@@ -61,14 +61,16 @@ module _ (n f : ℕ) (half : f + f < n) {out : Logs} {γ : Past} {i r : ℕ} {op
       w = writing op rnd t nobody
 
       old : (rnd : Round) (v : Value) → Have n f out (γ .base) i r op (withWait (comparing o rnd₀ t₀) ν) (value v)
-          → Have n f out (γ .base) i r op (withRequest (suc (ν .request)) (writing op rnd t nobody) ν) (value v)
+          → Have n f out (γ .base) i r op (withRequestAndWait (suc (ν .request)) (writing op rnd t nobody) ν) (value v)
       old round0 v (inl m, x) = (inl m, x)
       old round1 v (inl m, x) = (inl m, x)
       old round2 v (inl m, x) = (inl m, x)
       old round3 v (inl m, x) = (inl m, x)
 
       have : (m : Message) → m ∈ (write (suc (ν .request)) t ∷ l)
-          → Have n f out (γ .base) i r op (withRequest (suc (ν .request)) w ν) m
-      have m (List·Memᴰ·head e) = subst (Have n f out (γ .base) i r op (withRequest (suc (ν .request)) w ν)) (sym e)
+          → Have n f out (γ .base) i r op (withRequestAndWait (suc (ν .request)) w ν) m
+      have m (List·Memᴰ·head e) =
+          subst (Have n f out (γ .base) i r op (withRequestAndWait (suc (ν .request)) w ν)) (sym e)
           (omega arith)
-      have m (List·Memᴰ·tail e) = have-withRequest n f c r (suc (ν .request)) w (omega arith) (λ v y x. old rnd v x) m e
+      have m (List·Memᴰ·tail e) =
+          have-withRequestAndWait n f c r (suc (ν .request)) w (omega arith) (λ v y x. old rnd v x) m e

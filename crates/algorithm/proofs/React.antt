@@ -17,7 +17,7 @@ use Rattle.algorithm.proofs.Cert.{Log, Logs}
 use Rattle.algorithm.proofs.Local.{Past, Held, WriteDue, Due, Have, ReadBy, WroteBy, Writes, Local}
 use Rattle.algorithm.proofs.Change.{handing, handed-by, post, raised}
 use Rattle.algorithm.proofs.Cases.{raise-by, read-cases, write-cases}
-use Rattle.algorithm.proofs.Turn.{taken, have-withRequest, moved}
+use Rattle.algorithm.proofs.Turn.{taken, have-withRequestAndWait, moved}
 
 module _ (n f : ℕ) where
   -- A step without an ending.
@@ -44,7 +44,7 @@ module _ (n f : ℕ) (half : f + f < n) where
         → q ≡ ν .request → Local n f out γ i r op (withWait (reading o s u) ν) l
         → Local n f out γ i r op (withWait (reading o (upd s k true) (max u t)) ν) l
     count-read ν o s u k q t at e c = moved n f c r (ν .request) w′ here (omega arith) (c .due)
-        (have-withRequest n f c r (ν .request) w′ (omega arith) (λ v m h. h))
+        (have-withRequestAndWait n f c r (ν .request) w′ (omega arith) (λ v m h. h))
         (c .phase .0, upd-all (λ j b. b ≡ true → ReadBy γ (max u t) j) s k true (λ j ne. old j) (λ h. new))
       where
         w′ : Wait
@@ -74,7 +74,7 @@ module _ (n f : ℕ) (half : f + f < n) where
         → Local n f out γ i r op (withWait (writing o rnd u s) ν) l
         → Local n f out γ i r op (withWait (writing o rnd u (upd s k true)) ν) l
     count-write ν o rnd u s k q t at e e′ c = moved n f c r (ν .request) w′ here (omega arith) (c .due)
-        (have-withRequest n f c r (ν .request) w′ (omega arith) (value-has rnd)) (
+        (have-withRequestAndWait n f c r (ν .request) w′ (omega arith) (value-has rnd)) (
           c .phase .0,
           record {
             stage = p .stage;

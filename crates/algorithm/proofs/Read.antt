@@ -19,9 +19,9 @@ use Rattle.algorithm.specs.Algorithm.{readPass}
 use Rattle.algorithm.proofs.Cert.{Log, Logs, value≢write}
 use Rattle.algorithm.proofs.Local.{Past, Under, ValueDue, Settled, Have, ReadBy, Local}
 use Rattle.algorithm.proofs.Grow.{settled-up}
-use Rattle.algorithm.specs.Node.{withRequest}
+use Rattle.algorithm.specs.Node.{withRequestAndWait}
 use Rattle.algorithm.proofs.Change.{known-value}
-use Rattle.algorithm.proofs.Turn.{have-withRequest, unused, moved}
+use Rattle.algorithm.proofs.Turn.{have-withRequestAndWait, unused, moved}
 use Rattle.algorithm.proofs.Outcome.{Fine, fine-still}
 
 -- The tag that the operation has read once the read answers have been looked at.
@@ -65,9 +65,9 @@ module _ (n f : ℕ) (half : f + f < n) where
     -- What the log says of the node when the operation waits for write answers, of round 0 of an update or 1 of a scan.
     values-known : (w : Wait) (q : ℕ) → ν .request ≤ q
         → ((v : Value) → v ∈ ν .all → (v .writer ≡ i → Settled n f out v × (v .tag ≤ r′))
-        → Have n f out (γ .base) i r′ op (withRequest q w ν) (value v))
-        → (m : Message) → m ∈ l → Have n f out (γ .base) i r′ op (withRequest q w ν) m
-    values-known w q h g = have-withRequest n f c r′ q w h (λ v m x. g v (known v m) (older v m))
+        → Have n f out (γ .base) i r′ op (withRequestAndWait q w ν) (value v))
+        → (m : Message) → m ∈ l → Have n f out (γ .base) i r′ op (withRequestAndWait q w ν) m
+    values-known w q h g = have-withRequestAndWait n f c r′ q w h (λ v m x. g v (known v m) (older v m))
 
   module _ (out : Logs) (γ : Past) (i r : ℕ) (l : Log) (ν : Node) (o : Operation) (s : Nodes) (u : ℕ)
       (many : n - f ≤ count s n) (r′ : ℕ) (high : u ≤ r′) where
@@ -101,8 +101,9 @@ module _ (n f : ℕ) (half : f + f < n) where
         w : Wait
         w = writing scan round1 r′ nobody
 
-        have : (m : Message) → m ∈ (write q r′ ∷ l) → Have n f out (γ .base) i r′ scan (withRequest q w ν) m
-        have m (List·Memᴰ·head e) = subst (Have n f out (γ .base) i r′ scan (withRequest q w ν)) (sym e) (omega arith)
+        have : (m : Message) → m ∈ (write q r′ ∷ l) → Have n f out (γ .base) i r′ scan (withRequestAndWait q w ν) m
+        have m (List·Memᴰ·head e) =
+            subst (Have n f out (γ .base) i r′ scan (withRequestAndWait q w ν)) (sym e) (omega arith)
         have m (List·Memᴰ·tail e) = values-known ν c many r′ high w q (omega arith)
             (λ v x y. (inl x, λ e. inr (y e))) m e
 
@@ -130,11 +131,11 @@ module _ (n f : ℕ) (half : f + f < n) where
       w₀ = writing (update p) round0 r′ nobody
 
       have₀ : (m : Message) → m ∈ (write q r′ ∷ value own ∷ l)
-          → Have n f out (γ .base) i r′ (update p) (withRequest q w₀ ν) m
+          → Have n f out (γ .base) i r′ (update p) (withRequestAndWait q w₀ ν) m
       have₀ m (List·Memᴰ·head e) =
-          subst (Have n f out (γ .base) i r′ (update p) (withRequest q w₀ ν)) (sym e) (omega arith)
+          subst (Have n f out (γ .base) i r′ (update p) (withRequestAndWait q w₀ ν)) (sym e) (omega arith)
       have₀ m (List·Memᴰ·tail (List·Memᴰ·head e)) =
-          subst (Have n f out (γ .base) i r′ (update p) (withRequest q w₀ ν)) (sym e) (inr refl, λ e. inl refl)
+          subst (Have n f out (γ .base) i r′ (update p) (withRequestAndWait q w₀ ν)) (sym e) (inr refl, λ e. inl refl)
       have₀ m (List·Memᴰ·tail (List·Memᴰ·tail e)) =
           values-known ν c many r′ high w₀ q (omega arith) (λ v x y. (inl x, λ e. inr (y e))) m e
 

@@ -14,7 +14,7 @@ use Rattle.algorithm.specs.Algorithm.{Wait, idle, reading, writing, comp
 use Rattle.algorithm.proofs.Cert.{Log, Logs, _≼_}
 use Rattle.algorithm.proofs.Meant.{Others}
 use Rattle.algorithm.proofs.Local.{Past, Under, Took, Due, Have, Stage, WroteBy, Phase, Local}
-use Rattle.algorithm.specs.Node.{withRequest, holding}
+use Rattle.algorithm.specs.Node.{withRequestAndWait, holding}
 use Rattle.algorithm.proofs.Change.{handing, handed-by, handed-more, took-up, have-more}
 
 wrote-handed : {γ : Past} {i r : ℕ} {op : Operation} {t k : ℕ} (got : Logs) → γ .got ≼ got
@@ -139,14 +139,14 @@ module _ (n f : ℕ) {out : Logs} {γ : Past} {i r : ℕ} {op : Operation} {ν :
       new y e = elim (others y e) [ inl h ↦ c .took k y h | inr o ↦ answer y o ]
 
   -- What a message of the log says of the node in its new wait, if what a value says is known.
-  pub have-withRequest : Local n f out γ i r op ν l → (r′ q : ℕ) (w : Wait) → ν .request ≤ q
+  pub have-withRequestAndWait : Local n f out γ i r op ν l → (r′ q : ℕ) (w : Wait) → ν .request ≤ q
       → ((v : Value) → value v ∈ l → Have n f out (γ .base) i r op ν (value v)
-      → Have n f out (γ .base) i r′ op (withRequest q w ν) (value v))
-      → (m : Message) → m ∈ l → Have n f out (γ .base) i r′ op (withRequest q w ν) m
-  have-withRequest c r′ q w h g m e = go m e (c .have m e)
+      → Have n f out (γ .base) i r′ op (withRequestAndWait q w ν) (value v))
+      → (m : Message) → m ∈ l → Have n f out (γ .base) i r′ op (withRequestAndWait q w ν) m
+  have-withRequestAndWait c r′ q w h g m e = go m e (c .have m e)
     where
       go : (m : Message) → m ∈ l → Have n f out (γ .base) i r op ν m
-          → Have n f out (γ .base) i r′ op (withRequest q w ν) m
+          → Have n f out (γ .base) i r′ op (withRequestAndWait q w ν) m
       go (read p) e x = omega arith
       go (write p t) e x = omega arith
       go (readAnswer to p t) e x = tt
@@ -170,14 +170,14 @@ module _ (n f : ℕ) {out : Logs} {γ : Past} {i r : ℕ} {op : Operation} {ν :
 
   -- The operation goes on to another wait, with a longer log.
   pub moved : Local n f out γ i r op ν l → (r′ q : ℕ) (w : Wait) {l′ : Log} → l ⊑ l′ → ν .request ≤ q
-      → Each (Due n f i out) l′ → ((m : Message) → m ∈ l′ → Have n f out (γ .base) i r′ op (withRequest q w ν) m)
-      → Phase n f out γ i r′ op q l′ w → Local n f out γ i r′ op (withRequest q w ν) l′
+      → Each (Due n f i out) l′ → ((m : Message) → m ∈ l′ → Have n f out (γ .base) i r′ op (withRequestAndWait q w ν) m)
+      → Phase n f out γ i r′ op q l′ w → Local n f out γ i r′ op (withRequestAndWait q w ν) l′
   moved c r′ q w up h d x p = record {
     grown = ⊑-trans (c .grown) up;
     got-in = c .got-in;
     base-in = c .base-in;
     due = d;
-    took = λ k m e. took-up k ν (withRequest q w ν) m (omega arith) (λ j v x. x) (λ v x. x) (c .took k m e);
+    took = λ k m e. took-up k ν (withRequestAndWait q w ν) m (omega arith) (λ j v x. x) (λ v x. x) (c .took k m e);
     have = x;
     topped = λ e. mem-up up (c .topped e);
     sent = λ v e. mem-up up (c .sent v e);

@@ -15,7 +15,7 @@ use Rattle.algorithm.specs.Algorithm.{withWait, quorum?, writePass}
 use Rattle.algorithm.proofs.Cert.{Log, Logs}
 use Rattle.algorithm.proofs.Local.{Past, Own, Held, Pending, Writes, Local}
 use Rattle.algorithm.proofs.Grow.{held-up}
-use Rattle.algorithm.proofs.Turn.{have-withRequest, moved}
+use Rattle.algorithm.proofs.Turn.{have-withRequestAndWait, moved}
 use Rattle.algorithm.proofs.Outcome.{Fine, fine-still}
 
 module _ (n f : ℕ) (half : f + f < n) where
@@ -28,7 +28,7 @@ module _ (n f : ℕ) (half : f + f < n) where
     written : (rnd : Round) → Local n f out γ i r op (withWait (writing o rnd t s) ν) l
         → Local n f out γ i r op (withWait (comparing o rnd t) ν) l
     written rnd c = moved n f c r (ν .request) (comparing o rnd t) here (omega arith) (c .due)
-        (have-withRequest n f c r (ν .request) (comparing o rnd t) (omega arith)
+        (have-withRequestAndWait n f c r (ν .request) (comparing o rnd t) (omega arith)
         (λ v m h. (inl (known rnd c v (h .0)), h .1))) (
           c .phase .0,
           record {

@@ -11,8 +11,8 @@ use Rattle.history.specs.Message.{Value, View, Message, read, readAnswer, write
 use Rattle.history.specs.Event.{Operation, update, scan, Round, round0, round1, round2, round3, Rule, direct, borrowed}
 use Rattle.history.specs.Event.{Ending, none, done, shown, spent}
 pub use Rattle.algorithm.specs.Node.{Nodes, nobody, Wait, idle, reading, writing, comparing, borrowing, Good}
-pub use Rattle.algorithm.specs.Node.{Node, fresh, withRequest, topping, holding, keep, withWait, asking, latest}
-pub use Rattle.algorithm.specs.Node.{viewUpto, agrees, quorum?}
+pub use Rattle.algorithm.specs.Node.{Node, fresh, withRequestAndWait, topping, holding, keep, withWait, asking}
+pub use Rattle.algorithm.specs.Node.{latest, viewUpto, agrees, quorum?}
 unfoldable pub use Rattle.algorithm.specs.Node.{same, has, includedUpTo, newest, highest, table, kept}
 
 -- The largest tag, and the largest request number.

@@ -50,8 +50,9 @@ abbrev pub fresh : Node
 fresh = record { all = []; from = λ j. []; maxtag = 0; goods = []; request = 0; wait = idle }
 
 -- The node with another request number and wait, another maxtag, other values.
-abbrev pub withRequest : ℕ → Wait → Node → Node
-withRequest q w ν = record { all = ν .all; from = ν .from; maxtag = ν .maxtag; goods = ν .goods; request = q; wait = w }
+abbrev pub withRequestAndWait : ℕ → Wait → Node → Node
+withRequestAndWait q w ν =
+    record { all = ν .all; from = ν .from; maxtag = ν .maxtag; goods = ν .goods; request = q; wait = w }
 
 abbrev pub topping : ℕ → Node → Node
 topping t ν =
@@ -73,10 +74,10 @@ keep t v ν = record {
 
 -- The node with another wait, and with the next request number used besides.
 abbrev pub withWait : Wait → Node → Node
-withWait w ν = withRequest (ν .request) w ν
+withWait w ν = withRequestAndWait (ν .request) w ν
 
 abbrev pub asking : Wait → Node → Node
-asking w ν = withRequest (suc (ν .request)) w ν
+asking w ν = withRequestAndWait (suc (ν .request)) w ν
 
 -- Sets of values.
 

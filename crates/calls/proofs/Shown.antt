@@ -22,7 +22,7 @@ use Rattle.step.specs.Told.{told, toldView}
 use Rattle.step.proofs.Numbers.{on-pick}
 use Rattle.step.proofs.Theorems as step
 use Rattle.calls.specs.Entry.{leastOutput, letOut, beside, taken, begin, message}
-use Rattle.calls.specs.Outcome.{CallResult}
+use Rattle.calls.specs.CallResult.{CallResult}
 use Rattle.calls.specs.Shown as claim
 use Rattle.record.specs.Record.{faultsOf}
 

@@ -24,7 +24,7 @@ use Rattle.step.specs.Move.{messageStep, beginStep}
 use Rattle.step.specs.Stale.{staleMessage}
 use Rattle.step.specs.Told.{told}
 use Rattle.calls.specs.Bytes.{outBytes}
-use Rattle.calls.specs.Outcome.{CallResult}
+use Rattle.calls.specs.CallResult.{CallResult}
 
 -- the least length of an output buffer
 abbrev pub leastOutput : ℕ

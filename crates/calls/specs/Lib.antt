@@ -1,4 +1,4 @@
 pub mod Bytes
 pub mod Entry
-pub mod Outcome
+pub mod CallResult
 pub mod Shown

@@ -7,7 +7,7 @@ use lib.ListN.{length, length-replicate}
 use Rattle.view.specs.Report.{noReport}
 use Rattle.view.specs.Size.{limit, nodes}
 use Rattle.view.specs.View.{noView}
-use Rattle.table.specs.Quorum.{setSize, isQuorum, agreeing}
+use Rattle.table.specs.Quorum.{membersIn, isQuorum, agreeing}
 use Rattle.record.specs.declared.Node.{Node}
 use Rattle.record.specs.declared.Operation.{Operation}
 use Rattle.record.specs.declared.Operation.the-variants.{Update, Scan}
@@ -21,7 +21,8 @@ use Rattle.step.proofs.Same.{move-on-keeps}
 use Rattle.region.specs.Record.{recordOf, recordBytes}
 use Rattle.region.proofs.Back.{Sized, SizedNode, record-back}
 use Rattle.react_bytes.proofs.Handling.{sized-newest}
-use Rattle.step_bytes.specs.Moved.{stepOf, isStep}
+use Rattle.step_bytes.specs.Moved.{isStep}
+use Rattle.step_bytes.proofs.Turned.{stepOf}
 use Rattle.step_bytes.specs.declared.Effect.{Effect}
 
 sized-none : Sized noView
@@ -35,10 +36,10 @@ module _ (f : ℕ) (s : Step) (z : Held s) where
   read-holds : (w : Wait) → Held (readPass f s (s .node) w)
   unfolding readPass afterRead opened
   read-holds (Reading (Update p) a m) =
-      on-pick Held (isQuorum (s .node .n) f (setSize (s .node .n) a)) _ _
+      on-pick Held (isQuorum (s .node .n) f (membersIn (s .node .n) a)) _ _
       (λ e. on-pick Held (eqb (max m (s .node .maxtag)) limit) _ _ (λ e. sized-none) (λ e. sized-newest _ _ _)) (λ e. z)
   read-holds (Reading Scan a m) =
-      on-pick Held (isQuorum (s .node .n) f (setSize (s .node .n) a)) _ _ (λ e. sized-newest _ _ _) (λ e. z)
+      on-pick Held (isQuorum (s .node .n) f (membersIn (s .node .n) a)) _ _ (λ e. sized-newest _ _ _) (λ e. z)
   read-holds Idle = z
   read-holds (Writing k i r a) = z
   read-holds (Comparing k i r) = z
@@ -46,7 +47,8 @@ module _ (f : ℕ) (s : Step) (z : Held s) where
 
   write-holds : (w : Wait) → Held (writePass f s (s .node) w)
   unfolding writePass
-  write-holds (Writing k i r a) = on-pick Held (isQuorum (s .node .n) f (setSize (s .node .n) a)) _ _ (λ e. z) (λ e. z)
+  write-holds (Writing k i r a) =
+      on-pick Held (isQuorum (s .node .n) f (membersIn (s .node .n) a)) _ _ (λ e. z) (λ e. z)
   write-holds Idle = z
   write-holds (Reading o a m) = z
   write-holds (Comparing k i r) = z

@@ -3,7 +3,8 @@
 mod handing;
 
 use block::BLOCK;
-use events::Reply;
+pub use events::Outcome;
+pub use events::Reply;
 use events::answered;
 use events::given;
 use events::refused;

@@ -21,8 +21,8 @@ use Rattle.algorithm.proofs.World.{Inv}
 use Rattle.eqaso.specs.Cluster.{halted}
 use Rattle.eqaso.proofs.Front.{front}
 use Rattle.eqaso.proofs.Rest.{Rests, message-rests, begin-rests}
-use Rattle.eqaso.proofs.Live.{Live, Numbered, message-live, begin-live}
-use Rattle.eqaso.proofs.Mark.{Marked, Left, message-marked, begin-marked}
+use Rattle.algorithm.proofs.Live.{Live, Numbered, message-live, begin-live}
+use Rattle.algorithm.proofs.Mark.{Marked, Left, message-marked, begin-marked}
 use Rattle.eqaso.proofs.Intro.{Marks, marks-act}
 
 -- gone a b is what node a has let out to b.

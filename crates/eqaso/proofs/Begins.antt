@@ -12,7 +12,7 @@ use Rattle.history.specs.Order.{OneTo}
 use Rattle.algorithm.specs.Algorithm.{Step, beginStep}
 use Rattle.algorithm.proofs.Cert.{Logs}
 use Rattle.algorithm.proofs.Sites.{Site, Sites, logs, begun}
-use Rattle.eqaso.specs.Cluster.{entries, letOut, halted, given}
+use Rattle.eqaso.specs.Cluster.{entries, shortened, halted, given}
 use Rattle.eqaso.proofs.Front.{front-in}
 use Rattle.eqaso.proofs.Course.{Rests, Reads, Only}
 use Rattle.eqaso.proofs.Act.{begin-course}
@@ -36,7 +36,7 @@ kind-at c scan = refl
 
 abbrev pub beginning : (n c : ℕ) → Operation → Extent → Step → Seen
 beginning n c op x s =
-    record { event = begin c op x; answer = accepted (given x (s .ending)); sent = letOut x (entries n (s .sent)) }
+    record { event = begin c op x; answer = accepted (given x (s .ending)); sent = shortened x (entries n (s .sent)) }
 
 module _ {n f : ℕ} (half : f + f < n) {stopped : ℕ → Bool} {σ : Sites} {gone : ℕ → Logs} {tr : Trace} (kept : Kept n tr)
     (H : History n f stopped σ gone (bookOf tr)) (c : ℕ) (one : OneTo n c) (stands : stopped c ≡ false) (op : Operation)

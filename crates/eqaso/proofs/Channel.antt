@@ -14,7 +14,7 @@ use Rattle.history.specs.Message.{Message}
 use Rattle.history.specs.Event.{Extent, whole, cut, Sent, sentTo}
 use Rattle.history.specs.Order.{OneTo}
 use Rattle.algorithm.proofs.Cert.{Logs}
-use Rattle.eqaso.specs.Cluster.{entries, letOut, halted, channels}
+use Rattle.eqaso.specs.Cluster.{entries, shortened, halted, channels}
 use Rattle.eqaso.proofs.Between.{Between, nothing-between, between-more, Handed, hand-over, handed-at}
 use Rattle.eqaso.proofs.Front.{first, front, front-is, front-up}
 
@@ -92,7 +92,7 @@ module _ {n : ℕ} {stopped : ℕ → Bool} {channel : Channels} {out : Logs} {g
 
   -- Node c takes a step.
   pub fits-act : (c : ℕ) (x : Extent) (new : List Message) → stopped c ≡ false
-      → Fits n (halted x c stopped) (channels (halted x c stopped) c (letOut x (entries n new)) channel)
+      → Fits n (halted x c stopped) (channels (halted x c stopped) c (shortened x (entries n new)) channel)
       (upd out c (push new (out c))) (upd gone c (λ b. push (front n x b new) (gone c b))) got
   fits-act c x new stands = record {
     gone-in = λ a b. upd-both (λ a o g. g b ⊑ o) out gone c _ _ (λ a h. F .gone-in a b)
@@ -112,7 +112,7 @@ module _ {n : ℕ} {stopped : ℕ → Bool} {channel : Channels} {out : Logs} {g
       after = halted x c stopped
 
       sent : List Sent
-      sent = letOut x (entries n new)
+      sent = shortened x (entries n new)
 
       all : (x : Extent) (b : ℕ) → halted x c stopped c ≡ false → push (front n x b new) (gone c b) ≡ push new (out c)
       all whole b s = ap (push new) (F .gone-all c b stands)

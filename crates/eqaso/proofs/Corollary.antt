@@ -7,10 +7,10 @@ use mathlib.Core.Path.{_≡_, _∙_, subst}
 use Rattle.order.specs.Sequence.{before}
 use Rattle.history.specs.Message.{absent}
 use Rattle.history.specs.Event.{done, spent}
-use Rattle.history.specs.Trace.{Trace, Begun, updating, scanning, begun, Fate, unfinished, ended, fate, tagAt, fateView}
+use Rattle.history.specs.Trace.{Trace, Begun, updating, scanning, begun, Fate, unfinished, ended, fate, tagAt, scanView}
 use Rattle.history.specs.Trace.{entryAt}
 use Rattle.history.specs.Order.{OneTo, Finished, IsScan, PlacedBy, EndedBefore, SingleOrder}
-use Rattle.history.specs.Views.{HasView, viewIn}
+use Rattle.history.specs.Views.{HasView, endView}
 use Rattle.history.proofs.Written.{written-none}
 use Rattle.eqaso.proofs.Book.{tagOf, bookOf}
 use Rattle.eqaso.proofs.Facts.{Fit}
@@ -22,14 +22,14 @@ scan-placed tr s (scanning c) x h f = f
 
 pub scan-without-updates : {n : ℕ} {tr : Trace} → SingleOrder n tr
     → ((u c p : ℕ) → ¬ (begun tr u ≡ updating c p)) → (s : ℕ) → IsScan (begun tr s) → Finished (fate tr s)
-    → (w : ℕ) → OneTo n w → entryAt (fateView (fate tr s)) w ≡ absent
+    → (w : ℕ) → OneTo n w → entryAt (scanView (fate tr s)) w ≡ absent
 scan-without-updates {n} {tr} o no-update s scan end w one =
     o .legal s (o .members s .1 (scan-placed tr s (begun tr s) (fate tr s) scan end)) scan w one
     ∙ written-none tr w (before ℕ-discrete s (o .line)) absent (λ u i (p, e). no-update u w p e)
 
 -- An update with a tag, so one that is not spent.
 pub view-has-earlier : {n : ℕ} {tr : Trace} → Kept n tr → (u c p t : ℕ) → begun tr u ≡ updating c p → 0 < tagAt tr u c
-    → EndedBefore (fate tr u) t → HasView (fate tr t) → tagAt tr u c ≤ entryAt (viewIn (fate tr t)) c .tag
+    → EndedBefore (fate tr u) t → HasView (fate tr t) → tagAt tr u c ≤ entryAt (endView (fate tr t)) c .tag
 unfolding bookOf
 view-has-earlier {n} {tr} k u c p t is pos before viewed =
     let fit = subst (λ b. Fit n b (fate tr u) (tagOf tr u b)) is (k .facts .fit u) in

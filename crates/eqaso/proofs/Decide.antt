@@ -8,7 +8,7 @@ use Rattle.order.proofs.Select.{some-below}
 use Rattle.history.specs.Message.{Entry}
 use Rattle.history.specs.Event.{none, done, shown, spent}
 use Rattle.history.specs.Trace.{Trace, Begun, nothing, updating, scanning, begun, Fate, unfinished, ended, fate, tagAt}
-use Rattle.history.specs.Trace.{fateView, entryAt}
+use Rattle.history.specs.Trace.{scanView, entryAt}
 use Rattle.history.specs.Order.{Finished, IsScan, Shows, PlacedBy, Placed}
 use Rattle.eqaso.proofs.Extend.{begun-past}
 
@@ -32,10 +32,10 @@ entry? e t p = go (ℕ-discrete (e .tag) t) (ℕ-discrete (e .report) p)
 module _ (tr : Trace) where
   shows? : (c t p s : ℕ) → Dec (Shows tr s c t p)
   shows? c t p s = go (scan? (begun tr s)) (finished? (fate tr s)) (decLt 0 t)
-      (entry? (entryAt (fateView (fate tr s)) c) t p)
+      (entry? (entryAt (scanView (fate tr s)) c) t p)
     where
       go : Dec (IsScan (begun tr s)) → Dec (Finished (fate tr s)) → Dec (0 < t)
-          → Dec (entryAt (fateView (fate tr s)) c ≡ record { tag = t; report = p }) → Dec (Shows tr s c t p)
+          → Dec (entryAt (scanView (fate tr s)) c ≡ record { tag = t; report = p }) → Dec (Shows tr s c t p)
       go (yes a) (yes b) (yes d) (yes e) = yes (record { scan = a; finished = b; tagged = d; entry = e })
       go (no a) b d e = no λ h. a (h .scan)
       go (yes a) (no b) d e = no λ h. b (h .finished)

@@ -15,7 +15,7 @@ use Rattle.algorithm.specs.Algorithm.{Step, messageStep}
 use Rattle.algorithm.proofs.Cert.{Log, Logs, _≼_}
 use Rattle.algorithm.proofs.Sites.{Site, Sites, logs, handed, Comes}
 use Rattle.algorithm.proofs.World.{Inv}
-use Rattle.eqaso.specs.Cluster.{entries, letOut, halted, given}
+use Rattle.eqaso.specs.Cluster.{entries, shortened, halted, given}
 use Rattle.eqaso.proofs.Front.{front, front-in}
 use Rattle.eqaso.proofs.Course.{Only}
 use Rattle.eqaso.proofs.Act.{Passed}
@@ -33,7 +33,7 @@ letting n c x new gone = upd gone c (λ b. push (front n x b new) (gone c b))
 -- A delivery from node k to node c as it is seen.
 abbrev pub delivery : (n k c : ℕ) → Extent → Step → Seen
 delivery n k c x s =
-    record { event = deliver k c x; answer = accepted (given x (s .ending)); sent = letOut x (entries n (s .sent)) }
+    record { event = deliver k c x; answer = accepted (given x (s .ending)); sent = shortened x (entries n (s .sent)) }
 
 -- Message m from node k, whose log before m is p, comes to node c.
 pub record Delivery (n f : ℕ) (half : f + f < n) (stopped : ℕ → Bool) (σ : Sites) (gone : ℕ → Logs) (tr : Trace)

@@ -17,7 +17,7 @@ use Rattle.history.specs.Event.{Extent, whole, cut, Event, Sent, sentTo}
 use Rattle.history.specs.Trace.{Seen, stopsBy, handedIn}
 use Rattle.history.specs.Order.{OneTo}
 use Rattle.algorithm.specs.Algorithm.{Node, beginStep, messageStep}
-use Rattle.eqaso.specs.Cluster.{entries, letOut, Cluster, refuse, halted, seen, channels}
+use Rattle.eqaso.specs.Cluster.{entries, shortened, Cluster, refuse, halted, seen, channels}
 use Rattle.eqaso.proofs.Reach.{Reaches, sent-reach}
 use Rattle.eqaso.proofs.Happened.{Happened, refusal, began, delivered, ceased, Handles, outcome}
 use Rattle.eqaso.proofs.Channel.{Channels, channels-from, channels-other}
@@ -103,7 +103,7 @@ moved {n} {f} {σ} {e} (refusal k) a b s = record {
 moved {n} {f} {σ} (began {c} {op} {x} h i r) a b s = record {
   handed = [];
   counted = refl;
-  moves = moves-by (halted x c (σ .stopped)) c (letOut x (entries n (beginStep n f c op (σ .nodes c) .sent)))
+  moves = moves-by (halted x c (σ .stopped)) c (shortened x (entries n (beginStep n f c op (σ .nodes c) .sent)))
       (σ .channel) (σ .channel) a b [] s refl;
 }
 moved {n} {f} {σ} (delivered {a = d} {b = c} {x} h o m rest e) a b s =
@@ -111,7 +111,7 @@ moved {n} {f} {σ} (delivered {a = d} {b = c} {x} h o m rest e) a b s =
     record {
       handed = hs;
       counted = counted;
-      moves = moves-by (halted x c (σ .stopped)) c (letOut x (entries n (messageStep n f c d m (σ .nodes c) .sent)))
+      moves = moves-by (halted x c (σ .stopped)) c (shortened x (entries n (messageStep n f c d m (σ .nodes c) .sent)))
           (σ .channel) (upd2 (σ .channel) d c rest) a b hs s is;
     }
 moved {n} {f} {σ} (ceased {c} h) a b s = record {
@@ -149,11 +149,11 @@ outside-is {n} {f} {σ} (ceased {c} h) a out = stays h a out (σ .nodes c)
 
 -- Only nodes send, and only to nodes but for answers.
 passed-by : {m : Message} {n f c : ℕ} {x : Extent} {σ : Cluster} → Handles n f c x σ → (l : List Message) (a b : ℕ)
-    → m ∈ cond (decide (ℕ-discrete c a)) (sentTo b (letOut x (entries n l))) [] → OneTo n a × Reaches n b m
+    → m ∈ cond (decide (ℕ-discrete c a)) (sentTo b (shortened x (entries n l))) [] → OneTo n a × Reaches n b m
 unfolding decide
 passed-by {m} {n} {f} {c} {x} h l a b i = go (ℕ-discrete c a) i
   where
-    go : (d : Dec (c ≡ a)) → m ∈ cond (decide d) (sentTo b (letOut x (entries n l))) [] → OneTo n a × Reaches n b m
+    go : (d : Dec (c ≡ a)) → m ∈ cond (decide d) (sentTo b (shortened x (entries n l))) [] → OneTo n a × Reaches n b m
     go (yes e) j = (subst (OneTo n) e (h .node), sent-reach n b x l j)
     go (no e) j = elim j [ ]
 

@@ -16,7 +16,7 @@ use Rattle.algorithm.proofs.Sets.{not-true}
 use Rattle.algorithm.proofs.Sites.{logs}
 use Rattle.eqaso.specs.Cluster.{Cluster}
 use Rattle.eqaso.proofs.Between.{Between, all-handed}
-use Rattle.eqaso.proofs.Mark.{Low}
+use Rattle.algorithm.proofs.Mark.{Low}
 use Rattle.eqaso.proofs.Standstill.{Lent, Drained, no-wait}
 use Rattle.eqaso.proofs.Good.{Good, gots}
 

@@ -8,7 +8,7 @@ use Rattle.history.specs.Message.{Entry, absent, View}
 use Rattle.history.specs.Event.{none, done, shown, spent}
 use Rattle.history.specs.Trace.{Begun, nothing, updating, scanning, Fate, unfinished, ended, entryAt}
 use Rattle.history.specs.Order.{OneTo, EndedBefore}
-use Rattle.history.specs.Views.{HasView, viewIn, Below, Comparable}
+use Rattle.history.specs.Views.{HasView, endView, Below, Comparable}
 use Rattle.eqaso.proofs.Book.{Book, At}
 
 -- What a view has of node w: nothing, or the tag and report of an update of w.
@@ -48,19 +48,19 @@ pub record Facts (n now : ℕ) (B : Book) : Type 0 where
   -- The operations of one node follow each other.
   pub apart : (a b c : ℕ) → At (B .begun a) c → At (B .begun b) c → a < b → EndedBefore (B .fate a) b
   -- A view has an entry for each node, and of each two views one is below the other.
-  pub sized : (a : ℕ) → HasView (B .fate a) → length (viewIn (B .fate a)) ≡ n
+  pub sized : (a : ℕ) → HasView (B .fate a) → length (endView (B .fate a)) ≡ n
   pub chain : (a b : ℕ) → HasView (B .fate a) → HasView (B .fate b)
-      → Comparable n (viewIn (B .fate a)) (viewIn (B .fate b))
-  pub places : (a : ℕ) → HasView (B .fate a) → (w : ℕ) → OneTo n w → Place B w (entryAt (viewIn (B .fate a)) w)
-  pub closed : (a : ℕ) → HasView (B .fate a) → Closed B (viewIn (B .fate a))
+      → Comparable n (endView (B .fate a)) (endView (B .fate b))
+  pub places : (a : ℕ) → HasView (B .fate a) → (w : ℕ) → OneTo n w → Place B w (entryAt (endView (B .fate a)) w)
+  pub closed : (a : ℕ) → HasView (B .fate a) → Closed B (endView (B .fate a))
   -- What ended before another began has the smaller view, and the smaller tag.
   pub grows : (a b : ℕ) → EndedBefore (B .fate a) b → HasView (B .fate a) → HasView (B .fate b)
-      → Below n (viewIn (B .fate a)) (viewIn (B .fate b))
+      → Below n (endView (B .fate a)) (endView (B .fate b))
   pub rises : (u x c d p q : ℕ) → B .begun u ≡ updating c p → B .begun x ≡ updating d q → EndedBefore (B .fate u) x
       → 0 < B .tag x → B .tag u < B .tag x
   -- A view that was there when an update began has not got that update.
   pub unseen : (a u c p : ℕ) → B .begun u ≡ updating c p → EndedBefore (B .fate a) u → HasView (B .fate a)
-      → 0 < B .tag u → entryAt (viewIn (B .fate a)) c .tag < B .tag u
+      → 0 < B .tag u → entryAt (endView (B .fate a)) c .tag < B .tag u
 
 -- Owed when the update at t gets tag s: s is above the tags of the updates that ended before it began.
 pub record TagDue (B : Book) (t s : ℕ) : Type 0 where
@@ -70,8 +70,8 @@ pub record TagDue (B : Book) (t s : ℕ) : Type 0 where
 -- Owed when the operation at t ends with view v.
 pub record ViewDue (n : ℕ) (B : Book) (t : ℕ) (v : View) : Type 0 where
   pub sized : length v ≡ n
-  pub chain : (a : ℕ) → HasView (B .fate a) → Comparable n (viewIn (B .fate a)) v
-  pub grows : (a : ℕ) → EndedBefore (B .fate a) t → HasView (B .fate a) → Below n (viewIn (B .fate a)) v
+  pub chain : (a : ℕ) → HasView (B .fate a) → Comparable n (endView (B .fate a)) v
+  pub grows : (a : ℕ) → EndedBefore (B .fate a) t → HasView (B .fate a) → Below n (endView (B .fate a)) v
   pub places : (w : ℕ) → OneTo n w → Place B w (entryAt v w)
   pub closed : Closed B v
 

@@ -17,7 +17,7 @@ use Rattle.history.specs.Event.{Extent, whole, cut, sentTo}
 use Rattle.history.specs.Order.{OneTo}
 use Rattle.algorithm.specs.Address.{address}
 use Rattle.algorithm.proofs.Meant.{pick, pick-append}
-use Rattle.eqaso.specs.Cluster.{addressed, entries, letOut}
+use Rattle.eqaso.specs.Cluster.{addressed, entries, shortened}
 use Rattle.eqaso.proofs.Entries.{size, enough, enough-some, one-front, length-addressed, take-append}
 use Rattle.eqaso.proofs.Entries.{sentTo-append}
 
@@ -101,7 +101,7 @@ front n (cut k) b l = first n k b l
 
 -- What is let out to b are the messages for b among these.
 pub front-is : (n b : ℕ) → OneTo n b → (x : Extent) (l : List Message)
-    → sentTo b (letOut x (entries n l)) ≡ pick b (front n x b l)
+    → sentTo b (shortened x (entries n l)) ≡ pick b (front n x b l)
 unfolding first
 front-is n b h (cut k) l = first-is n b h k l
 front-is n b h whole l = ap (sentTo b) (sym (take-length (entries n l)))

@@ -14,7 +14,7 @@ use Rattle.history.specs.Trace.{Seen, Trace}
 use Rattle.algorithm.proofs.Cert.{Logs}
 use Rattle.algorithm.proofs.Sites.{Site, Sites, logs, Comes}
 use Rattle.algorithm.proofs.World.{Inv}
-use Rattle.eqaso.specs.Cluster.{Cluster, halted, channels, entries, letOut}
+use Rattle.eqaso.specs.Cluster.{Cluster, halted, channels, entries, shortened}
 use Rattle.eqaso.proofs.Between.{Handed, handed-at}
 use Rattle.eqaso.proofs.Channel.{Fits, fits-act}
 use Rattle.eqaso.proofs.Book.{Book, bookOf}
@@ -62,7 +62,7 @@ module _ (n f : ℕ) (half : f + f < n) (w : Sites) (gone : ℕ → Logs) (stopp
   -- A step of node c, with its site s after it and the list that it sends.
   module _ (c : ℕ) (x : Extent) (s : Site) (list : List Message) (log : s .log ≡ push list (w c .log)) where
     abbrev pub channel′ : ℕ → ℕ → List Message
-    channel′ = channels (halted x c stopped) c (letOut x (entries n list)) channel
+    channel′ = channels (halted x c stopped) c (shortened x (entries n list)) channel
 
     pub next-fits : Fits n stopped channel (logs w) gone (upd (gots w) c (s .past .got)) → stopped c ≡ false
         → Fits n (halted x c stopped) channel′ (logs (upd w c s)) (letting n c x list gone) (gots (upd w c s))

@@ -13,8 +13,8 @@ use Rattle.history.specs.Order.{OneTo}
 use Rattle.algorithm.specs.Algorithm.{limit, Wait, idle, reading, writing, comparing, borrowing, Step, still}
 use Rattle.algorithm.specs.Algorithm.{beginStep, messageStep}
 use Rattle.algorithm.proofs.Sets.{and-both, not-true}
-use Rattle.eqaso.specs.Cluster.{Cluster, start, Result, refuse, seen, traceFrom, trace, entries, letOut, commit}
-use Rattle.eqaso.specs.Cluster.{demand, holds, roomy, settle, isNode, stands, isIdle, mayCut, mayStop}
+use Rattle.eqaso.specs.Cluster.{Cluster, start, Result, refuse, seen, traceFrom, trace, entries, shortened}
+use Rattle.eqaso.specs.Cluster.{commit, demand, holds, roomy, settle, isNode, stands, isIdle, mayCut, mayStop}
 use Rattle.eqaso.specs.Cluster.{deliverFirst, event, after}
 
 -- One more node may stop, where the event stops one.
@@ -30,7 +30,7 @@ pub record Handles (n f c : ℕ) (x : Extent) (σ : Cluster) : Type 0 where
 
 -- Node c takes step s and lets out what the extent says.
 abbrev pub act : ℕ → ℕ → Extent → Step → (ℕ → ℕ → List Message) → Cluster → Result
-act n c x s channel σ = commit c x s (letOut x (entries n (s .sent))) channel σ
+act n c x s channel σ = commit c x s (shortened x (entries n (s .sent))) channel σ
 
 -- An event was refused, or did what its kind does. What a channel has room for decides only between these two.
 pub data Happened (n f : ℕ) (σ : Cluster) : Event → Type 0 where

@@ -1,6 +1,5 @@
 -- What the sites know of the operations in the book: every ended operation has left its certificate, every value that
--- was
--- let out is that of an update in the book, and the open operation of a node is the one that its wait speaks of.
+-- was let out is that of an update in the book, and the open operation of a node is the one that its wait speaks of.
 use Prim.Native.Nat.{ℕ, suc, _<_}
 use mathlib.Core.Path.{_≡_, refl, sym, subst}
 use mathlib.Core.Logic.{_⊎_, inl, inr, _↔_}

@@ -21,7 +21,7 @@ use Rattle.algorithm.proofs.Cert.{Logs}
 use Rattle.eqaso.specs.Cluster.{halted}
 use Rattle.eqaso.proofs.Front.{front, front-in, front-last}
 use Rattle.eqaso.proofs.Channel.{stood}
-use Rattle.eqaso.proofs.Mark.{Low, low-up, Below, below-up, Marked, Leapt, Opened, Left}
+use Rattle.algorithm.proofs.Mark.{Low, low-up, Below, below-up, Marked, Leapt, Opened, Left}
 
 -- A list and the log that it makes.
 

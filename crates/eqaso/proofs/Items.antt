@@ -14,9 +14,9 @@ use Rattle.order.proofs.Total.{total, total-mono, total-tight}
 use Rattle.history.specs.Message.{View}
 use Rattle.history.specs.Event.{done, shown, spent}
 use Rattle.history.specs.Trace.{Trace, Begun, nothing, updating, scanning, begun, Fate, unfinished, ended, fate}
-use Rattle.history.specs.Trace.{fateView, entryAt}
+use Rattle.history.specs.Trace.{scanView, entryAt}
 use Rattle.history.specs.Order.{OneTo, Finished, IsScan, PlacedBy, Placed, EndedBefore}
-use Rattle.history.specs.Views.{HasView, viewIn}
+use Rattle.history.specs.Views.{HasView, endView}
 use Rattle.eqaso.proofs.Book.{tagOf, plain}
 use Rattle.eqaso.proofs.Facts.{Fit, Between, Facts}
 use Rattle.eqaso.proofs.Decide.{placed?, placed-before}
@@ -52,13 +52,13 @@ holds-by? v (scanning c) s = no λ h. h
 
 -- An update that ended before something began ended with a view that has it.
 pub own-view : (n : ℕ) (x : Fate) (c p s t : ℕ) → Fit n (updating c p) x s → 0 < s → EndedBefore x t
-    → HasView x × (s ≤ entryAt (viewIn x) c .tag)
+    → HasView x × (s ≤ entryAt (endView x) c .tag)
 own-view n (ended k (done r v)) c p s t g pos h = (tt, g .2)
 own-view n (ended k spent) c p s t g pos h = absurd (omega (arith, g .1, pos))
 
 module _ (n : ℕ) (tr : Trace) (F : Facts n (length tr) (plain tr)) where
   abbrev pub view : ℕ → View
-  view t = viewIn (fate tr t)
+  view t = endView (fate tr t)
 
   abbrev pub tag : ℕ → ℕ
   tag t = tagOf tr t (begun tr t)
@@ -86,10 +86,10 @@ module _ (n : ℕ) (tr : Trace) (F : Facts n (length tr) (plain tr)) where
     pub is : IsScan (begun tr t)
     pub finished : Finished (fate tr t)
     pub viewed : HasView (fate tr t)
-    pub same : viewIn (fate tr t) ≡ fateView (fate tr t)
+    pub same : endView (fate tr t) ≡ scanView (fate tr t)
 
   scan-by : (t : ℕ) (b : Begun) (x : Fate) → PlacedBy tr t b x → Fit n b x (tagOf tr t b) → kindOf b ≡ scan
-      → IsScan b × Finished x × HasView x × (viewIn x ≡ fateView x)
+      → IsScan b × Finished x × HasView x × (endView x ≡ scanView x)
   scan-by t (updating c p) x h g k = absurd (subst IsScanKind (sym k) tt)
   scan-by t (scanning c) (ended i (shown r v)) h g k = (tt, tt, tt, refl)
 

@@ -10,7 +10,7 @@ use Rattle.logs.proofs.Update.{upd-other, upd-all}
 use Rattle.history.specs.Message.{Entry}
 use Rattle.history.specs.Trace.{Begun, nothing, updating, scanning, entryAt}
 use Rattle.history.specs.Order.{EndedBefore}
-use Rattle.history.specs.Views.{HasView, viewIn}
+use Rattle.history.specs.Views.{HasView, endView}
 use Rattle.eqaso.proofs.Book.{Book, tags, At, OpenAt}
 use Rattle.eqaso.proofs.Facts.{Place, Closed, Fit, Facts, TagDue}
 use Rattle.eqaso.proofs.Keep.{not-ended, node-one}
@@ -43,7 +43,7 @@ module _ {n now : ℕ} {B : Book} (f : Facts n now B) {c t p s : ℕ} (o : OpenA
   above-place e (inl h) = omega (arith, ap (λ x. x .tag) h, due .positive)
   above-place e (inr (u, q, h, pos, k)) = omega (arith, ap (λ x. x .tag) k, above-own u q h)
 
-  pub above-views : (a : ℕ) → HasView (B .fate a) → entryAt (viewIn (B .fate a)) c .tag < s
+  pub above-views : (a : ℕ) → HasView (B .fate a) → entryAt (endView (B .fate a)) c .tag < s
   above-views a h = above-place _ (f .places a h c (node-one f o))
 
   tag-old : (u : ℕ) → u ≢ t → upd (B .tag) t s u ≡ B .tag u
@@ -59,15 +59,15 @@ module _ {n now : ℕ} {B : Book} (f : Facts n now B) {c t p s : ℕ} (o : OpenA
   ended-other : (u x : ℕ) → EndedBefore (B .fate u) x → u ≢ t
   ended-other u x h e = not-ended x (o .unended) (subst (λ z. EndedBefore (B .fate z) x) e h)
 
-  closed-tags : (a : ℕ) → HasView (B .fate a) → Closed (tags t s B) (viewIn (B .fate a))
+  closed-tags : (a : ℕ) → HasView (B .fate a) → Closed (tags t s B) (endView (B .fate a))
   closed-tags a h u x i j q r eu ex before = rw (tag-old u (ended-other u x before)) (upd-all
-      (λ x y. B .begun x ≡ updating j r → EndedBefore (B .fate u) x → 0 < y → y ≤ entryAt (viewIn (B .fate a)) j .tag
-      → B .tag u ≤ entryAt (viewIn (B .fate a)) i .tag)
+      (λ x y. B .begun x ≡ updating j r → EndedBefore (B .fate u) x → 0 < y → y ≤ entryAt (endView (B .fate a)) j .tag
+      → B .tag u ≤ entryAt (endView (B .fate a)) i .tag)
       (B .tag) t s (λ x ne e. f .closed a h u x i j q r eu e)
       (λ e bef pos le. absurd (omega (
         arith,
         le,
-        subst (λ k. entryAt (viewIn (B .fate a)) k .tag < s)
+        subst (λ k. entryAt (endView (B .fate a)) k .tag < s)
             (ap nodeOf (sym is ∙ e)) (above-views a h),
       )))
       x ex before)
@@ -79,12 +79,12 @@ module _ {n now : ℕ} {B : Book} (f : Facts n now B) {c t p s : ℕ} (o : OpenA
       (B .tag) t s (λ x ne e. f .rises u x i j q r eu e) (λ e bef pos. due .above u i q eu bef) x ex before)
 
   unseen-tags : (a u i q : ℕ) → B .begun u ≡ updating i q → EndedBefore (B .fate a) u → HasView (B .fate a)
-      → 0 < upd (B .tag) t s u → entryAt (viewIn (B .fate a)) i .tag < upd (B .tag) t s u
+      → 0 < upd (B .tag) t s u → entryAt (endView (B .fate a)) i .tag < upd (B .tag) t s u
   unseen-tags a u i q e before h = upd-all
       (λ u y. B .begun u ≡ updating i q → EndedBefore (B .fate a) u → 0 < y
-      → entryAt (viewIn (B .fate a)) i .tag < y)
+      → entryAt (endView (B .fate a)) i .tag < y)
       (B .tag) t s (λ u ne k bef. f .unseen a u i q k bef h)
-      (λ k bef pos. subst (λ j. entryAt (viewIn (B .fate a)) j .tag < s) (ap nodeOf (sym is ∙ k)) (above-views a h))
+      (λ k bef pos. subst (λ j. entryAt (endView (B .fate a)) j .tag < s) (ap nodeOf (sym is ∙ k)) (above-views a h))
       u e before
 
   pub facts-tag : Facts n now (tags t s B)

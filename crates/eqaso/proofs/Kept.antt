@@ -11,7 +11,7 @@ use Rattle.history.specs.Message.{View}
 use Rattle.history.specs.Event.{Ending, none, done, shown, spent, Rule}
 use Rattle.history.specs.Trace.{Seen, Trace, handler, Begun, nothing, updating, scanning, begun, ended, ownTags}
 use Rattle.history.specs.Order.{OneTo}
-use Rattle.history.specs.Views.{HasView, viewIn}
+use Rattle.history.specs.Views.{HasView, endView}
 use Rattle.eqaso.proofs.Book.{Book, bookOf, begins, tags, ends, At, IdleAt, OpenAt}
 use Rattle.eqaso.proofs.Facts.{Facts, Fit, TagDue, ViewDue, OwnDue}
 use Rattle.eqaso.proofs.Keep.{facts-later, facts-begin, at-old, tagged-old, node-one, scan-bare}
@@ -107,7 +107,7 @@ module _ (tr : Trace) (o : Seen) where
   -- The open operation ends.
   next-end : {n t : ℕ} (e : Ending) → Given e → Kept n tr → begunIn o ≡ nothing → endingIn o ≡ e → Told (bookOf tr) o
       → OpenAt (bookOf tr) node t → Fit n (bookOf tr .begun t) (ended (length tr) e) (bookOf tr .tag t)
-      → (HasView (ended (length tr) e) → ViewDue n (bookOf tr) t (viewIn (ended (length tr) e)))
+      → (HasView (ended (length tr) e) → ViewDue n (bookOf tr) t (endView (ended (length tr) e)))
       → Next n tr o (ends t (ended (length tr) e) (bookOf tr))
   next-end {n} {t} e real k idle end told own fits due = from-book (ends t (ended (length tr) e) (bookOf tr))
       (book-end tr o e real (at-old (k .facts) t node (own .here)) idle end own told)

@@ -21,9 +21,7 @@ pub mod Arrival
 pub mod Opening
 -- No wait without end.
 pub mod Rest
-pub mod Live
 pub mod Standstill
-pub mod Mark
 pub mod Intro
 pub mod Alive
 -- The book of a trace, and one single order.

@@ -18,7 +18,7 @@ use Rattle.algorithm.proofs.Cert.{Log}
 use Rattle.algorithm.proofs.Cases.{raise-cases, receive-cases, read-cases, write-cases}
 use Rattle.algorithm.proofs.Passes.{left}
 use Rattle.algorithm.proofs.MoveOn.{Moves, message-leaves, begin-leaves}
-use Rattle.eqaso.specs.Cluster.{Cluster, refuse, start, entries, letOut, after, seen, trace}
+use Rattle.eqaso.specs.Cluster.{Cluster, refuse, start, entries, shortened, after, seen, trace}
 use Rattle.eqaso.specs.Bounded.{LetOut}
 use Rattle.eqaso.proofs.Course.{Only, plain, listed}
 use Rattle.eqaso.proofs.Reach.{sent-among}
@@ -120,7 +120,8 @@ module _ {nodes : ℕ → Node} {tr : Trace} (O : Origin nodes tr) (o : Seen) wh
   still-out : (v : Value) → LetOut tr v → LetOut next v
   still-out v (b, i) = (b, subst (λ l. value v ∈ l) (sym (letOutTo-snoc tr o (v .writer) b)) (Memᴰ·append-left _ i))
 
-  acted : (n : ℕ) (x : Extent) (l : List Message) (ν : Node) → o .sent ≡ letOut x (entries n l) → Holds c (LetOut tr) ν
+  acted : (n : ℕ) (x : Extent) (l : List Message) (ν : Node) → o .sent ≡ shortened x (entries n l)
+      → Holds c (LetOut tr) ν
       → Only (OwnOr c (LetOut tr)) l → Origin (upd nodes c ν) next
   unfolding decide
   acted n x l ν is held only = record {

@@ -14,7 +14,7 @@ use Rattle.history.specs.Event.{Extent, whole, cut, Sent, sentTo}
 use Rattle.history.specs.Order.{OneTo}
 use Rattle.algorithm.specs.Address.{Address, one, all, address}
 use Rattle.algorithm.specs.Algorithm.{table}
-use Rattle.eqaso.specs.Cluster.{entriesTo, addressed, entries, letOut}
+use Rattle.eqaso.specs.Cluster.{entriesTo, addressed, entries, shortened}
 use Rattle.eqaso.proofs.Entries.{entry}
 
 -- A message may go to node b.
@@ -61,7 +61,7 @@ entries-among n (m ∷ l) i = elim (List·Memᴰ·append-cases (addressed n m) i
   | inr h ↦ List·Memᴰ·tail (entries-among n l h)
 ]
 
-letOut-in : {s : Sent} (x : Extent) (l : List Sent) → s ∈ letOut x l → s ∈ l
+letOut-in : {s : Sent} (x : Extent) (l : List Sent) → s ∈ shortened x l → s ∈ l
 letOut-in whole l i = i
 letOut-in {s} (cut k) l i = subst (λ z. s ∈ z) (take-append-drop k l) (Memᴰ·append-left (drop k l) i)
 
@@ -91,10 +91,11 @@ sentTo-of {s} (List·Memᴰ·tail {x} {xs} i) = go (ℕ-discrete (x .to) (s .to)
     go (no h) j = j
 
 -- What goes to b in the list of an event may go to b.
-pub sent-reach : {m : Message} (n b : ℕ) (x : Extent) (l : List Message) → m ∈ sentTo b (letOut x (entries n l))
+pub sent-reach : {m : Message} (n b : ℕ) (x : Extent) (l : List Message) → m ∈ sentTo b (shortened x (entries n l))
     → Reaches n b m
 sent-reach n b x l i = entries-reach n l (letOut-in x (entries n l) (sentTo-in b _ i))
 
 -- It is a message of the list.
-pub sent-among : {m : Message} (n b : ℕ) (x : Extent) (l : List Message) → m ∈ sentTo b (letOut x (entries n l)) → m ∈ l
+pub sent-among : {m : Message} (n b : ℕ) (x : Extent) (l : List Message) → m ∈ sentTo b (shortened x (entries n l))
+    → m ∈ l
 sent-among n b x l i = entries-among n l (letOut-in x (entries n l) (sentTo-in b _ i))

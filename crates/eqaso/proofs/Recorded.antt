@@ -17,7 +17,7 @@ use Rattle.history.specs.Order.{OneTo, EndedBefore}
 use Rattle.algorithm.proofs.Cert.{Logs, _≼_}
 use Rattle.algorithm.proofs.Meant.{pick-in, pick-of}
 use Rattle.algorithm.proofs.Sites.{Site, Sites, logs}
-use Rattle.eqaso.specs.Cluster.{entries, letOut, halted}
+use Rattle.eqaso.specs.Cluster.{entries, shortened, halted}
 use Rattle.eqaso.proofs.Front.{front, front-is, front-in}
 use Rattle.eqaso.proofs.Reach.{sentTo-in, sentTo-of, sent-reach, Reaches}
 use Rattle.eqaso.proofs.Owned.{tagBy-of, tagsSent-of, tagsSent-own}
@@ -29,10 +29,10 @@ use Rattle.eqaso.proofs.History.{Booked, Behind, behind-up, LeftIn, Mod
 use Rattle.eqaso.proofs.Later.{Later, Apart, booked-later, mode-later, behind-later}
 
 -- The own tags that an event lets out are those of own values in the step's list.
-pub own-from : {t : ℕ} (n c : ℕ) (x : Extent) (new : List Message) → t ∈ tagsSent c (letOut x (entries n new))
+pub own-from : {t : ℕ} (n c : ℕ) (x : Extent) (new : List Message) → t ∈ tagsSent c (shortened x (entries n new))
     → (v : Value) × (value v ∈ new) × (v .writer ≡ c) × (v .tag ≡ t)
 own-from {t} n c x new i =
-    let (s, j, o) = tagsSent-own c (letOut x (entries n new)) i in
+    let (s, j, o) = tagsSent-own c (shortened x (entries n new)) i in
     let k = sentTo-of j in
     let one : OneTo n (s .to) = subst (Reaches n (s .to)) (o .is) (sent-reach n (s .to) x new k) in
     let (l, meant) = pick-in (s .to) (front n x (s .to) new)
@@ -42,9 +42,10 @@ own-from {t} n c x new i =
 -- The tag of an own value that is let out to a node.
 pub own-out : (n c b : ℕ) (x : Extent) (new : List Message) (v : Value) → OneTo n b → v .writer ≡ c
     → value v ∈ front n x b new
-    → v .tag ∈ tagsSent c (letOut x (entries n new))
+    → v .tag ∈ tagsSent c (shortened x (entries n new))
 own-out n c b x new v one e m = tagsSent-of c
-    (sentTo-in b (letOut x (entries n new)) (subst (λ z. value v ∈ z) (sym (front-is n b one x new)) (pick-of b m tt)))
+    (sentTo-in b (shortened x (entries n new))
+    (subst (λ z. value v ∈ z) (sym (front-is n b one x new)) (pick-of b m tt)))
     (tagBy-of c v e)
 
 pub listed-of : (B : Book) {v : Value} {c t : ℕ} → Booked B v → v .writer ≡ c → v .tag ≡ t → Listed B c t

@@ -17,7 +17,7 @@ use Rattle.algorithm.proofs.Cert.{Logs}
 use Rattle.algorithm.proofs.Sites.{Site, Sites, logs, new, handed, begun, Comes}
 use Rattle.algorithm.proofs.World.{Inv, start-inv, handed-inv, begun-inv}
 use Rattle.eqaso.specs.Cluster.{Cluster, Result, refuse, commit, start, after, halted, seen, trace, channels}
-use Rattle.eqaso.specs.Cluster.{entries, letOut}
+use Rattle.eqaso.specs.Cluster.{entries, shortened}
 use Rattle.eqaso.proofs.Between.{handed-at}
 use Rattle.eqaso.proofs.Happened.{Handles, Happened, refusal, began, delivered, ceased, outcome}
 use Rattle.eqaso.proofs.Channel.{Fits, fits-start, fits-hand, fits-stop, stood}
@@ -84,7 +84,7 @@ module _ (n f : ℕ) (half : f + f < n) (w : Sites) (gone : ℕ → Logs) (stopp
         nodes = upd (λ i. w i .node) c (beginStep n f c op (w c .node) .node);
         stopped = halted x c stopped;
         channel = channels (halted x c stopped) c
-            (letOut x (entries n (beginStep n f c op (w c .node) .sent))) channel;
+            (shortened x (entries n (beginStep n f c op (w c .node) .sent))) channel;
       })
       (tr ++ (beginning n c op x (beginStep n f c op (w c .node)) ∷ []))
   begin-good c op x h i = next-good n f half w gone stopped channel tr c x (begun n f c op (logs w) (w c))
@@ -102,7 +102,7 @@ module _ (n f : ℕ) (half : f + f < n) (w : Sites) (gone : ℕ → Logs) (stopp
       → Good n f (record {
         nodes = upd (λ i. w i .node) b (messageStep n f b a m (w b .node) .node);
         stopped = halted x b stopped;
-        channel = channels (halted x b stopped) b (letOut x (entries n (messageStep n f b a m (w b .node) .sent)))
+        channel = channels (halted x b stopped) b (shortened x (entries n (messageStep n f b a m (w b .node) .sent)))
             (upd2 channel a b rest);
       })
       (tr ++ (delivery n a b x (messageStep n f b a m (w b .node)) ∷ []))

@@ -14,7 +14,7 @@ use Rattle.history.specs.Event.{none, done, shown, spent}
 use Rattle.history.specs.Trace.{Trace, Begun, nothing, updating, scanning, begun, Fate, unfinished, ended, fate, tagAt}
 use Rattle.history.specs.Trace.{entryAt}
 use Rattle.history.specs.Order.{IsScan, Shows, EndsInKind, PlacedBy, Placed, written, SingleOrder}
-use Rattle.history.specs.Views.{HasView, viewIn}
+use Rattle.history.specs.Views.{HasView, endView}
 use Rattle.history.proofs.Written.{UpdateOf, written-none, written-last}
 use Rattle.eqaso.proofs.Book.{tagOf, plain, bookOf, At}
 use Rattle.eqaso.proofs.Facts.{Fit, Facts, Place}
@@ -25,7 +25,7 @@ use Rattle.eqaso.proofs.Kept.{Kept}
 scan-kind : (b : Begun) → IsScan b → kindOf b ≡ scan
 scan-kind (scanning c) h = refl
 
-ends-in-kind : (n : ℕ) (b : Begun) (x : Fate) (s : ℕ) → Fit n b x s → (HasView x → length (viewIn x) ≡ n)
+ends-in-kind : (n : ℕ) (b : Begun) (x : Fate) (s : ℕ) → Fit n b x s → (HasView x → length (endView x) ≡ n)
     → EndsInKind n b x
 ends-in-kind n nothing x s fit sized = tt
 ends-in-kind n (updating c p) unfinished s fit sized = tt

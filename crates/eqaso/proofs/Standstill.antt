@@ -16,7 +16,7 @@ use Rattle.algorithm.proofs.Local.{Took}
 use Rattle.algorithm.proofs.Meant.{Meant}
 use Rattle.algorithm.proofs.Sets.{or-right, and-of, includedUpTo-of}
 use Rattle.eqaso.proofs.Rest.{Rests}
-use Rattle.eqaso.proofs.Live.{Live}
+use Rattle.algorithm.proofs.Live.{Live}
 
 -- A node that borrows has been handed a good message with its tag.
 abbrev pub Lent : Logs → Wait → Type 0

@@ -11,7 +11,7 @@ use Rattle.history.specs.Trace.{Seen, Trace, handler, letOutTo}
 use Rattle.history.specs.Order.{OneTo}
 use Rattle.algorithm.proofs.Cert.{Logs}
 use Rattle.algorithm.proofs.Meant.{Meant}
-use Rattle.eqaso.specs.Cluster.{entries, letOut}
+use Rattle.eqaso.specs.Cluster.{entries, shortened}
 use Rattle.eqaso.proofs.Between.{Between, nothing-between, between-more, between-in}
 use Rattle.eqaso.proofs.Front.{front, front-is}
 use Rattle.eqaso.proofs.Snoc.{passed-own, passed-other, passed-none, letOutTo-snoc}
@@ -32,7 +32,7 @@ told-none {n} {tr} {gone} o e t = record {
 
 -- An event that lets out what its extent says of a list of messages.
 pub told-act : {n : ℕ} {tr : Trace} {gone : ℕ → Logs} (o : Seen) (x : Extent) (new : List Message)
-    → o .sent ≡ letOut x (entries n new) → Told n tr gone
+    → o .sent ≡ shortened x (entries n new) → Told n tr gone
     → Told n (tr ++ (o ∷ []))
     (upd gone (handler (o .event)) (λ b. push (front n x b new) (gone (handler (o .event)) b)))
 told-act {n} {tr} {gone} o x new e t = record {

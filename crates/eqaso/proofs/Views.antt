@@ -15,7 +15,7 @@ use Rattle.history.specs.Message.{Value, of, absent, View, value}
 use Rattle.history.specs.Event.{Operation, Round, done, shown, spent}
 use Rattle.history.specs.Trace.{Begun, nothing, updating, scanning, Fate, unfinished, ended, entryAt}
 use Rattle.history.specs.Order.{OneTo, EndedBefore}
-use Rattle.history.specs.Views.{HasView, viewIn, Below, Comparable}
+use Rattle.history.specs.Views.{HasView, endView, Below, Comparable}
 use Rattle.algorithm.specs.Algorithm.{newest, table, viewUpto}
 use Rattle.algorithm.proofs.Cert.{Log, Logs, Inside, Cert, below, same}
 use Rattle.algorithm.proofs.Local.{Past, Settled, Due, Stage}
@@ -55,7 +55,7 @@ inside-views n T U A B v x e d i w h = rw (entry-is n T A v e w h, entry-is n U 
 module _ (n f : ℕ) where
   -- An operation that ended with a view has left its certificate.
   pub certified-of : (lg : Logs) (b : Begun) (x : Fate) (s : ℕ) → Fit n b x s → HasView x → Left n f lg b x s
-      → Certified n f lg (viewIn x)
+      → Certified n f lg (endView x)
   certified-of lg nothing x s fit h l = absurd (subst HasView (fit .0) h)
   certified-of lg (updating c p) (ended k (done r v)) s fit h l = l .0
   certified-of lg (scanning c) (ended k (shown r v)) s fit h l = l
@@ -162,7 +162,7 @@ module _ (n f : ℕ) where
             (T, (A, x .is, x .cert));
         grows = λ a h view.
             let (U, (C, is, G)) = certified-of base (B .begun a) (B .fate a) (B .tag a) (F .fit a) view (prior a h) in
-            inside-views n U T C A (viewIn (B .fate a)) v is (x .is) (x .covers U C G);
+            inside-views n U T C A (endView (B .fate a)) v is (x .is) (x .covers U C G);
         places = view-places (x .is) (x .cert);
         closed = view-closed (x .is) (x .cert);
       }

@@ -53,9 +53,9 @@ unfoldable pub entries : ℕ → List Message → List Sent
 entries n [] = []
 entries n (m ∷ ms) = addressed n m ++ entries n ms
 
-abbrev pub letOut : Extent → List Sent → List Sent
-letOut whole l = l
-letOut (cut m) l = take m l
+abbrev pub shortened : Extent → List Sent → List Sent
+shortened whole l = l
+shortened (cut m) l = take m l
 
 -- Who has stopped after an event that node c handles.
 abbrev pub halted : Extent → ℕ → (ℕ → Bool) → ℕ → Bool
@@ -103,7 +103,7 @@ abbrev pub unlessFull : ℕ → (room : ℕ → Bool) → ℕ → Cluster → Re
 unlessFull n room c σ r = demand (Bool-discrete (roomy room c n (r .cluster .channel)) true) 11 σ r
 
 abbrev pub settle : ℕ → (room : ℕ → Bool) → ℕ → Extent → Step → (ℕ → ℕ → List Message) → Cluster → Result
-settle n room c x s channel σ = unlessFull n room c σ (commit c x s (letOut x (entries n (s .sent))) channel σ)
+settle n room c x s channel σ = unlessFull n room c σ (commit c x s (shortened x (entries n (s .sent))) channel σ)
 
 -- What the other refusals demand.
 

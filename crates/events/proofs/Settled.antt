@@ -1,4 +1,5 @@
--- What each return of `open_on` says, and the end of every event that steps a node: what is settled with 11 or without.
+-- The begin of an operation by the refusals that apply to it, and the end of every event that steps a node: what is
+-- settled with 11 or without.
 use Prim.Native.Nat.{ℕ, _≤_}
 use native.Mathlib.Omega.{arith}
 use mathlib.Core.Path.{_≡_, refl, sym, ap, _∙_}

@@ -1,4 +1,4 @@
--- What the answer of an event says, and what each return of `fresh` does.
+-- What the answer of an event says, and what fresh does by the refusals that apply to it.
 use Prim.Native.Nat.{ℕ, _+_}
 use mathlib.Core.Path.{_≡_, refl, sym, ap, ap₂, subst, _∙_}
 use mathlib.Core.Bool.{true, false}

@@ -10,7 +10,7 @@ use Rattle.logs.specs.Log.{_∈_}
 use Rattle.order.specs.Sequence.{Once, before}
 use Rattle.history.specs.Message.{absent, read}
 use Rattle.history.specs.Event.{Operation, update, scan, cut, begin, stop, none, accepted, sentTo}
-use Rattle.history.specs.Trace.{Trace, updating, begun, fate, tagAt, fateView, entryAt, firstEnding, tagsSent}
+use Rattle.history.specs.Trace.{Trace, updating, begun, fate, tagAt, scanView, entryAt, firstEnding, tagsSent}
 use Rattle.history.specs.Trace.{ownTags, largest, firstAbove, stopped, letOutTo, handedOver}
 use Rattle.history.specs.Order.{OneTo, IsScan, EndsInKind, Placed, written, EndedBefore, SingleOrder, Quiet}
 use Rattle.history.proofs.RuledOut.{begins, handles, own, entry, shows, updater}
@@ -78,7 +78,7 @@ story-tagged = each (λ t. (c p : ℕ) → begun story t ≡ updating c p → 0 
 
 abbrev Legal : ℕ → Type 0
 Legal s = IsScan (begun story s) → (w : ℕ) → OneTo 3 w
-    → entryAt (fateView (fate story s)) w ≡ written story w (before ℕ-discrete s line) absent
+    → entryAt (scanView (fate story s)) w ≡ written story w (before ℕ-discrete s line) absent
 
 first-legal : Legal 0
 unfolding firstEnding written before ℕ-discrete decide

@@ -12,7 +12,7 @@ use Rattle.order.specs.Sequence.{Once, before}
 use Rattle.history.specs.Message.{Entry, absent}
 use Rattle.history.specs.Event.{none, done, shown, spent}
 use Rattle.history.specs.Trace.{Trace, Begun, nothing, updating, scanning, begun, Fate, unfinished, ended, fate}
-use Rattle.history.specs.Trace.{tagAt, writesBy, fateView, entryAt, stopped, waits}
+use Rattle.history.specs.Trace.{tagAt, writesBy, scanView, entryAt, stopped, waits}
 
 -- w is the number of a node.
 abbrev pub OneTo : ℕ → ℕ → Type 0
@@ -33,7 +33,7 @@ pub record Shows (tr : Trace) (s c t p : ℕ) : Type 0 where
   pub scan : IsScan (begun tr s)
   pub finished : Finished (fate tr s)
   pub tagged : 0 < t
-  pub entry : entryAt (fateView (fate tr s)) c ≡ record { tag = t; report = p }
+  pub entry : entryAt (scanView (fate tr s)) c ≡ record { tag = t; report = p }
 
 -- An operation that has finished ended as its kind does: an update is done, with a view that its client is not given,
 -- or it is spent; a scan shows its view. A view has an entry for each of the n nodes.
@@ -87,7 +87,7 @@ pub record SingleOrder (n : ℕ) (tr : Trace) : Type 0 where
   pub tagged : (t c p : ℕ) → t ∈ line → begun tr t ≡ updating c p → 0 < tagAt tr t c
   -- each scan shows of every node the last update before it, and no report where there is none,
   pub legal : (s : ℕ) → s ∈ line → IsScan (begun tr s) → (w : ℕ) → OneTo n w
-      → entryAt (fateView (fate tr s)) w ≡ written tr w (before ℕ-discrete s line) absent
+      → entryAt (scanView (fate tr s)) w ≡ written tr w (before ℕ-discrete s line) absent
   -- and what ended before another began stands before it.
   pub timely : (a b : ℕ) → a ∈ line → b ∈ line → EndedBefore (fate tr a) b → a ∈ before ℕ-discrete b line
 

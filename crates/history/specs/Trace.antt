@@ -130,12 +130,12 @@ writesBy tr t w (scanning c) old = old
 writesBy tr t w (updating c p) old = cond (decide (ℕ-discrete c w)) (record { tag = tagAt tr t c; report = p }) old
 
 -- The view that a scan ended with; the empty one for all else.
-abbrev pub fateView : Fate → View
-fateView unfinished = []
-fateView (ended k none) = []
-fateView (ended k (done r v)) = []
-fateView (ended k (shown r v)) = v
-fateView (ended k spent) = []
+abbrev pub scanView : Fate → View
+scanView unfinished = []
+scanView (ended k none) = []
+scanView (ended k (done r v)) = []
+scanView (ended k (shown r v)) = v
+scanView (ended k spent) = []
 
 -- What a view has of node w, from 1 to n.
 abbrev pub entryAt : View → ℕ → Entry

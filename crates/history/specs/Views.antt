@@ -6,7 +6,7 @@ use mathlib.Core.List.{[]}
 use Rattle.logs.specs.Log.{_∈_}
 use Rattle.history.specs.Message.{absent, View, good}
 use Rattle.history.specs.Event.{none, done, shown, spent}
-use Rattle.history.specs.Trace.{Trace, updating, begun, Fate, unfinished, ended, fate, tagAt, fateView, entryAt}
+use Rattle.history.specs.Trace.{Trace, updating, begun, Fate, unfinished, ended, fate, tagAt, scanView, entryAt}
 use Rattle.history.specs.Trace.{letOutTo}
 use Rattle.history.specs.Order.{OneTo, Finished, IsScan, EndedBefore}
 
@@ -26,7 +26,7 @@ RoundsComparable n tr = (a b c d t u : ℕ) (v x : View) → good t v ∈ letOut
 -- Where no update was begun, every scan shows no report of any node.
 abbrev pub ShowsAbsence : ℕ → Trace → Type 0
 ShowsAbsence n tr = ((u c p : ℕ) → ¬ (begun tr u ≡ updating c p)) → (s : ℕ) → IsScan (begun tr s) → Finished (fate tr s)
-    → (w : ℕ) → OneTo n w → entryAt (fateView (fate tr s)) w ≡ absent
+    → (w : ℕ) → OneTo n w → entryAt (scanView (fate tr s)) w ≡ absent
 
 -- The operation ended with a view, an update or a scan, and the view; the empty one for all else.
 abbrev pub HasView : Fate → Type 0
@@ -36,14 +36,14 @@ HasView (ended k (done r v)) = Unit {0}
 HasView (ended k (shown r v)) = Unit {0}
 HasView (ended k spent) = ⊥
 
-abbrev pub viewIn : Fate → View
-viewIn unfinished = []
-viewIn (ended k none) = []
-viewIn (ended k (done r v)) = v
-viewIn (ended k (shown r v)) = v
-viewIn (ended k spent) = []
+abbrev pub endView : Fate → View
+endView unfinished = []
+endView (ended k none) = []
+endView (ended k (done r v)) = v
+endView (ended k (shown r v)) = v
+endView (ended k spent) = []
 
 -- The view of an operation has every update that ended before it began.
 abbrev pub HasEarlier : Trace → Type 0
 HasEarlier tr = (u c p t : ℕ) → begun tr u ≡ updating c p → 0 < tagAt tr u c → EndedBefore (fate tr u) t
-    → HasView (fate tr t) → tagAt tr u c ≤ entryAt (viewIn (fate tr t)) c .tag
+    → HasView (fate tr t) → tagAt tr u c ≤ entryAt (endView (fate tr t)) c .tag

@@ -31,7 +31,7 @@ module _ (n f : ℕ) (room : ℕ → Bool) (σ : K.Cluster) where
 
   settles : (c : ℕ) (x : H.Extent) (s : A.Step) (q : ℕ → ℕ → List M.Message) → Answers (K.settle n room c x s q σ)
   settles c x s q =
-      let r : K.Result = K.commit c x s (K.letOut x (K.entries n (s .sent))) q σ in
+      let r : K.Result = K.commit c x s (K.shortened x (K.entries n (s .sent))) q σ in
       let h : Answers r = record { given = tt } in
       demands (K.holds (K.roomy room c n (r .cluster .channel))) 11 refl h
 

@@ -75,7 +75,7 @@ module _ {n : ℕ} (small : n ≤ nodes) (sized : isSize n ≡ true) (a c : ℕ)
       ∙ ap (K.entries n) (ap (λ k. map (messageOf n k (s .outbox .view)) (messages (s .outbox))) (sym (same .to))
       ∙ same .sent)
 
-  same-out : (x : Extent) → map (mail n) (O.shortened x (entries n a (s .outbox))) ≡ K.letOut (extentOf x)
+  same-out : (x : Extent) → map (mail n) (O.shortened x (entries n a (s .outbox))) ≡ K.shortened (extentOf x)
       (K.entries n (t .sent))
   same-out Whole = whole-out
   same-out (Cut m) = map-take (mail n) m (entries n a (s .outbox)) ∙ ap (take m) whole-out
@@ -90,18 +90,18 @@ module _ {n : ℕ} (small : n ≤ nodes) (sized : isSize n ≡ true) (a c : ℕ)
   mid = emptied stopped q
 
   abbrev end : ℕ → ℕ → List M.Message
-  end = K.channels stopped c (K.letOut (extentOf x) (K.entries n (t .sent))) q
+  end = K.channels stopped c (K.shortened (extentOf x) (K.entries n (t .sent))) q
 
   mid-end : K.channels stopped c (map (mail n) out) mid ≡ end
   mid-end = ap (λ l. K.channels stopped c l mid) (same-out x)
-      ∙ channels-emptied stopped c (K.letOut (extentOf x) (K.entries n (t .sent))) q
+      ∙ channels-emptied stopped c (K.shortened (extentOf x) (K.entries n (t .sent))) q
 
   after-step : Shows n (O.stepped n c x (s .node) found) (upd (σ .nodes) c (t .node)) stopped mid
   after-step = shows-step small S c node x (same .node) (safe .node) gone
 
   -- The event is accepted.
   accepts : K.roomy channelRoom c n end ≡ true → SameResult n (E.commit n a c x s found)
-      (K.commit c (extentOf x) t (K.letOut (extentOf x) (K.entries n (t .sent))) q σ)
+      (K.commit c (extentOf x) t (K.shortened (extentOf x) (K.entries n (t .sent))) q σ)
   accepts e = record {
     answer = answers x;
     sent = same-out x;
@@ -111,13 +111,13 @@ module _ {n : ℕ} (small : n ≤ nodes) (sized : isSize n ≡ true) (a c : ℕ)
           (shows-out small sized c node out after-step (emptied-gone stopped q) (fits-out x)
           (room-of small after-step c node out (ap (K.roomy channelRoom c n) mid-end ∙ e)));
       room = λ a d p o. fits a d p o (stopped d) refl (ℕ-discrete a c);
-      gone = λ a d h. channel-stopped stopped c (K.letOut (extentOf x) (K.entries n (t .sent))) q a d h;
+      gone = λ a d h. channel-stopped stopped c (K.shortened (extentOf x) (K.entries n (t .sent))) q a d h;
       few = few;
     };
   }
     where
       l : List H.Sent
-      l = K.letOut (extentOf x) (K.entries n (t .sent))
+      l = K.shortened (extentOf x) (K.entries n (t .sent))
 
       answers : (x : Extent) → responseOf n (pick (O.isCut x) noView (s .view))
           (result (pick (O.isCut x) None (s .ending)))

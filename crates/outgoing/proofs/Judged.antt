@@ -16,10 +16,10 @@ use Rattle.region.specs.Record.{heardPlace, recordOf}
 use Rattle.layout.specs.Layout.{clusterSize}
 use Rattle.outgoing.specs.declared.Extent.{Extent}
 use Rattle.outgoing.specs.Entries.{Entry, entries}
-use Rattle.outgoing.specs.Outgoing.{shortened, most, isCut, mayStop, mayCut, foundIn, hasRoom}
+use Rattle.outgoing.specs.Outgoing.{shortened, most, isCut, mayStop, mayCut, hasRoom}
 use Rattle.outgoing.specs.Room.{roomBefore, goneIn}
 use Rattle.outgoing.proofs.Out.{shortened-most}
-use Rattle.outgoing.proofs.Room.{room-before}
+use Rattle.outgoing.proofs.Room.{foundIn, room-before}
 
 pub cut-judged : (n : ℕ) (x : Extent) (b : List ℕ) {cut r v : Bool} → cut ≡ isCut x → r ≡ pick cut (mayStop n b) true
     → r ≡ v → mayCut n x b ≡ v

@@ -21,8 +21,12 @@ use Rattle.block.proofs.Changes.{takeOff-same, takeOff-other, halt-length, halt
 use Rattle.outgoing.specs.Entries.{Entry, goTo}
 use Rattle.layout.specs.Layout.{clusterSize, block, stopped, channel, onBlock}
 use Rattle.layout.proofs.Blocks.{length-block, length-channel, length-onBlock, block-same, block-other}
-use Rattle.outgoing.specs.Outgoing.{haltIf, roomAt, roomy, foundIn}
+use Rattle.outgoing.specs.Outgoing.{haltIf, roomAt, roomy}
 use Rattle.outgoing.specs.Room.{roomBefore, goneIn}
+
+-- The bytes as a step of node c finds them: a delivery has taken off the message from a.
+abbrev pub foundIn : (took : Bool) (a c : ℕ) → List ℕ → List ℕ
+foundIn took a c b = pick took (onBlock c (takeOff a) b) b
 
 -- one message less
 count-pop : (t : List ℕ) → length t ≡ channelSize → countOf (pop t) ≡ countOf t - 1

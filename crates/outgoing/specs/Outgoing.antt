@@ -11,7 +11,7 @@ use Rattle.table.specs.Loop.{either, all, count}
 use Rattle.record.specs.declared.Node.{Node}
 use Rattle.step.specs.declared.Outbox.{Outbox}
 use Rattle.region.specs.Channel.{capacity, countOf}
-use Rattle.block.specs.Block.{keepRecord, takeOff, receive, halt}
+use Rattle.block.specs.Block.{keepRecord, receive, halt}
 use Rattle.layout.specs.Layout.{stopped, channel, onBlock, faultsIn}
 use Rattle.outgoing.specs.Entries.{Entry, entries, goTo, slot}
 use Rattle.outgoing.specs.declared.Extent.{Extent}
@@ -37,10 +37,6 @@ mayStop n b = ltb (count n (stopped b)) (faultsIn b)
 
 abbrev pub mayCut : ℕ → Extent → List ℕ → Bool
 mayCut n x b = pick (isCut x) (mayStop n b) true
-
--- The bytes as a step of node c finds them: a delivery has taken off the message from a.
-abbrev pub foundIn : (took : Bool) (a c : ℕ) → List ℕ → List ℕ
-foundIn took a c b = pick took (onBlock c (takeOff a) b) b
 
 -- The bytes after node c took a step: its record d is written, and in a cut it stops.
 abbrev pub haltIf : Bool → (n c : ℕ) → List ℕ → List ℕ

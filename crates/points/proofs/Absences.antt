@@ -92,7 +92,7 @@ all-absent [] h = refl
 all-absent (x ∷ v) h = ap₂ (λ y l. y ∷ l) (h 0 (omega arith)) (all-absent v (λ i l. h (suc i) (omega arith)))
 
 absent-view : (n c : ℕ) (x : T.Fate) → EndsInKind n (T.scanning c) x → Finished x
-    → ((w : ℕ) → OneTo n w → T.entryAt (T.fateView x) w ≡ absent) → T.fateView x ≡ replicate n absent
+    → ((w : ℕ) → OneTo n w → T.entryAt (T.scanView x) w ≡ absent) → T.scanView x ≡ replicate n absent
 absent-view n c (T.ended k (H.shown r v)) long end each = all-absent v
     (λ i h.
     let e : i ≡ suc i - 1 = omega arith in
@@ -156,6 +156,6 @@ module _ (n c : ℕ) (size : OneTo nodes n) (at : OneTo n c) (b : List ℕ) (lon
       is-scan : IsScan (T.begun tr 0)
       is-scan = subst IsScan (sym scans) tt
 
-      pub none-shown : T.fateView (T.fate tr 0) ≡ replicate n absent
+      pub none-shown : T.scanView (T.fate tr 0) ≡ replicate n absent
       none-shown = absent-view n c (T.fate tr 0) (subst (λ x. EndsInKind n x (T.fate tr 0)) scans (order .kinds 0))
           finished (scan-without-updates order no-update 0 is-scan finished)

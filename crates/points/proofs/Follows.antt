@@ -109,10 +109,10 @@ module _ (calls : Calls) where
     tr = traceOf calls n b (scanThen c ds)
 
     -- A view with an entry was given by an ending, and what ended has begun.
-    finished : 1 ≤ n → T.fateView (T.fate tr 0) ≡ replicate n absent → Finished (T.fate tr 0)
+    finished : 1 ≤ n → T.scanView (T.fate tr 0) ≡ replicate n absent → Finished (T.fate tr 0)
     finished h e = go (T.fate tr 0) (ap length e ∙ length-replicate n absent)
       where
-        go : (x : T.Fate) → length (T.fateView x) ≡ n → Finished x
+        go : (x : T.Fate) → length (T.scanView x) ≡ n → Finished x
         go T.unfinished f = absurd (omega arith)
         go (T.ended k y) f = tt
 

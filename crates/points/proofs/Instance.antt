@@ -56,7 +56,7 @@ none-of-code : (n c : ℕ) → OneTo nodes n → OneTo n c → (b : List ℕ) �
 none-of-code n c size at b long ds up quiet = record {
   begun = ap (λ tr. T.begun tr 0) e ∙ scans n c size at b long ds;
   finished = subst (λ tr. Finished (T.fate tr 0)) (sym e) (finished n c size at b long ds stands-still none-waits);
-  view = ap (λ tr. T.fateView (T.fate tr 0)) e ∙ none-shown n c size at b long ds stands-still none-waits;
+  view = ap (λ tr. T.scanView (T.fate tr 0)) e ∙ none-shown n c size at b long ds stands-still none-waits;
 }
   where
     e : C.traceOf C.code n b (scanThen c ds) ≡ R.traceOf n b (scanThen c ds)

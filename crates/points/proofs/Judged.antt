@@ -30,9 +30,8 @@ use Rattle.outgoing.specs.Outgoing.{shortened, isCut, stepped, roomy}
 use Rattle.outgoing.specs.Room.{roomBefore}
 use Rattle.outgoing.specs.declared.Extent.{Extent}
 use Rattle.outgoing.specs.declared.Extent.the-variants.{Whole, Cut}
-use Rattle.outgoing.proofs.Room.{room-before}
+use Rattle.outgoing.proofs.Room.{foundIn, room-before}
 use Rattle.outgoing.specs.Room.{goneIn}
-use Rattle.outgoing.specs.Outgoing.{foundIn}
 use Rattle.events.proofs.Settled.{settle-full, settle-commits}
 use Rattle.history.specs.Order.{OneTo}
 use Rattle.mirror.specs.Run as R

@@ -18,10 +18,10 @@ use Rattle.wire.specs.Codec.{viewPart}
 use Rattle.wire.specs.declared.Message.the-variants.{ReadAnswer, Write, Value}
 use Rattle.wire.proofs.RoundTrip.{read-back, read-only}
 use Rattle.table.specs.Loop.{all, count}
-use Rattle.table.specs.Quorum.{member, with, only, setSize, faults, isQuorum}
+use Rattle.table.specs.Quorum.{member, with, only, membersIn, faults, isQuorum}
 use Rattle.table.specs.Table.{heardWithin}
 use Rattle.table.proofs.Entries.{viewWithin-absent}
-use Rattle.table.proofs.Sets.{setSize-with}
+use Rattle.table.proofs.Sets.{membersIn-with}
 use Rattle.record.specs.Record.{withWait, closed, faultsOf}
 use Rattle.record.specs.Usable.{stillUses}
 use Rattle.record.specs.declared.Node.{Node}
@@ -59,11 +59,11 @@ module _ (c : Node) (o : Operation) (m s t : ℕ) (b out : List ℕ) (L : LastAn
       (both-true (le-leb 1 s (L .sender .0)) (le-leb s (c .n) (L .sender .1))) (ReadAnswer (c .request) t) (L .says)
       ∙ taken-goes c s (viewPart (c .n) b) out (ReadAnswer (c .request) t) refl
 
-  quorum : isQuorum (c .n) f (setSize (c .n) (with (L .answered) s)) ≡ true
-  quorum = le-leb (c .n - f) (setSize (c .n) (with (L .answered) s))
-      (omega (arith, L .short, setSize-with (c .n) (L .answered) s (L .sender .0) (L .sender .1) (L .new)))
+  quorum : isQuorum (c .n) f (membersIn (c .n) (with (L .answered) s)) ≡ true
+  quorum = le-leb (c .n - f) (membersIn (c .n) (with (L .answered) s))
+      (omega (arith, L .short, membersIn-with (c .n) (L .answered) s (L .sender .0) (L .sender .1) (L .new)))
 
-  none-yet : isQuorum (c .n) f (setSize (c .n) 0) ≡ false
+  none-yet : isQuorum (c .n) f (membersIn (c .n) 0) ≡ false
   none-yet = no-quorum (c .n) f (omega (arith, L .sender .0, L .sender .1))
 
   -- No tag is above the limit.
@@ -146,7 +146,7 @@ few-used (Update p) m = omega arith
 few-used Scan m = omega arith
 
 meets : (m top t : ℕ) → m ≤ limit → top ≤ limit → t ≤ limit → (o : Operation) → MeetsAt m top t o
-unfolding allowed heardWithin all count member with only setSize
+unfolding allowed heardWithin all count member with only membersIn
 meets m top t low h k o = record {
   room = omega (arith, length-replicate {A = ℕ} 512 0);
   is-usable = usable-of (reader m top o) (record {

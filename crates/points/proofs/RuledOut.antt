@@ -27,7 +27,7 @@ use Rattle.table.specs.Quorum.{faults}
 use Rattle.step.specs.Told as K
 use Rattle.step.specs.declared.Ending.{Ending}
 use Rattle.calls.specs.Entry as N
-use Rattle.calls.specs.Outcome.{CallResult}
+use Rattle.calls.specs.CallResult.{CallResult}
 use Rattle.layout.specs.Layout.{clusterSize}
 use Rattle.events.specs.Event as E
 use Rattle.history.specs.Order.{OneTo}

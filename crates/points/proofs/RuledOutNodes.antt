@@ -24,7 +24,7 @@ use Rattle.record.specs.declared.Wait.the-variants.{Idle, Reading, Writing, Com
 use Rattle.step.specs.Told as K
 use Rattle.step.specs.declared.Ending.the-variants.{None}
 use Rattle.calls.specs.Entry as N
-use Rattle.calls.specs.Outcome.{CallResult}
+use Rattle.calls.specs.CallResult.{CallResult}
 use Rattle.block.specs.Block.{halt}
 use Rattle.layout.specs.Layout.{stated, stopped, onBlock}
 use Rattle.events.specs.Event as E

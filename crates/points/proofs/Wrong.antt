@@ -6,7 +6,7 @@ use Rattle.wire.specs.declared.Message.{Message}
 use Rattle.figures.specs.declared.Totals.{Totals}
 use Rattle.record.specs.declared.Node.{Node}
 use Rattle.record.specs.declared.Operation.{Operation}
-use Rattle.calls.specs.Outcome.{CallResult}
+use Rattle.calls.specs.CallResult.{CallResult}
 use Rattle.events.specs.Event.{Result}
 use Rattle.outgoing.specs.declared.Extent.{Extent}
 use Rattle.points.specs.Calls.{Calls, code}

@@ -13,7 +13,7 @@ use Rattle.view.specs.declared.Report.{Report}
 use Rattle.wire.specs.Layout.{encode}
 use Rattle.wire.specs.Codec.{decode}
 use Rattle.wire.specs.declared.Message.the-variants.{ReadAnswer, Write, Value}
-use Rattle.table.specs.Quorum.{member, with, setSize}
+use Rattle.table.specs.Quorum.{member, with, membersIn}
 use Rattle.record.specs.Record.{blank, setTop, setWait, closed, faultsOf}
 use Rattle.record.specs.Usable.{usable}
 use Rattle.record.specs.declared.Node.{Node}
@@ -23,7 +23,7 @@ use Rattle.record.specs.declared.Kind.the-variants.{Update as UpdateKind, Scan 
 use Rattle.record.specs.declared.Wait.the-variants.{Idle, Reading}
 use Rattle.step.specs.Move.{opened}
 use Rattle.step.specs.Told as K
-use Rattle.calls.specs.Outcome.{CallResult}
+use Rattle.calls.specs.CallResult.{CallResult}
 use Rattle.history.specs.Order.{OneTo}
 use Rattle.points.specs.Calls.{Calls}
 
@@ -34,7 +34,7 @@ pub record LastAnswer (c : Node) (o : Operation) (m s t : ℕ) (b out : List ℕ
   pub is-usable : usable c ≡ true
   pub answered : ℕ
   pub reads : c .wait ≡ Reading o answered m
-  pub short : setSize (c .n) answered + 1 ≡ c .n - faultsOf c
+  pub short : membersIn (c .n) answered + 1 ≡ c .n - faultsOf c
   pub sender : OneTo (c .n) s
   pub new : member answered s ≡ false
   pub says : decode (c .n) b ≡ result (ReadAnswer (c .request) t)

@@ -18,7 +18,7 @@ use Rattle.refine.specs.Meaning.{kindOf, number}
 use Rattle.refine.specs.Follows.{SameWait, HoldsRound, Follows}
 use Rattle.refine.proofs.Choice.{split, Tells, eq-tells, same-side, same-test}
 use Rattle.refine.proofs.Quorums.{same-with, same-again}
-use Rattle.refine.proofs.Turned.{follows-withRequest}
+use Rattle.refine.proofs.Turned.{follows-withRequestAndWait}
 
 module _ {n i : ℕ} {ν : A.Node} {c : Node} (F : Follows n i ν c) (k q t : ℕ) (sender : OneTo n k) where
   R : Wait → A.Node → Type 0
@@ -34,7 +34,7 @@ module _ {n i : ℕ} {ν : A.Node} {c : Node} (F : Follows n i ν c) (k q t : �
   -- Another wait that holds the same reports for its round.
   rewaits : {w : A.Wait} {w′ : Wait} → SameWait n w w′ → HoldsRound n (c .atround) w (ν .all)
       → Follows n i (A.withWait w ν) (withWait c w′)
-  rewaits same h = follows-withRequest F (F .request) same h (F .atround-size)
+  rewaits same h = follows-withRequestAndWait F (F .request) same h (F .atround-size)
 
   pub read-answered : {w : A.Wait} {w′ : Wait} → c .wait ≡ w′ → SameWait n w w′
       → Follows n i (A.readAnswered k q t ν w) (withWait c (readWait (c .request) k q t w′))

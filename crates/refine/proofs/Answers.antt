@@ -8,7 +8,7 @@ use mathlib.Core.List.{append-nil}
 use Rattle.logs.specs.Count as C
 use Rattle.wire.specs.declared.Message.the-variants.{Value}
 use Rattle.view.specs.Size.{limit, nodes}
-use Rattle.table.specs.Quorum.{setSize, isQuorum}
+use Rattle.table.specs.Quorum.{membersIn, isQuorum}
 use Rattle.record.specs.declared.Node.{Node}
 use Rattle.record.specs.declared.Operation.{Operation}
 use Rattle.record.specs.declared.Operation.the-variants.{Update, Scan}
@@ -23,15 +23,15 @@ use Rattle.algorithm.specs.Algorithm.{_then_}
 use Rattle.refine.specs.Meaning.{operationOf}
 use Rattle.refine.specs.Follows.{SameNodes, SameWait, HoldsRound, Follows}
 use Rattle.refine.proofs.Choice.{Tells, eq-tells, same-side}
-use Rattle.refine.proofs.Quorums.{setSize-tells}
-use Rattle.refine.proofs.Turned.{follows-withRequest, follows-opened, follows-closed, request-next}
+use Rattle.refine.proofs.Quorums.{membersIn-tells}
+use Rattle.refine.proofs.Turned.{follows-withRequestAndWait, follows-opened, follows-closed, request-next}
 use Rattle.refine.proofs.Lockstep.{Handled, Asked, Together, handled-asked, asked-more, follow-pass}
 use Rattle.refine.proofs.Lockstep.{nothing-done}
 
 -- A quorum of the senders counted, at a record that follows.
 answers-tell : {n i : ℕ} {ν : A.Node} {c : Node} → Follows n i ν c → (f a : ℕ) (s : A.Nodes) → SameNodes n s a
-    → Tells (isQuorum (c .n) f (setSize (c .n) a)) (n - f ≤ C.count s n)
-answers-tell {n} F f a s same = rw (F .size) (setSize-tells n f a s same)
+    → Tells (isQuorum (c .n) f (membersIn (c .n) a)) (n - f ≤ C.count s n)
+answers-tell {n} F f a s same = rw (F .size) (membersIn-tells n f a s same)
 
 module _ {n i k : ℕ} (small : n ≤ nodes) (f : ℕ) (s : Step) (t : A.Step) where
   module _ (T : Together n i k (Handled n) s t) (going : t .ending ≡ H.none) where
@@ -106,7 +106,7 @@ module _ {n i k : ℕ} (small : n ≤ nodes) (f : ℕ) (s : Step) (t : A.Step) w
           to = T .to;
           bounded = T .bounded;
           over = tt;
-          node = follows-withRequest (T .node) (T .node .request) SameWait.comparing
+          node = follows-withRequestAndWait (T .node) (T .node .request) SameWait.comparing
               (subst (λ w. HoldsRound n (s .node .atround) w (t .node .all)) e (T .node .atround))
               (T .node .atround-size);
         })

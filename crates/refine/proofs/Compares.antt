@@ -32,7 +32,7 @@ use Rattle.refine.specs.Follows.{SameWait, Holds, HoldsRound, Follows}
 use Rattle.refine.proofs.Choice.{Tells, le-tells-as, same-side}
 use Rattle.refine.proofs.Tables.{same-view, view-first, sized-absent}
 use Rattle.refine.proofs.Agreement.{agreeing-tells}
-use Rattle.refine.proofs.Turned.{follows-withRequest, follows-opened, follows-closed, request-next}
+use Rattle.refine.proofs.Turned.{follows-withRequestAndWait, follows-opened, follows-closed, request-next}
 use Rattle.refine.proofs.Lockstep.{Asked, Whole, Over, Together, asked-whole, whole-more, follow-pass}
 use Rattle.refine.proofs.Lockstep.{nothing-done}
 
@@ -90,7 +90,7 @@ module _ {n i k : ℕ} (small : n ≤ nodes) (f : ℕ) (s : Step) (t : A.Step) w
     after-failed H.round3 = record {
       sent = whole-more (s .outbox) Nothing noView (T .sent) refl;
       ending = T .ending ∙ going;
-      node = follows-withRequest (T .node) (T .node .request) SameWait.borrowing tt sized-absent;
+      node = follows-withRequestAndWait (T .node) (T .node .request) SameWait.borrowing tt sized-absent;
       to = T .to;
       bounded = T .bounded;
       over = tt;

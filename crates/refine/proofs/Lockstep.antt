@@ -1,6 +1,5 @@
 -- A step in the making: what the code and the algorithm have in common after each of its parts, and how one part
--- follows
--- another. A part is the handler or a pass; nothing follows an ending.
+-- follows another. A part is the handler or a pass; nothing follows an ending.
 use Prim.Native.Nat.{ℕ}
 use mathlib.Core.Path.{_≡_, refl, _∙_, ap, subst}
 use mathlib.Core.List.{List, [], _++_, map, map-append, append-nil}

@@ -8,7 +8,7 @@ use Rattle.logs.specs.Update.{upd}
 use Rattle.logs.proofs.Update.{upd-all}
 use Rattle.octets.specs.Test.{pick}
 use Rattle.table.specs.Loop.{count}
-use Rattle.table.specs.Quorum.{member, with, setSize, isQuorum}
+use Rattle.table.specs.Quorum.{member, with, membersIn, isQuorum}
 use Rattle.table.proofs.Sets.{member-none, member-same, member-other}
 use Rattle.history.specs.Order.{OneTo}
 use Rattle.algorithm.specs.Algorithm.{Nodes, nobody}
@@ -31,9 +31,10 @@ same-count (suc n) p q h = step (p (suc n)) (q (suc n)) (h (suc n) (omega arith,
 pub quorum-tells : (n f m : ℕ) (s : Nodes) → m ≡ C.count s n → Tells (isQuorum n f m) (n - f ≤ C.count s n)
 quorum-tells n f m s e = rw e (le-tells (n - f) (C.count s n))
 
-pub setSize-tells : (n f a : ℕ) (s : Nodes) → SameNodes n s a → Tells (isQuorum n f (setSize n a)) (n - f ≤ C.count s n)
-unfolding setSize
-setSize-tells n f a s same = quorum-tells n f (count n (member a)) s (same-count n (member a) s same)
+pub membersIn-tells : (n f a : ℕ) (s : Nodes) → SameNodes n s a
+    → Tells (isQuorum n f (membersIn n a)) (n - f ≤ C.count s n)
+unfolding membersIn
+membersIn-tells n f a s same = quorum-tells n f (count n (member a)) s (same-count n (member a) s same)
 
 -- Nobody has answered yet; one more has.
 pub same-nobody : (n : ℕ) → SameNodes n nobody 0

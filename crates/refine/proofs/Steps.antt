@@ -24,7 +24,7 @@ use Rattle.refine.specs.Meaning.{messageOf, operationOf}
 use Rattle.refine.specs.Follows.{Sized, SameWait, Follows}
 use Rattle.refine.specs.Lockstep.{SameStep}
 use Rattle.refine.proofs.Quorums.{same-nobody}
-use Rattle.refine.proofs.Turned.{follows-withRequest, request-next}
+use Rattle.refine.proofs.Turned.{follows-withRequestAndWait, request-next}
 use Rattle.refine.proofs.Lockstep.{Handled, Whole, Together, same-step}
 use Rattle.refine.proofs.React.{react-follows}
 use Rattle.refine.proofs.Answers.{reads-follow, writes-follow}
@@ -50,7 +50,7 @@ module _ {n i : ℕ} (small : n ≤ nodes) {ν : A.Node} {c : Node} (F : Follows
     sent = record { handler = λ v. rw (request-next F) refl; reading = refl; comparing = refl };
     to = F .own;
     ending = refl;
-    node = follows-withRequest F (request-next F) (SameWait.reading (same-nobody n)) tt (F .atround-size);
+    node = follows-withRequestAndWait F (request-next F) (SameWait.reading (same-nobody n)) tt (F .atround-size);
     bounded = b;
     over = tt;
   }))

@@ -45,9 +45,9 @@ follows-fresh n i = record {
 }
 
 module _ {n i : ℕ} {ν : A.Node} {c : Node} (F : Follows n i ν c) where
-  pub follows-withRequest : {q q′ : ℕ} → q′ ≡ q → {w : A.Wait} {w′ : Wait} → SameWait n w w′
-      → {v : View} → HoldsRound n v w (ν .all) → Sized v → Follows n i (A.withRequest q w ν) (setWait c q′ w′ v)
-  follows-withRequest e same {v} h z = record {
+  pub follows-withRequestAndWait : {q q′ : ℕ} → q′ ≡ q → {w : A.Wait} {w′ : Wait} → SameWait n w w′
+      → {v : View} → HoldsRound n v w (ν .all) → Sized v → Follows n i (A.withRequestAndWait q w ν) (setWait c q′ w′ v)
+  follows-withRequestAndWait e same {v} h z = record {
     size = F .size;
     own = F .own;
     maxtag = F .maxtag;
@@ -87,9 +87,9 @@ module _ {n i : ℕ} {ν : A.Node} {c : Node} (F : Follows n i ν c) where
   pub follows-opened : n ≤ nodes → BoundedNode n ν → (op : H.Operation) (r : H.Round) (t : ℕ) → ν .maxtag ≤ t
       → Follows n i (A.asking (A.writing op r t A.nobody) ν) (opened c (kindOf op) (number r) t)
   unfolding opened
-  follows-opened small b op r t high = follows-withRequest request-next (SameWait.writing (same-nobody n))
+  follows-opened small b op r t high = follows-withRequestAndWait request-next (SameWait.writing (same-nobody n))
       (newest-held small b t high) (sized-newest t (c .last) (c .atmax))
 
   -- The operation is closed.
   pub follows-closed : Follows n i (A.withWait A.idle ν) (closed c Idle)
-  follows-closed = follows-withRequest (F .request) SameWait.idle tt sized-absent
+  follows-closed = follows-withRequestAndWait (F .request) SameWait.idle tt sized-absent

@@ -5,7 +5,7 @@ use mathlib.Core.Path.{_≡_}
 use mathlib.Core.List.{List}
 use Rattle.view.specs.declared.View.{View}
 use Rattle.step.specs.Told.{Told, refusal, nothing, done, scan, spent, spentNumber, toldView}
-use Rattle.calls.specs.Outcome.{CallResult}
+use Rattle.calls.specs.CallResult.{CallResult}
 use Rattle.reply.specs.declared.Said.{Said}
 use Rattle.reply.specs.declared.Said.the-variants.{Refused, Going, Finished, Shown, Exhausted}
 use Rattle.reply.specs.declared.Reply.{Reply}

@@ -15,7 +15,7 @@ use Rattle.answers.proofs.Short.{line-short}
 use Rattle.input.specs.Input.{feed}
 use Rattle.input.specs.Carry.{eventIn, nodesIn}
 use Rattle.input.specs.declared.Carry.{Carry}
-use Rattle.session_reply.specs.Reply.{handler, replyOf}
+use Rattle.session_reply.specs.Reply.{handler, printedFor}
 use Rattle.session_line.specs.Act.{ran, printed}
 use Rattle.session_progress.specs.Progress.{badLine}
 use Rattle.session_progress.specs.declared.Progress.{Progress}
@@ -41,7 +41,7 @@ lineEffect-short First c m = opened-short (nodesIn c) m
 lineEffect-short (Events n e) c m =
     let b : List ℕ = cluster n m in
     let r = toldOf (ran (eventIn c) b) in
-    line-short e (replyOf (handler (eventIn c)) r) (stated b) (toldView r)
+    line-short e (printedFor (handler (eventIn c)) r) (stated b) (toldView r)
 lineEffect-short Over c m = omega arith
 
 pub step-short : (p : Progress) (x : ℕ) (m : List ℕ) → length (stepped p x m .text) ≤ room

@@ -15,7 +15,7 @@ use Rattle.lines.specs.declared.Extent.the-variants.{Whole as WrittenWhole, Cut
 use Rattle.lines.specs.declared.Line.{Line}
 use Rattle.lines.specs.declared.Line.the-variants.{Update, Scan, Deliver, Stop, Bad}
 use Rattle.answers.specs.Answer.{line}
-use Rattle.session_reply.specs.Reply.{handler, replyOf}
+use Rattle.session_reply.specs.Reply.{handler, printedFor}
 
 abbrev pub extentOf : Written → Extent
 extentOf WrittenWhole = Whole
@@ -31,4 +31,4 @@ ran Bad b = refuse 1 b
 
 -- the bytes printed for event e: a scan's view with an entry for each node that the cluster's bytes state
 unfoldable pub printed : (e : ℕ) → Line → List ℕ → List ℕ
-printed e l b = line e (replyOf (handler l) (toldOf (ran l b))) (stated b) (toldView (toldOf (ran l b)))
+printed e l b = line e (printedFor (handler l) (toldOf (ran l b))) (stated b) (toldView (toldOf (ran l b)))

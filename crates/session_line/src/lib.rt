@@ -7,7 +7,7 @@ use lines::Line;
 use record::Operation;
 use region::channel::index;
 use session_reply::handler;
-use session_reply::reply_at;
+use session_reply::printed_at;
 ghost use mathlib.Core.Path.{_≡_};
 ghost use Prim.Native.Nat.{_+_, _≤_};
 ghost use lib.ListN.{length};
@@ -65,7 +65,7 @@ pub fn run_at(b: &mut [u8], e: u64, l: Line, out: &mut [u8], at: usize) -> usize
 {
     let n = nodes_in(b);
     let a = act(b, l);
-    put_line(out, at, e, reply_at(handler(l), a), n, a.view)
+    put_line(out, at, e, printed_at(handler(l), a), n, a.view)
 }
 
 // Runs a line as event e, writes what is printed at the front of `out`, and answers its length. A line that is refused

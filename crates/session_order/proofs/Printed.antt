@@ -20,7 +20,7 @@ use Rattle.refine.specs.Meaning.{entryOf, ruleOf, viewMeaning}
 use Rattle.mirror.specs.SameResult.{responseOf}
 use Rattle.mirror.specs.Run.{traceFrom}
 use Rattle.session_progress.specs.Progress.{next}
-use Rattle.session_reply.specs.Reply.{handler, replyOf}
+use Rattle.session_reply.specs.Reply.{handler, printedFor}
 use Rattle.session_line.specs.Act.{ran, printed}
 use Rattle.session.specs.Text.{leftBy, printedBy}
 use Rattle.session_order.specs.Lines.{eventsOf, printedOf, reports, Shows, silence, done, scan, spent, refusal}
@@ -53,7 +53,7 @@ entries-reports n most v =
 
 module _ (n : ℕ) (most : n ≤ nodes) where
   shows : (e c : ℕ) (a : Answer Ending) (v : View)
-      → Shows e c (responseOf n v a) (line e (replyOf c (told a v)) n (toldView (told a v)))
+      → Shows e c (responseOf n v a) (line e (printedFor c (told a v)) n (toldView (told a v)))
   unfolding line
   shows e c (refused k) v = refusal k
   shows e c (result None) v = silence

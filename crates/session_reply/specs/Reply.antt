@@ -16,9 +16,9 @@ handler (Stop c) = c
 handler Bad = 0
 
 -- what is said of it, by what it tells in document 01's terms: the ending at that node, or the refusal
-abbrev pub replyOf : ℕ → Told → Printed
-replyOf c (refusal k) = No k
-replyOf c nothing = Nothing
-replyOf c done = SayDone c
-replyOf c (scan v) = SayScan c
-replyOf c (spent k) = SaySpent c
+abbrev pub printedFor : ℕ → Told → Printed
+printedFor c (refusal k) = No k
+printedFor c nothing = Nothing
+printedFor c done = SayDone c
+printedFor c (scan v) = SayScan c
+printedFor c (spent k) = SaySpent c

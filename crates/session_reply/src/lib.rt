@@ -10,7 +10,7 @@ ghost use mathlib.Core.Path.{_≡_};
 ghost use Rattle.octets.specs.Answer.{result};
 ghost use Rattle.step.specs.Told.{told as tellsOf};
 ghost use Rattle.events.specs.Outcome.{toldBy};
-ghost use Rattle.session_reply.specs.Reply.{replyOf};
+ghost use Rattle.session_reply.specs.Reply.{printedFor};
 ghost use Rattle.session_reply.specs.Reply.{handler as handlerOf};
 
 // The node that handles a line.
@@ -28,7 +28,7 @@ pub fn handler(l: Line) -> usize
 
 // What is said of it, where c is that node.
 fn ending_at(c: usize, e: Ending) -> Printed
-    ensures { λ r. ⌜ ((v : View) → r ≡ replyOf c (tellsOf (result e) v)) ⌝ }
+    ensures { λ r. ⌜ ((v : View) → r ≡ printedFor c (tellsOf (result e) v)) ⌝ }
 {
     match e {
         Ending::None => Printed::Nothing,
@@ -38,8 +38,8 @@ fn ending_at(c: usize, e: Ending) -> Printed
     }
 }
 
-pub fn reply_at(c: usize, a: Reply) -> Printed
-    ensures { λ r. ⌜ r ≡ replyOf c (toldBy a) ⌝ }
+pub fn printed_at(c: usize, a: Reply) -> Printed
+    ensures { λ r. ⌜ r ≡ printedFor c (toldBy a) ⌝ }
 {
     let outcome = a.outcome;
     match outcome {

@@ -4,7 +4,7 @@ use mathlib.Core.Logic.{_⊎_, inl, inr, ⊎-elim}
 use Prim.Native.Nat.{ℕ, _<_, max}
 use lib.Dec.{leb, ltb, eqb}
 use Rattle.view.specs.Size.{limit}
-use Rattle.table.specs.Quorum.{setSize, isQuorum, agreeing}
+use Rattle.table.specs.Quorum.{membersIn, isQuorum, agreeing}
 use Rattle.record.specs.declared.Operation.the-variants.{Update, Scan}
 use Rattle.record.specs.declared.Wait.{Wait}
 use Rattle.record.specs.declared.Wait.the-variants.{Idle, Reading, Writing, Comparing, Borrowing}
@@ -22,7 +22,7 @@ module _ (f : ℕ) (s : Step) where
   write-outbox : (w : Wait) → writePass f s (s .node) w .outbox ≡ s .outbox
   unfolding writePass
   write-outbox (Writing kd i r a) =
-      on-pick (λ (x : Step). x .outbox ≡ s .outbox) (isQuorum (s .node .n) f (setSize (s .node .n) a)) _ _ (λ e. refl)
+      on-pick (λ (x : Step). x .outbox ≡ s .outbox) (isQuorum (s .node .n) f (membersIn (s .node .n) a)) _ _ (λ e. refl)
       (λ e. refl)
   write-outbox Idle = refl
   write-outbox (Reading o a m) = refl
@@ -62,10 +62,10 @@ module _ (f : ℕ) (s : Step) where
   read-handler : (w : Wait) → Same-handler (readPass f s (s .node) w)
   unfolding readPass afterRead
   read-handler (Reading (Update p) a m) =
-      on-pick Same-handler (isQuorum (s .node .n) f (setSize (s .node .n) a)) _ _
+      on-pick Same-handler (isQuorum (s .node .n) f (membersIn (s .node .n) a)) _ _
       (λ e. on-pick Same-handler (eqb (max m (s .node .maxtag)) limit) _ _ (λ e. refl) (λ e. refl)) (λ e. refl)
   read-handler (Reading Scan a m) =
-      on-pick Same-handler (isQuorum (s .node .n) f (setSize (s .node .n) a)) _ _ (λ e. refl) (λ e. refl)
+      on-pick Same-handler (isQuorum (s .node .n) f (membersIn (s .node .n) a)) _ _ (λ e. refl) (λ e. refl)
   read-handler Idle = refl
   read-handler (Writing kd i r a) = refl
   read-handler (Comparing kd i r) = refl
@@ -80,12 +80,12 @@ module _ (f : ℕ) (s : Step) where
   read-waits : f < s .node .n → (w : Wait) → Waits-or-silent (readPass f s (s .node) w)
   unfolding readPass afterRead opened
   read-waits h (Reading (Update p) a m) =
-      on-pick Waits-or-silent (isQuorum (s .node .n) f (setSize (s .node .n) a)) _ _
+      on-pick Waits-or-silent (isQuorum (s .node .n) f (membersIn (s .node .n) a)) _ _
       (λ e. on-pick Waits-or-silent (eqb (max m (s .node .maxtag)) limit) _ _ (λ e. inl refl)
       (λ e. inr (no-quorum (s .node .n) f h, refl)))
       (λ e. inl refl)
   read-waits h (Reading Scan a m) =
-      on-pick Waits-or-silent (isQuorum (s .node .n) f (setSize (s .node .n) a)) _ _
+      on-pick Waits-or-silent (isQuorum (s .node .n) f (membersIn (s .node .n) a)) _ _
       (λ e. inr (no-quorum (s .node .n) f h, refl)) (λ e. inl refl)
   read-waits h Idle = inl refl
   read-waits h (Writing kd i r a) = inl refl

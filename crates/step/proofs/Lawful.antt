@@ -18,7 +18,7 @@ use Rattle.view.specs.declared.View.{View}
 use Rattle.wire.specs.Layout.{twoSize, messageSize, isRequest, isTag}
 use Rattle.wire.specs.declared.Message.{Message}
 use Rattle.wire.specs.declared.Message.the-variants.{Read, ReadAnswer, Write, WriteAnswer, Echo, Value, Good}
-use Rattle.table.specs.Quorum.{setSize, isQuorum, agreeing}
+use Rattle.table.specs.Quorum.{membersIn, isQuorum, agreeing}
 use Rattle.table.proofs.Entries.{viewWithin-first}
 use Rattle.record.specs.Record.{withWait}
 use Rattle.record.specs.declared.Node.{Node}
@@ -128,7 +128,7 @@ module _ (f : ℕ) (s : Step) (k : Sends (s .node .n) s) where
       let l : t ≤ limit = max-most m (c .maxtag) limit (reading-ok (c .n) (Update r) a m (p .wait-ok) .1)
       (p .max-high) in
       let four : 4 ≤ limit - c .request = p .enough in
-      on-pick (Sends (c .n)) (isQuorum (c .n) f (setSize (c .n) a)) _ _
+      on-pick (Sends (c .n)) (isQuorum (c .n) f (membersIn (c .n) a)) _ _
       (λ e. on-pick (Sends (c .n)) (eqb t limit) _ _
       (λ z. record { handler = k .handler; reading = k .reading; comparing = k .comparing })
       (λ z. let below : t < limit = lt-of-le-ne l (eqb-false t limit z) in
@@ -149,7 +149,7 @@ module _ (f : ℕ) (s : Step) (k : Sends (s .node .n) s) where
   read-sends (Reading Scan a m) p =
       let c = s .node in
       let three : 3 ≤ limit - c .request = p .enough in
-      on-pick (Sends (c .n)) (isQuorum (c .n) f (setSize (c .n) a)) _ _
+      on-pick (Sends (c .n)) (isQuorum (c .n) f (membersIn (c .n) a)) _ _
       (λ e. record {
         handler = k .handler;
         reading = λ u. one-write (c .n) u (c .request) (max m (c .maxtag)) 56 (omega arith)
@@ -165,7 +165,7 @@ module _ (f : ℕ) (s : Step) (k : Sends (s .node .n) s) where
   write-sends : (w : Wait) → Sends (s .node .n) (writePass f s (s .node) w)
   unfolding writePass
   write-sends (Writing kd i r a) =
-      on-pick (Sends (s .node .n)) (isQuorum (s .node .n) f (setSize (s .node .n) a)) _ _
+      on-pick (Sends (s .node .n)) (isQuorum (s .node .n) f (membersIn (s .node .n) a)) _ _
       (λ e. record { handler = k .handler; reading = k .reading; comparing = k .comparing }) (λ e. k)
   write-sends Idle = k
   write-sends (Reading o a m) = k

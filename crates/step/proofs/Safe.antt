@@ -11,7 +11,7 @@ use Rattle.view.specs.Size.{limit}
 use Rattle.view.specs.View.{noView}
 use Rattle.view.specs.declared.View.{View}
 use Rattle.table.specs.Table.{newest, viewWithin}
-use Rattle.table.specs.Quorum.{setSize, isQuorum, agreeing}
+use Rattle.table.specs.Quorum.{membersIn, isQuorum, agreeing}
 use Rattle.table.proofs.Entries.{viewWithin-absent, viewWithin-newest}
 use Rattle.table.proofs.Sets.{only-none}
 use Rattle.record.specs.Record.{setWait, withWait, closed}
@@ -89,7 +89,7 @@ read-pass-parts : (f : ℕ) (s : Step) (c : Node) (w : Wait) → Parts (s .node)
     → Parts (readPass f s (withWait c w) w .node)
 unfolding readPass
 read-pass-parts f s c (Reading o a m) q p =
-    on-pick Fit (isQuorum (c .n) f (setSize (c .n) a)) _ _
+    on-pick Fit (isQuorum (c .n) f (membersIn (c .n) a)) _ _
     (λ t. after-read-parts s (withWait c (Reading o a m)) o a m (max m (c .maxtag)) p (le-max-right m (c .maxtag))
     (max-most m (c .maxtag) limit (reading-ok (c .n) o a m (p .wait-ok) .1) (p .max-high)) (p .enough))
     (λ t. q)
@@ -102,7 +102,7 @@ write-pass-parts : (f : ℕ) (s : Step) (c : Node) (w : Wait) → Parts (s .node
     → Parts (writePass f s (withWait c w) w .node)
 unfolding writePass
 write-pass-parts f s c (Writing k i r a) q p =
-    on-pick Fit (isQuorum (c .n) f (setSize (c .n) a)) _ _
+    on-pick Fit (isQuorum (c .n) f (membersIn (c .n) a)) _ _
     (λ t. set-wait-parts (withWait c (Writing k i r a)) (c .request) (Comparing k i r) (c .atround) p (p .request-high)
     (round-of i r (writing-ok (c .n) k i r a (p .wait-ok) .1)) (p .enough) (p .round-ok))
     (λ t. q)

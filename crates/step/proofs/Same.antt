@@ -8,7 +8,7 @@ use Rattle.view.specs.declared.Report.{Report}
 use Rattle.view.specs.declared.View.{View}
 use Rattle.wire.specs.declared.Message.{Message}
 use Rattle.wire.specs.declared.Message.the-variants.{Read, ReadAnswer, Write, WriteAnswer, Echo, Value, Good}
-use Rattle.table.specs.Quorum.{member, setSize, isQuorum, agreeing}
+use Rattle.table.specs.Quorum.{member, membersIn, isQuorum, agreeing}
 use Rattle.record.specs.Record.{setWait}
 use Rattle.record.specs.declared.Node.{Node}
 use Rattle.record.specs.declared.Operation.the-variants.{Update, Scan}
@@ -29,10 +29,10 @@ module _ {X : Type 0} (g : Node → X) (same : (c : Node) (q : ℕ) (w : Wait) (
   read-keeps : (w : Wait) → Same (readPass f s (s .node) w)
   unfolding readPass afterRead opened
   read-keeps (Reading (Update p) a m) =
-      on-pick Same (isQuorum (s .node .n) f (setSize (s .node .n) a)) _ _
+      on-pick Same (isQuorum (s .node .n) f (membersIn (s .node .n) a)) _ _
       (λ e. on-pick Same (eqb (max m (s .node .maxtag)) limit) _ _ (λ e. same _ _ _ _) (λ e. same _ _ _ _)) (λ e. refl)
   read-keeps (Reading Scan a m) =
-      on-pick Same (isQuorum (s .node .n) f (setSize (s .node .n) a)) _ _ (λ e. same _ _ _ _) (λ e. refl)
+      on-pick Same (isQuorum (s .node .n) f (membersIn (s .node .n) a)) _ _ (λ e. same _ _ _ _) (λ e. refl)
   read-keeps Idle = refl
   read-keeps (Writing kd i r a) = refl
   read-keeps (Comparing kd i r) = refl
@@ -41,7 +41,7 @@ module _ {X : Type 0} (g : Node → X) (same : (c : Node) (q : ℕ) (w : Wait) (
   write-keeps : (w : Wait) → Same (writePass f s (s .node) w)
   unfolding writePass
   write-keeps (Writing kd i r a) =
-      on-pick Same (isQuorum (s .node .n) f (setSize (s .node .n) a)) _ _ (λ e. same _ _ _ _) (λ e. refl)
+      on-pick Same (isQuorum (s .node .n) f (membersIn (s .node .n) a)) _ _ (λ e. same _ _ _ _) (λ e. refl)
   write-keeps Idle = refl
   write-keeps (Reading o a m) = refl
   write-keeps (Comparing kd i r) = refl

@@ -11,7 +11,7 @@ use Rattle.octets.specs.Loop as Octets
 use Rattle.view.specs.View.{noView, firstOf}
 use Rattle.table.specs.Loop.{all, count, numbered}
 use Rattle.table.specs.Table.{putEntry, newest}
-use Rattle.table.specs.Quorum.{member, with, setSize, agrees, agreeing}
+use Rattle.table.specs.Quorum.{member, with, membersIn, agrees, agreeing}
 use Rattle.record.specs.Record.{blank}
 use Rattle.record.specs.declared.Node.{Node}
 use Rattle.record.specs.declared.Operation.the-variants.{Update, Scan}
@@ -70,7 +70,7 @@ updated : deliver 12 (update .node) (letters update) ≡
     ∷ quiet [] ∷ quiet (Good 0 ∷ Write 3 1 ∷ []) ∷ quiet [] ∷ quiet (Echo 1 ∷ WriteAnswer 3 1 ∷ []) ∷ quiet []
     ∷ record { sent = Good 1 ∷ []; ending = Done (Direct 1); view = putEntry noView 1 1 p } ∷ quiet [] ∷ []
 unfolding deliver update p quiet messageStep begun beginStep moveOn readPass writePass comparePass borrowPass afterRead
-    afterGood afterFailed opened react raised received keep all count numbered newest member with setSize agrees
+    afterGood afterFailed opened react raised received keep all count numbered newest member with membersIn agrees
     agreeing firstOf Octets.tab
 updated = refl
 
@@ -82,6 +82,6 @@ scanned : deliver 6 (scan .node) (letters scan) ≡
     quiet (ReadAnswer 4 1 ∷ []) ∷ quiet (Write 5 1 ∷ []) ∷ quiet (WriteAnswer 5 1 ∷ [])
     ∷ record { sent = Good 1 ∷ []; ending = Scanned (Direct 1); view = putEntry noView 1 1 p } ∷ quiet [] ∷ []
 unfolding deliver last scan update p quiet messageStep begun beginStep moveOn readPass writePass comparePass borrowPass
-    afterRead afterGood afterFailed opened react raised received keep all count numbered newest member with setSize
+    afterRead afterGood afterFailed opened react raised received keep all count numbered newest member with membersIn
     agrees agreeing firstOf Octets.tab
 scanned = refl

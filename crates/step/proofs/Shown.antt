@@ -5,7 +5,7 @@ use lib.Dec.{leb, ltb, eqb}
 use Rattle.view.specs.Size.{limit, nodes}
 use Rattle.view.specs.View.{AbsentPast}
 use Rattle.view.proofs.First.{first-absent, none-absent}
-use Rattle.table.specs.Quorum.{setSize, isQuorum, agreeing}
+use Rattle.table.specs.Quorum.{membersIn, isQuorum, agreeing}
 use Rattle.record.specs.declared.Node.{Node}
 use Rattle.record.specs.declared.Operation.the-variants.{Update, Scan}
 use Rattle.record.specs.declared.Wait.{Wait}
@@ -23,10 +23,10 @@ module _ (f : ℕ) (s : Step) (h : s .node .n ≤ nodes) (a : AbsentPast (s .nod
   read-shows : (w : Wait) → Shows (readPass f s (s .node) w)
   unfolding readPass afterRead
   read-shows (Reading (Update p) b m) =
-      on-pick Shows (isQuorum (s .node .n) f (setSize (s .node .n) b)) _ _
+      on-pick Shows (isQuorum (s .node .n) f (membersIn (s .node .n) b)) _ _
       (λ e. on-pick Shows (eqb (max m (s .node .maxtag)) limit) _ _ (λ e. none-absent (s .node .n) h) (λ e. a)) (λ e. a)
   read-shows (Reading Scan b m) =
-      on-pick Shows (isQuorum (s .node .n) f (setSize (s .node .n) b)) _ _ (λ e. a) (λ e. a)
+      on-pick Shows (isQuorum (s .node .n) f (membersIn (s .node .n) b)) _ _ (λ e. a) (λ e. a)
   read-shows Idle = a
   read-shows (Writing kd i r b) = a
   read-shows (Comparing kd i r) = a
@@ -35,7 +35,7 @@ module _ (f : ℕ) (s : Step) (h : s .node .n ≤ nodes) (a : AbsentPast (s .nod
   write-shows : (w : Wait) → Shows (writePass f s (s .node) w)
   unfolding writePass
   write-shows (Writing kd i r b) =
-      on-pick Shows (isQuorum (s .node .n) f (setSize (s .node .n) b)) _ _ (λ e. a) (λ e. a)
+      on-pick Shows (isQuorum (s .node .n) f (membersIn (s .node .n) b)) _ _ (λ e. a) (λ e. a)
   write-shows Idle = a
   write-shows (Reading o b m) = a
   write-shows (Comparing kd i r) = a

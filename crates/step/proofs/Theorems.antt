@@ -16,7 +16,7 @@ use Rattle.view.specs.declared.View.{View}
 use Rattle.wire.specs.Layout.{messageSize}
 use Rattle.wire.specs.declared.Message.{Message}
 use Rattle.wire.specs.declared.Message.the-variants.{Read, ReadAnswer, Write, WriteAnswer, Echo, Value, Good}
-use Rattle.table.proofs.Sets.{setSize-with}
+use Rattle.table.proofs.Sets.{membersIn-with}
 use Rattle.record.specs.Usable.{usable}
 use Rattle.record.specs.Record.{withWait}
 use Rattle.record.specs.declared.Node.{Node}
@@ -45,11 +45,11 @@ react-n : (c : Node) (s : ℕ) (m : Message) (v : View) → react c s m v .node 
 unfolding raised received keep
 react-n c s m v = react-keeps (λ (d : Node). d .n) (λ d q w u. refl) c s m v (λ t. refl) (λ w t p. refl) (λ t. refl)
 
-pub message-n : claim.MessageSize
+pub message-n : claim.MessageKeepsN
 unfolding messageStep
 message-n f c s m v = move-on-keeps (λ (d : Node). d .n) (λ d q w u. refl) f (react c s m v) ∙ react-n c s m v
 
-pub begin-n : claim.BeginSize
+pub begin-n : claim.BeginKeepsN
 unfolding beginStep begun
 begin-n f c o = move-on-keeps (λ (d : Node). d .n) (λ d q w u. refl) f (begun c o)
 
@@ -168,7 +168,7 @@ unfolding react
 read-counts c s q t v o a m e n h l k = (
   ap (λ (w : Wait). started (withWait c w) s Nothing)
       (ap (readWait (c .request) s q t) e ∙ rw (eq-eqb q (c .request) n, h)),
-  setSize-with (c .n) a s l k h,
+  membersIn-with (c .n) a s l k h,
 )
 
 pub write-again : claim.WriteAgain
@@ -190,7 +190,7 @@ unfolding react
 write-counts c s q t v k i r a e n y h l z = (
   ap (λ (w : Wait). started (withWait c w) s Nothing)
       (ap (writeWait (c .request) s q t) e ∙ rw (eq-eqb q (c .request) n, eq-eqb t r y, h)),
-  setSize-with (c .n) a s l z h,
+  membersIn-with (c .n) a s l z h,
 )
 
 -- ---- the begin

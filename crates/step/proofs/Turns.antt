@@ -4,7 +4,7 @@ use mathlib.Core.Bool.{Bool, true, false}
 use Prim.Native.Nat.{ℕ, _≤_, max}
 use lib.Dec.{leb}
 use Rattle.view.specs.Size.{limit}
-use Rattle.table.specs.Quorum.{setSize, isQuorum, agreeing}
+use Rattle.table.specs.Quorum.{membersIn, isQuorum, agreeing}
 use Rattle.record.specs.Usable.{waitOk}
 use Rattle.record.specs.declared.Node.{Node}
 use Rattle.record.specs.declared.Operation.{Operation}
@@ -27,12 +27,12 @@ module _ (f : ℕ) (s : Step) (c : Node) where
   Agreed b = isQuorum (c .n) f (agreeing (c .n) (c .own) (c .heard) (c .atround .tags)) ≡ b
 
   module _ {o : Operation} {a m : ℕ} (e : c .wait ≡ Reading o a m) where
-    pub reads-on : {t : ℕ} → isQuorum (c .n) f (setSize (c .n) a) ≡ true → t ≡ max m (c .maxtag)
+    pub reads-on : {t : ℕ} → isQuorum (c .n) f (membersIn (c .n) a) ≡ true → t ≡ max m (c .maxtag)
         → afterRead s c o t ≡ readPass f s c (c .wait)
     unfolding readPass
     reads-on q h = ap (afterRead s c o) h ∙ sym (ap (readPass f s c) e ∙ rw q)
 
-    pub reads-not : isQuorum (c .n) f (setSize (c .n) a) ≡ false → s ≡ readPass f s c (c .wait)
+    pub reads-not : isQuorum (c .n) f (membersIn (c .n) a) ≡ false → s ≡ readPass f s c (c .wait)
     unfolding readPass
     reads-not q = sym (ap (readPass f s c) e ∙ rw q)
 

@@ -6,8 +6,8 @@ use native.Mathlib.Omega.{arith}
 use lib.Dec.{leb, ltb, eqb}
 use borrow.Author.Tests.{lt-leb}
 use Rattle.view.specs.Size.{limit}
-use Rattle.table.specs.Quorum.{setSize, isQuorum, agreeing}
-use Rattle.table.proofs.Sets.{setSize-none}
+use Rattle.table.specs.Quorum.{membersIn, isQuorum, agreeing}
+use Rattle.table.proofs.Sets.{membersIn-none}
 use Rattle.record.specs.Record.{withWait}
 use Rattle.record.specs.declared.Node.{Node}
 use Rattle.record.specs.declared.Operation.{Operation}
@@ -23,8 +23,8 @@ use Rattle.step.proofs.Numbers.{on-pick}
 use Rattle.step.proofs.Same.{reads-keep, writes-keep, compares-keep}
 
 -- nobody is no quorum
-pub no-quorum : (n f : ℕ) → f < n → isQuorum n f (setSize n 0) ≡ false
-no-quorum n f h = rw (setSize-none n) (lt-leb (n - f) 0 (omega arith))
+pub no-quorum : (n f : ℕ) → f < n → isQuorum n f (membersIn n 0) ≡ false
+no-quorum n f h = rw (membersIn-none n) (lt-leb (n - f) 0 (omega arith))
 
 -- ---- pass by pass
 
@@ -47,11 +47,11 @@ module _ (f : ℕ) (s : Step) (h : f < s .node .n) where
   read-past : (w : Wait) → At f 1 (readPass f (with-wait s w) (withWait (s .node) w) w)
   unfolding readPass afterRead opened
   read-past (Reading (Update p) a m) =
-      on-pick (At f 1) (isQuorum (s .node .n) f (setSize (s .node .n) a)) _ _
+      on-pick (At f 1) (isQuorum (s .node .n) f (membersIn (s .node .n) a)) _ _
       (λ e. on-pick (At f 1) (eqb (max m (s .node .maxtag)) limit) _ _ (λ e. tt) (λ e l. no-quorum (s .node .n) f h))
       (λ e l. e)
   read-past (Reading Scan a m) =
-      on-pick (At f 1) (isQuorum (s .node .n) f (setSize (s .node .n) a)) _ _ (λ e l. no-quorum (s .node .n) f h)
+      on-pick (At f 1) (isQuorum (s .node .n) f (membersIn (s .node .n) a)) _ _ (λ e l. no-quorum (s .node .n) f h)
       (λ e l. e)
   read-past Idle = tt
   read-past (Writing kd i r a) = λ l. absurd (omega arith)
@@ -62,7 +62,7 @@ module _ (f : ℕ) (s : Step) (h : f < s .node .n) where
       → At f 2 (writePass f (with-wait s w) (withWait (s .node) w) w)
   unfolding writePass
   write-past (Writing kd i r a) p =
-      on-pick (At f 2) (isQuorum (s .node .n) f (setSize (s .node .n) a)) _ _ (λ e l. absurd (omega arith)) (λ e l. e)
+      on-pick (At f 2) (isQuorum (s .node .n) f (membersIn (s .node .n) a)) _ _ (λ e l. absurd (omega arith)) (λ e l. e)
   write-past Idle p = tt
   write-past (Reading o a m) p = λ l. p (omega arith)
   write-past (Comparing kd i r) p = λ l. absurd (omega arith)

@@ -12,7 +12,7 @@ use Rattle.view.specs.Size.{nodes}
 use Rattle.wire.specs.Layout.{oneSize, twoSize, valueSize, goodSize, messageSize}
 use Rattle.wire.specs.declared.Message.{Message}
 use Rattle.wire.specs.declared.Message.the-variants.{Echo}
-use Rattle.table.specs.Quorum.{setSize, isQuorum, agreeing}
+use Rattle.table.specs.Quorum.{membersIn, isQuorum, agreeing}
 use Rattle.record.specs.declared.Node.{Node}
 use Rattle.record.specs.declared.Wait.{Wait}
 use Rattle.record.specs.declared.Wait.the-variants.{Idle, Reading, Writing, Comparing, Borrowing}
@@ -52,8 +52,8 @@ stepMost = handlerMost + max readingMost (comparingMost nodes)
 -- the open operation must wait: there is no quorum of what it waits for, or no good message to borrow from
 abbrev pub MustWait : ℕ → Node → Wait → Type 0
 MustWait f c Idle = Unit {0}
-MustWait f c (Reading o a m) = isQuorum (c .n) f (setSize (c .n) a) ≡ false
-MustWait f c (Writing k i r a) = isQuorum (c .n) f (setSize (c .n) a) ≡ false
+MustWait f c (Reading o a m) = isQuorum (c .n) f (membersIn (c .n) a) ≡ false
+MustWait f c (Writing k i r a) = isQuorum (c .n) f (membersIn (c .n) a) ≡ false
 MustWait f c (Comparing k i r) = isQuorum (c .n) f (agreeing (c .n) (c .own) (c .heard) (c .atround .tags)) ≡ false
 MustWait f c (Borrowing k r) = leb r (c .kept) ≡ false
 

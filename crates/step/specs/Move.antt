@@ -10,7 +10,7 @@ use Rattle.octets.specs.Test.{pick}
 use Rattle.view.specs.Size.{limit}
 use Rattle.view.specs.View.{noView, firstOf}
 use Rattle.table.specs.Table.{newest}
-use Rattle.table.specs.Quorum.{setSize, isQuorum, agreeing}
+use Rattle.table.specs.Quorum.{membersIn, isQuorum, agreeing}
 use Rattle.record.specs.Record.{setWait, withWait, closed}
 use Rattle.record.specs.declared.Node.{Node}
 use Rattle.record.specs.declared.Operation.{Operation}
@@ -44,7 +44,7 @@ afterRead s c Scan r = afterReading s (opened c ScanKind 1 r) (One (writing c r)
 
 -- Lines 36 and 37. Amendment 3: the tag used is the larger of the largest answered and the own maxtag.
 unfoldable pub readPass : ℕ → Step → Node → Wait → Step
-readPass f s c (Reading o a m) = pick (isQuorum (c .n) f (setSize (c .n) a)) (afterRead s c o (max m (c .maxtag))) s
+readPass f s c (Reading o a m) = pick (isQuorum (c .n) f (membersIn (c .n) a)) (afterRead s c o (max m (c .maxtag))) s
 readPass f s c Idle = s
 readPass f s c (Writing k i r a) = s
 readPass f s c (Comparing k i r) = s
@@ -53,7 +53,7 @@ readPass f s c (Borrowing k r) = s
 -- Line 39.
 unfoldable pub writePass : ℕ → Step → Node → Wait → Step
 writePass f s c (Writing k i r a) =
-    pick (isQuorum (c .n) f (setSize (c .n) a))
+    pick (isQuorum (c .n) f (membersIn (c .n) a))
     (ended s (withWait c (Comparing k i r)) (s .ending) (s .view)) s
 writePass f s c Idle = s
 writePass f s c (Reading o a m) = s

@@ -13,7 +13,7 @@ use Rattle.view.specs.declared.Report.{Report}
 use Rattle.view.specs.declared.View.{View}
 use Rattle.wire.specs.declared.Message.{Message}
 use Rattle.wire.specs.declared.Message.the-variants.{Read, ReadAnswer, WriteAnswer, Value}
-use Rattle.table.specs.Quorum.{member, with, setSize}
+use Rattle.table.specs.Quorum.{member, with, membersIn}
 use Rattle.record.specs.Record.{withWait}
 use Rattle.record.specs.Usable.{isOpen, full, usable}
 use Rattle.record.specs.declared.Node.{Node}
@@ -55,8 +55,8 @@ MessageFits =
 -- ---- a message at any record
 
 -- The record stays one of n nodes.
-abbrev pub MessageSize : Type 0
-MessageSize = (f : ℕ) (c : Node) (s : ℕ) (m : Message) (v : View) → messageStep f c s m v .node .n ≡ c .n
+abbrev pub MessageKeepsN : Type 0
+MessageKeepsN = (f : ℕ) (c : Node) (s : ℕ) (m : Message) (v : View) → messageStep f c s m v .node .n ≡ c .n
 
 -- The view beside an ending has nothing past the record's n, whatever the record holds there.
 abbrev pub MessageAbsent : Type 0
@@ -108,13 +108,13 @@ abbrev pub ReadCounts : Type 0
 ReadCounts = (c : Node) (s q t : ℕ) (v : View) (o : Operation) (a m : ℕ) → c .wait ≡ Reading o a m → q ≡ c .request
     → member a s ≡ false → 1 ≤ s → s ≤ c .n
     → (react c s (ReadAnswer q t) v ≡ started (withWait c (Reading o (with a s) (max m t))) s Nothing)
-    × (setSize (c .n) (with a s) ≡ setSize (c .n) a + 1)
+    × (membersIn (c .n) (with a s) ≡ membersIn (c .n) a + 1)
 
 abbrev pub WriteCounts : Type 0
 WriteCounts = (c : Node) (s q t : ℕ) (v : View) (k : Kind) (i r a : ℕ) → c .wait ≡ Writing k i r a → q ≡ c .request
     → t ≡ r → member a s ≡ false → 1 ≤ s → s ≤ c .n
     → (react c s (WriteAnswer q t) v ≡ started (withWait c (Writing k i r (with a s))) s Nothing)
-    × (setSize (c .n) (with a s) ≡ setSize (c .n) a + 1)
+    × (membersIn (c .n) (with a s) ≡ membersIn (c .n) a + 1)
 
 -- ---- the begin of an operation, at a usable record with none open and request numbers enough
 
@@ -144,5 +144,5 @@ BeginWaits = AtIdle (λ f c o. f < c .n → MustWait f (beginStep f c o .node) (
 abbrev pub BeginAbsent : Type 0
 BeginAbsent = (f : ℕ) (c : Node) (o : Operation) → c .n ≤ nodes → AbsentPast (c .n) (beginStep f c o .view)
 
-abbrev pub BeginSize : Type 0
-BeginSize = (f : ℕ) (c : Node) (o : Operation) → beginStep f c o .node .n ≡ c .n
+abbrev pub BeginKeepsN : Type 0
+BeginKeepsN = (f : ℕ) (c : Node) (o : Operation) → beginStep f c o .node .n ≡ c .n

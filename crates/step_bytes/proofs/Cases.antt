@@ -11,7 +11,7 @@ use Rattle.view.specs.Size.{limit}
 use Rattle.view.specs.View.{noView}
 use Rattle.wire.specs.declared.Message.the-variants.{Read}
 use Rattle.table.specs.Table.{cells}
-use Rattle.table.specs.Quorum.{setSize, isQuorum, agreeing}
+use Rattle.table.specs.Quorum.{membersIn, isQuorum, agreeing}
 use Rattle.record.specs.Record.{withWait, closed}
 use Rattle.record.specs.Usable.{waitOk}
 use Rattle.record.specs.declared.Node.{Node}
@@ -58,7 +58,7 @@ module _ (f : ℕ) (s : Step) where
   read-waits h Scan t = no-quorum (s .node .n) f h
 
   pub read-on : f < s .node .n → {o : Operation} {a m t : ℕ} → s .node .wait ≡ Reading o a m
-      → isQuorum (s .node .n) f (setSize (s .node .n) a) ≡ true → t ≡ max m (s .node .maxtag)
+      → isQuorum (s .node .n) f (membersIn (s .node .n) a) ≡ true → t ≡ max m (s .node .maxtag)
       → moveOn f s ≡ afterRead s (s .node) o t
   unfolding moveOn
   read-on h {o} {a} {m} {t} e q z =
@@ -74,7 +74,7 @@ module _ (f : ℕ) (s : Step) where
 
   -- a quorum has answered the round, or had before: it is compared
   pub write-on : {k : Kind} {i r a : ℕ} → s .node .wait ≡ Writing k i r a
-      → isQuorum (s .node .n) f (setSize (s .node .n) a) ≡ true → moveOn f s ≡ compared f s k i r
+      → isQuorum (s .node .n) f (membersIn (s .node .n) a) ≡ true → moveOn f s ≡ compared f s k i r
   unfolding readPass writePass
   write-on e q = past (ap (readPass f s (s .node)) e) (ap (writePass f s (s .node)) e ∙ rw q)
 
@@ -154,8 +154,8 @@ kept-of r = refl
 
 -- the quorums as the code counts them, of those who answered and of those who agree
 module _ (r : List ℕ) (f : ℕ) {n k : ℕ} {b : Bool} (m : recordOf r .n ≡ n) (p : b ≡ isQuorum n f k) where
-  pub answered-of : (a : ℕ) → k ≡ setSize n a → b ≡ isQuorum (recordOf r .n) f (setSize (recordOf r .n) a)
-  answered-of a q = p ∙ ap (isQuorum n f) q ∙ ap (λ (x : ℕ). isQuorum x f (setSize x a)) (sym m)
+  pub answered-of : (a : ℕ) → k ≡ membersIn n a → b ≡ isQuorum (recordOf r .n) f (membersIn (recordOf r .n) a)
+  answered-of a q = p ∙ ap (isQuorum n f) q ∙ ap (λ (x : ℕ). isQuorum x f (membersIn x a)) (sym m)
 
   pub agreed-of : {own : ℕ} → k ≡ agreeing n own (words cells r heardPlace) (viewIn r atroundIn .tags) → own
       ≡ word r ownPlace

@@ -1,4 +1,4 @@
--- A record setWait in its bytes, and the steps that the rounds lead to, case by case.
+-- A record with another wait in its bytes, and the steps that the rounds lead to, case by case.
 use Prim.Native.Nat.{ℕ, _+_}
 use mathlib.Core.Path.{_≡_, refl, sym, ap, ap₂, _∙_}
 use mathlib.Core.Bool.{true, false}
@@ -33,7 +33,11 @@ use Rattle.region.specs.Record.{headBytes, withRequest, withWait}
 use Rattle.region.specs.declared.head.Head.{Head}
 use Rattle.react_bytes.proofs.Sections.{tables-of, view-put, assembled}
 use Rattle.step_bytes.specs.declared.Effect.{Effect}
-use Rattle.step_bytes.specs.Moved.{effectOf, stepOf, effect, isStep}
+use Rattle.step_bytes.specs.Moved.{effectOf, effect, isStep}
+
+-- The step of a record and an effect.
+abbrev pub stepOf : Node → Effect → Step
+stepOf c e = record { node = c; outbox = e .outbox; ending = e .ending; view = e .view }
 
 -- the bytes after the reports of the round are written, then the head with the next request number
 pub turned-bytes : (r : List ℕ) → Bytes r → length r ≡ recordSize → (next : ℕ → ℕ) (w : Wait) (v : View) {h g : Head}

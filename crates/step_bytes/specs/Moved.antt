@@ -24,10 +24,7 @@ effectOf to handler reading comparing good ending view =
       view = view;
     }
 
--- The step of a record and an effect, and what a step gives beside its record.
-abbrev pub stepOf : Node → Effect → Step
-stepOf c e = record { node = c; outbox = e .outbox; ending = e .ending; view = e .view }
-
+-- What a step gives beside its record.
 abbrev pub effect : Step → Effect
 effect s = record { outbox = s .outbox; ending = s .ending; view = s .view }
 

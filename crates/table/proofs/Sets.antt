@@ -11,7 +11,7 @@ use lib.Pow.{pow-lt, pow-add, shl-shr}
 use borrow.Author.Tests.{eq-eqb}
 use Rattle.octets.specs.Test.{pick}
 use Rattle.table.specs.Loop.{count}
-use Rattle.table.specs.Quorum.{member, with, only, setSize, faults}
+use Rattle.table.specs.Quorum.{member, with, only, membersIn, faults}
 
 -- a 1 that is shifted by s stays in its word
 pub shifted : (s : ℕ) → s < 64 → 1 * 2 ^ s % 2 ^ 64 ≡ 2 ^ s
@@ -91,9 +91,9 @@ unfolding count
 count-no zero p h = refl
 count-no (suc k) p h = rw (h (suc k)) (count-no k p h)
 
-pub setSize-none : (n : ℕ) → setSize n 0 ≡ 0
-unfolding setSize
-setSize-none n = count-no n (member 0) member-none
+pub membersIn-none : (n : ℕ) → membersIn n 0 ≡ 0
+unfolding membersIn
+membersIn-none n = count-no n (member 0) member-none
 
 pub count-same : (n : ℕ) (p q : ℕ → Bool) → ((w : ℕ) → 1 ≤ w → w ≤ n → q w ≡ p w) → count n q ≡ count n p
 unfolding count
@@ -120,9 +120,9 @@ count-one-more (suc k) p q s a b e g h = elim (ℕ-discrete s (suc k)) [
     step false c = refl
 
 -- a sender that was not counted yet counts one
-pub setSize-with : (n m s : ℕ) → 1 ≤ s → s ≤ n → member m s ≡ false → setSize n (with m s) ≡ setSize n m + 1
-unfolding setSize
-setSize-with n m s a b e =
+pub membersIn-with : (n m s : ℕ) → 1 ≤ s → s ≤ n → member m s ≡ false → membersIn n (with m s) ≡ membersIn n m + 1
+unfolding membersIn
+membersIn-with n m s a b e =
     count-one-more n (member m) (member (with m s)) s a b e (member-same m s) (λ w l d. member-other m s w a l d)
 
 -- ---- f

@@ -21,8 +21,8 @@ unfoldable pub only : ℕ → ℕ → Bool
 only n m = eqb (m / 2 ^ n) 0
 
 -- how many of the nodes 1 to n are in the set m
-unfoldable pub setSize : ℕ → ℕ → ℕ
-setSize n m = count n (member m)
+unfoldable pub membersIn : ℕ → ℕ → ℕ
+membersIn n m = count n (member m)
 
 -- the largest f with 2f < n, for n at least 1
 abbrev pub faults : ℕ → ℕ

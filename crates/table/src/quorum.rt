@@ -9,7 +9,7 @@ ghost use lib.Dec.{leb};
 ghost use Rattle.view.specs.Size.{nodes};
 ghost use Rattle.table.specs.Loop.{all};
 ghost use Rattle.table.specs.Table.{at, heardOf};
-ghost use Rattle.table.specs.Quorum.{member, with, only, setSize, faults, isQuorum, agreeing};
+ghost use Rattle.table.specs.Quorum.{member, with, only, membersIn, faults, isQuorum, agreeing};
 
 // Whether node s is in the set m.
 pub fn is_member(m: u64, s: usize) -> bool
@@ -38,7 +38,7 @@ pub fn is_only(n: usize, m: u64) -> bool
 // How many of the nodes 1 to n are in the set m.
 pub fn members(n: usize, m: u64) -> usize
     requires { ⌜ n ≤ nodes ⌝ }
-    ensures { λ r. ⌜ r ≡ setSize n m ⌝ }
+    ensures { λ r. ⌜ r ≡ membersIn n m ⌝ }
 {
     let mut k = 0;
     let mut s = 0;

@@ -12,7 +12,7 @@ use Rattle.step.specs.Move.{begun}
 use Rattle.region.specs.Record.{recordOf}
 use Rattle.react_bytes.proofs.Handling.{sized-of}
 use Rattle.layout.specs.Layout.{node}
-use Rattle.step_bytes.specs.Moved.{stepOf}
+use Rattle.step_bytes.proofs.Turned.{stepOf}
 use Rattle.outgoing.proofs.Judged.{cut-judged}
 use Rattle.events.proofs.Told.{becomes, refuses}
 use Rattle.cluster.proofs.Moved.{sized-begun, step-bytes, step-back}

@@ -15,7 +15,7 @@ use Rattle.events.specs.Outcome.{answerOf, tells, toldBy, toldOf}
 use Rattle.lines.specs.declared.Line.{Line}
 use Rattle.answers.specs.declared.Printed.{Printed}
 use Rattle.answers.specs.Answer.{line}
-use Rattle.session_reply.specs.Reply.{handler, replyOf}
+use Rattle.session_reply.specs.Reply.{handler, printedFor}
 use Rattle.session_line.specs.Act.{ran, printed}
 use Rattle.session_line.proofs.run_at.Statement.{statement}
 use Rattle.session_line.proofs.run_at.Tie as tie
@@ -29,8 +29,8 @@ act-requires c κs = search needs
 handler-requires : tie.Need-handler-requires
 handler-requires c κs = search needs
 
-reply-at-requires : tie.Need-reply-at-requires
-reply-at-requires c κs = search needs
+printed-at-requires : tie.Need-printed-at-requires
+printed-at-requires c κs = search needs
 
 put-line-requires : tie.Need-put-line-requires
 put-line-requires c κs = search needs
@@ -43,7 +43,7 @@ same-length-2 c = search needs
 
 -- only a scan's view is printed
 seen : (e c n : ℕ) (x : Answer Ending) (v : View)
-    → line e (replyOf c (told x v)) n v ≡ line e (replyOf c (told x v)) n (toldView (told x v))
+    → line e (printedFor c (told x v)) n v ≡ line e (printedFor c (told x v)) n (toldView (told x v))
 unfolding line
 seen e c n (refused i) v = refl
 seen e c n (result None) v = refl
@@ -53,13 +53,13 @@ seen e c n (result Spent) v = refl
 
 -- what is printed, from what was answered
 says : (e : ℕ) (l : Line) (b k : List ℕ) {c n : ℕ} (a : Reply) {r : Printed} → n ≡ stated b → c ≡ handler l
-    → r ≡ replyOf c (toldBy a) → tells a k (ran l b) → line e r n (a .view) ≡ printed e l b
+    → r ≡ printedFor c (toldBy a) → tells a k (ran l b) → line e r n (a .view) ≡ printed e l b
 unfolding printed
 says e l b k {c} {n} a {r} p q s t =
     let u : toldBy a ≡ toldOf (ran l b) = t .0 in
     ap (λ (x : Printed). line e x n (a .view)) s ∙ seen e c n (answerOf (a .outcome)) (a .view)
-    ∙ ap (λ (x : Told). line e (replyOf c x) n (toldView x)) u
-    ∙ ap₂ (λ (i j : ℕ). line e (replyOf i (toldOf (ran l b))) j (toldView (toldOf (ran l b)))) q p
+    ∙ ap (λ (x : Told). line e (printedFor c x) n (toldView x)) u
+    ∙ ap₂ (λ (i j : ℕ). line e (printedFor i (toldOf (ran l b))) j (toldView (toldOf (ran l b)))) q p
 
 returns : tie.Need-returns
 returns c =
@@ -70,7 +70,7 @@ returns c =
     let s = says (x .e) (x .l) (x .b .now) _
     (c .before .before .before .before .before .before .before .before .act .result)
     (c .before .before .before .before .before .before .before .before .before .before .nodes-in .ensures)
-    (c .before .before .before .before .handler .ensures) (c .before .before .before .reply-at .ensures) a in
+    (c .before .before .before .before .handler .ensures) (c .before .before .before .printed-at .ensures) a in
     rw (sym s) (a .3, p .0, p .1)
 
 pub run-at-spec : {M : Type 1} → statement M
@@ -80,7 +80,7 @@ run-at-spec =
     nodes-in-requires
     act-requires
     handler-requires
-    reply-at-requires
+    printed-at-requires
     put-line-requires
     same-length
     same-length-2

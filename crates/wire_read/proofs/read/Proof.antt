@@ -1,8 +1,7 @@
 -- `wire_read::read` meets its contract: a walk of its MIR, by hand. `parse` judges the bytes, `parsed_view` gives the
 -- view of its answer, and the struct is made of what the two return. The slice and the answer are Copy: what they own
 -- is had for each call and for the exit. The machine values that the calls return are kept as they are; the struct's
--- are those, in a row.
--- Assumes nothing.
+-- are those, in a row. Assumes nothing.
 use mathlib.Core.Path.{_≡_, refl, _∙_}
 use Prim.Native.Nat.{ℕ, _<_, _^_}
 use mathlib.Core.List.{List, [], _∷_}

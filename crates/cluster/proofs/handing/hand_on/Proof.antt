@@ -15,7 +15,7 @@ use Rattle.region.specs.Record.{recordOf}
 use Rattle.react_bytes.proofs.Handling.{sized-view, sized-of, reacted, reacted-n, reacted-bytes, reacted-step}
 use Rattle.block.specs.Block.{takeOff}
 use Rattle.layout.specs.Layout.{node, channel, onBlock}
-use Rattle.step_bytes.specs.Moved.{stepOf}
+use Rattle.step_bytes.proofs.Turned.{stepOf}
 use Rattle.outgoing.proofs.Judged.{cut-judged}
 use Rattle.events.proofs.Told.{refuses, becomes}
 use Rattle.events.proofs.Settled.{settle-told}

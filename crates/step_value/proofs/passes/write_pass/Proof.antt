@@ -3,7 +3,7 @@ use borrow.Author.Needs.{needs}
 use mathlib.Core.Path.{_≡_, sym, ap, _∙_}
 use mathlib.Core.Bool.{true, false}
 use Prim.Native.Nat.{ℕ}
-use Rattle.table.specs.Quorum.{setSize, isQuorum}
+use Rattle.table.specs.Quorum.{membersIn, isQuorum}
 use Rattle.record.specs.Record.{withWait}
 use Rattle.record.specs.declared.Kind.{Kind}
 use Rattle.record.specs.declared.Node.{Node}
@@ -17,12 +17,12 @@ use Rattle.step_value.proofs.passes.write_pass.Tie as tie
 
 -- a step as the code makes it is the pass at the record's wait
 module _ (f : ℕ) (s : Step) (c : Node) {k : Kind} {i r a : ℕ} (e : c .wait ≡ Writing k i r a) where
-  writes-on : isQuorum (c .n) f (setSize (c .n) a) ≡ true
+  writes-on : isQuorum (c .n) f (membersIn (c .n) a) ≡ true
       → ended s (withWait c (Comparing k i r)) (s .ending) (s .view) ≡ writePass f s c (c .wait)
   unfolding writePass
   writes-on q = sym (ap (writePass f s c) e ∙ rw q)
 
-  writes-not : isQuorum (c .n) f (setSize (c .n) a) ≡ false → s ≡ writePass f s c (c .wait)
+  writes-not : isQuorum (c .n) f (membersIn (c .n) a) ≡ false → s ≡ writePass f s c (c .wait)
   unfolding writePass
   writes-not q = sym (ap (writePass f s c) e ∙ rw q)
 

@@ -5,7 +5,7 @@ use mathlib.Core.Path.{_≡_, sym, _∙_}
 use Prim.Native.Nat.{_-_, _≤_}
 use native.Mathlib.Omega.{arith}
 use Rattle.table.specs.Loop.{count}
-use Rattle.table.specs.Quorum.{member, setSize}
+use Rattle.table.specs.Quorum.{member, membersIn}
 use Rattle.table.proofs.Laws.{count-none, count-more}
 use Rattle.table.proofs.quorum.members.Statement.{statement}
 use Rattle.table.proofs.quorum.members.Tie as tie
@@ -44,7 +44,7 @@ loop-again-2 c = (
 )
 
 returns : tie.Need-returns Inv-loop μ-loop
-unfolding setSize
+unfolding membersIn
 returns c = let e : c .before .loop .s ≡ c .before .before .args .n = omega arith in rw e at (c .before .loop .inv .2)
 
 pub members-spec : {M : Type 1} → statement M

@@ -1,8 +1,8 @@
--- `session_reply::reply_at` meets its contract.
+-- `session_reply::printed_at` meets its contract.
 use borrow.Author.Needs.{needs}
 use mathlib.Core.Path.{refl}
-use Rattle.session_reply.proofs.reply_at.Statement.{statement}
-use Rattle.session_reply.proofs.reply_at.Tie as tie
+use Rattle.session_reply.proofs.printed_at.Statement.{statement}
+use Rattle.session_reply.proofs.printed_at.Tie as tie
 
 enum-known-outcome : tie.Need-enum-known-outcome
 enum-known-outcome c = search needs
@@ -23,7 +23,7 @@ returns-2 : tie.Need-returns-2
 returns-2 c = rw (c .before .before .outcome2 .given .1) (c .ending-at .ensures
     (c .before .before .before .before .args .a .view))
 
-pub reply-at-spec : {M : Type 1} → statement M
-reply-at-spec =
+pub printed-at-spec : {M : Type 1} → statement M
+printed-at-spec =
     tie.close
     (tie.spec enum-known-outcome cast-t7 enum-known-outcome-2 ending-at-requires returns returns-2)

@@ -11,13 +11,13 @@ use Rattle.logs.specs.Update.{upd}
 use Rattle.logs.specs.Log.{_∈_, push}
 use Rattle.history.specs.Message.{of, View, Message, read, readAnswer, write, writeAnswer, echo, value, good}
 use Rattle.history.specs.Event.{Operation, update, scan, round0, round1}
 use Rattle.algorithm.specs.Algorithm.{nobody, Wait, idle, reading, writing, comparing, borrowing, Node, sending}
 use Rattle.algorithm.specs.Algorithm.{_then_, withWait, viewUpto, react, messageStep, beginStep}
 use Rattle.algorithm.proofs.Cert.{Log}
-use Rattle.algorithm.specs.Node.{withRequest, topping}
+use Rattle.algorithm.specs.Node.{withRequestAndWait, topping}
 use Rattle.algorithm.proofs.Cases.{raise-cases, receive-cases, read-cases, write-cases}
 use Rattle.algorithm.proofs.Passes.{left}
 use Rattle.algorithm.proofs.MoveOn.{Moves, writes, message-leaves, begin-leaves}
 
 -- The tag that a node waits with.
 abbrev pub Low : ℕ → Wait → Type 0
@@ -84,7 +84,7 @@ module _ (M : ℕ) where
   more-said m h old x (List·Memᴰ·tail i) = old x i
 
   -- Another wait and request number; one more message.
-  turn : {ν : Node} {l : Log} (w : Wait) (q : ℕ) → Low M w → Marked M ν l → Marked M (withRequest q w ν) l
+  turn : {ν : Node} {l : Log} (w : Wait) (q : ℕ) → Low M w → Marked M ν l → Marked M (withRequestAndWait q w ν) l
   turn w q h c = record { top = c .top; low = h; said = c .said }
 
   post : {ν : Node} {l : Log} (m : Message) → Below M m → Marked M ν l → Marked M ν (m ∷ l)

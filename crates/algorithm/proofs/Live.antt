@@ -13,14 +13,16 @@ use Rattle.logs.specs.Log.{_∈_, _⊑_, here, more, push}
 use Rattle.logs.proofs.Log.{mem-up}
 use Rattle.history.specs.Message.{Value, Message, read, readAnswer, write, writeAnswer, echo, value, good}
 use Rattle.history.specs.Event.{Operation, update, scan, round0, round1}
-use Rattle.algorithm.specs.Algorithm.{nobody, Wait, idle, reading, writing, comparing, borrowing, Good, Node, sending}
-use Rattle.algorithm.specs.Algorithm.{_then_, withWait, asking, kept, keep, react, messageStep, beginStep}
+use Rattle.algorithm.specs.Algorithm.{nobody, Wait, idle, reading, writing, comparing, borrowing, Good, Node}
+use Rattle.algorithm.specs.Algorithm.{sending, _then_, withWait, asking, kept, keep, react, messageStep}
+use Rattle.algorithm.specs.Algorithm.{beginStep}
 use Rattle.algorithm.proofs.Cert.{Log, Logs}
 use Rattle.algorithm.proofs.Meant.{Meant, Others}
 use Rattle.algorithm.specs.Node.{topping, holding}
-use Rattle.algorithm.proofs.Cases.{raise-cases, receive-cases, ReadCounted, WriteCounted, read-cases, write-cases}
+use Rattle.algorithm.proofs.Cases.{raise-cases, receive-cases, ReadCounted, WriteCounted, read-cases}
+use Rattle.algorithm.proofs.Cases.{write-cases}
 use Rattle.algorithm.proofs.Passes.{left}
 use Rattle.algorithm.proofs.MoveOn.{Moves, message-leaves, begin-leaves}
 
 -- The request that is to be answered stands in the log, with number q.
 abbrev pub Asks : ℕ → Log → Wait → Type 0
