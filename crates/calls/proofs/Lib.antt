@@ -1,2 +1,4 @@
 pub mod Refusals
+pub mod Rim
+pub mod Rooms
 pub mod Shown

@@ -31,13 +31,15 @@ abbrev pub leastOutput : ℕ
 leastOutput = 512
 
 abbrev pub refuse : ℕ → Node → List ℕ → CallResult
-refuse k c out = record { answer = told (refused k) noView; node = c; length = 0; out = out }
+refuse k c out =
+    record { answer = told (refused k) noView; ending = refused k; node = c; length = 0; out = out }
 
 -- the step's messages stand in order from the buffer's start, the other bytes are untouched
 unfoldable pub letOut : Step → List ℕ → CallResult
 letOut s out =
     record {
       answer = told (result (s .ending)) (s .view);
+      ending = result (s .ending);
       node = s .node;
       length = length (outBytes (s .node .n) (s .outbox));
       out = put out 0 (outBytes (s .node .n) (s .outbox));
@@ -49,7 +51,13 @@ unfoldable pub fresh : ℕ → ℕ → CallResult
 fresh n own =
     pick (isSize n)
     (pick (both (leb 1 own) (leb own n))
-    (record { answer = told (result None) noView; node = blank n own; length = 0; out = [] })
+    (record {
+      answer = told (result None) noView;
+      ending = result None;
+      node = blank n own;
+      length = 0;
+      out = [];
+    })
     (refuse 1 (blank 0 0) []))
     (refuse 1 (blank 0 0) [])
 

@@ -1,1 +1,4 @@
-// No code: the calls at one node, defined for every input (specs/), and their theorems (proofs/).
+// The calls at one node, defined for every input (specs/), with their theorems (proofs/). Of code there is one size.
+
+// The least length of an output buffer.
+pub const OUTPUT: usize = 512;

@@ -7,17 +7,18 @@ use lib.Dec.{eqb, ltb}
 use Rattle.octets.specs.Answer.{Answer, result, refused}
 use Rattle.octets.specs.Test.{pick}
 use Rattle.view.specs.declared.View.{View}
-use Rattle.wire.specs.Codec.{decode, answer}
+use Rattle.wire.specs.Codec.{front, decode, answer}
 use Rattle.wire.specs.declared.Message.{Message}
 use Rattle.figures.specs.Figures.{figuresOf}
 use Rattle.record.specs.declared.Operation.{Operation}
 use Rattle.step.specs.declared.Ending.{Ending}
-use Rattle.step.specs.Told.{Told, refusal, nothing, done, scan, spent, spentNumber, told}
+use Rattle.step.specs.Told.{Told, refusal, nothing, done, scan, spent, spentNumber, told, toldView}
 use Rattle.outgoing.specs.declared.Extent.{Extent}
 use Rattle.events.specs.Event.{Result, fresh, begin, deliver}
 use Rattle.events.specs.Outcome.{toldOf}
 use Rattle.events.specs.Stop.{stop}
-use Rattle.codes.specs.Code.{lastRefusal, doneFrom, scanFrom, eventCode, ruleIn, codeOf}
+use Rattle.calls_bytes.specs.Entry as L
+use Rattle.codes.specs.Code.{lastRefusal, doneFrom, scanFrom, eventCode, ruleIn, codeOf, lentCode}
 
 -- What a code means, v the view beside it, and the rule in it. It names no refusal, so that it stands where others
 -- come.
@@ -38,6 +39,12 @@ pub data Called : Result → Type 0 where
   by-deliver : (a c : ℕ) (x : Extent) (b : List ℕ) → Called (deliver a c x b)
   by-stop : (c : ℕ) (b : List ℕ) → Called (stop c b)
 
+-- The calls at one node on lent bytes.
+pub data CalledNode : L.LentResult → Type 0 where
+  by-fresh-node : (n own : ℕ) (r : List ℕ) → CalledNode (L.fresh n own r)
+  by-begin-node : (r : List ℕ) (o : Operation) (out : List ℕ) → CalledNode (L.begin r o out)
+  by-message : (r : List ℕ) (s : ℕ) (b out : List ℕ) → CalledNode (L.message r s b out)
+
 -- If an answer is a refusal, its number is 1 to 12, which is below the codes of done.
 pub record Numbered {A : Type 0} (a : Answer A) : Type 0 where
   pub number : (k : ℕ) → a ≡ refused k → (1 ≤ k) × (k ≤ lastRefusal) × (k < doneFrom)
@@ -46,7 +53,9 @@ pub record Apart : Type 0 where
   -- The refusals of events, each its own code, and those of the other calls, of which 0 says that there is a result.
   pub refusals : {e : Result} → Called e → Numbered (e .answer)
   pub own-code : (e : Result) (k : ℕ) → e .answer ≡ refused k → codeOf e ≡ k
+  pub node-refusals : {e : L.LentResult} → CalledNode e → Numbered (e .ending)
   pub reading : (n : ℕ) (b : List ℕ) → Numbered (decode n b)
+  pub walking : (n : ℕ) (b : List ℕ) → Numbered (front n b)
   pub writing : (n : ℕ) (m : Message) (v : List ℕ) (room : ℕ) → Numbered (answer n m v room)
   pub summing : (n : ℕ) (v : List ℕ) → Numbered (figuresOf n v)
   -- No ending has a refusal's code, nor any other that is left for one: below those of done, and not spent's.
@@ -55,3 +64,5 @@ pub record Apart : Type 0 where
   -- What is told is read back, so that no two tellings have one code, but scans with two views, which are beside it.
   pub read-back : {e : Result} → Called e → meant (codeOf e) (e .view) ≡ toldOf e
   pub rule-back : {e : Result} → Called e → ruleMeant (codeOf e) ≡ ruleIn (e .answer)
+  pub node-read-back : {e : L.LentResult} → CalledNode e → meant (lentCode e) (toldView (e .answer)) ≡ e .answer
+  pub node-rule-back : {e : L.LentResult} → CalledNode e → ruleMeant (lentCode e) ≡ ruleIn (e .ending)

@@ -22,10 +22,12 @@ use Rattle.step.specs.declared.Rule.the-variants.{Direct, Borrowed}
 use Rattle.step.specs.declared.Ending.{Ending}
 use Rattle.step.specs.declared.Ending.the-variants.{None, Done, Scan, Spent}
 use Rattle.step.specs.Told.{Told, refusal, nothing, done, scan, spent}
+use Rattle.outgoing.specs.Entries.{isAnswer}
 use Rattle.outgoing.specs.declared.Extent.{Extent}
 use Rattle.outgoing.specs.declared.Extent.the-variants.{Whole, Cut}
 use Rattle.events.specs.Event.{Result}
 use Rattle.events.specs.Outcome.{toldOf}
+use Rattle.calls_bytes.specs.Entry.{LentResult}
 
 -- How much an event lets out: all, or the first m entries of a cut.
 abbrev pub extentOf : (cut : Bool) (m : ℕ) → Extent
@@ -132,3 +134,23 @@ abbrev pub wrote : (r len : ℕ) (out : List ℕ) → ℕ → Message → (view 
 wrote r len out n m v before room =
     let a = answer n m v (length room) in
     (r ≡ answerCode a) × (len ≡ lent (λ k. k) a before) × (out ≡ after a (encode m v) room)
+
+-- A call at one node on lent bytes has the code of an event.
+abbrev pub lentCode : LentResult → ℕ
+lentCode e = eventCode (e .answer) (ruleIn (e .ending))
+
+-- What such a call leaves: its code, the bytes of the record and of the output buffer, and the length of the messages
+-- in it, which was `before`.
+abbrev pub leavesNode : (r : ℕ) (state out : List ℕ) (len : ℕ) → LentResult → (before : ℕ) → Type 0
+leavesNode r state out len e before =
+    (r ≡ lentCode e) × (state ≡ e .bytes) × (out ≡ e .out) × (len ≡ lent (λ x. e .length) (e .ending) before)
+
+-- Where a message of an output goes: to all nodes, or to the sender of the message that was handled.
+abbrev pub toAll : ℕ
+toAll = 0
+
+abbrev pub toSender : ℕ
+toSender = 1
+
+abbrev pub routeOf : Message → ℕ
+routeOf m = pick (isAnswer m) toSender toAll

@@ -1,5 +1,6 @@
 // The calls at one node, on any input: fresh, begin and message. Bytes are read before the step and written after it; a
 // refusal is judged before anything is written.
+use calls::OUTPUT;
 use octets::and;
 use record::Node;
 use record::Operation;
@@ -32,9 +33,6 @@ ghost use Rattle.record.specs.Usable.{usable};
 ghost use Rattle.wire.specs.Layout.{allowed};
 ghost use Rattle.calls.specs.Entry.{leastOutput, fresh, begin, beside, taken, message};
 ghost use Rattle.reply.specs.Tells.{tells};
-
-// The least length of an output buffer.
-pub const OUTPUT: usize = 512;
 
 // A fresh record of node `own` of n.
 pub fn fresh(n: usize, own: usize) -> Reply

@@ -35,7 +35,8 @@ use Rattle.step.specs.Move.{writes, compares, borrows, moveOn, messageStep}
 use Rattle.step.specs.React.{react, readWait}
 use Rattle.step.specs.Step.{started, afterReading, ended}
 use Rattle.step.specs.Told as K
-use Rattle.step.specs.declared.Ending.the-variants.{Spent}
+use Rattle.octets.specs.Answer.{result}
+use Rattle.step.specs.declared.Ending.the-variants.{None, Spent}
 use Rattle.step.specs.declared.Sent.the-variants.{Nothing, One, Two}
 use Rattle.step.specs.declared.Step.{Step}
 use Rattle.step.proofs.Turns.{reading-most}
@@ -102,7 +103,8 @@ module _ (c : Node) (p : Report) (m s t : ℕ) (b out : List ℕ) (L : LastAnswe
   ends : used c m t ≡ limit → N.message c s b out ≡ spentBy c out
   unfolding N.letOut run afterRead writePass comparePass borrowPass
   ends h = steps c (Update p) m s t b out L ∙ ap (λ (x : Step). N.letOut x out) whole
-      ∙ ap (λ l. record { answer = K.spent 13; node = closed c Idle; length = 0; out = l }) (put-nil out 0)
+      ∙ ap (λ l. record { answer = K.spent 13; ending = result Spent; node = closed c Idle; length = 0; out = l })
+      (put-nil out 0)
     where
       whole : step c (Update p) m s t b out L ≡ ended counting (closed c Idle) Spent noView
       whole = rw (step-reads c (Update p) m s t b out L, eq-eqb (used c m t) limit h) refl
@@ -112,6 +114,7 @@ module _ (c : Node) (p : Report) (m s t : ℕ) (b out : List ℕ) (L : LastAnswe
   one-more h = steps c (Update p) m s t b out L ∙ ap (λ (x : Step). N.letOut x out) (whole ∙ ap opens h)
       ∙ ap (λ l. record {
         answer = K.nothing;
+        ending = result None;
         node = opened c UpdateKind 0 (limit - 1);
         length = 56;
         out = put out 0 (encode (Value limit (c .own) p) [] ++ l);
@@ -131,7 +134,13 @@ scans : (c : Node) (m s t : ℕ) (b out : List ℕ) (L : LastAnswer c Scan m s t
     → N.message c s b out ≡ scanGoesOn c out
 unfolding N.letOut run encode afterRead opened writePass comparePass borrowPass
 scans c m s t b out L h = steps c Scan m s t b out L ∙ ap (λ (x : Step). N.letOut x out) (whole ∙ ap opens h)
-    ∙ ap (λ l. record { answer = K.nothing; node = opened c ScanKind 1 limit; length = 26; out = put out 0 l })
+    ∙ ap (λ l. record {
+      answer = K.nothing;
+      ending = result None;
+      node = opened c ScanKind 1 limit;
+      length = 26;
+      out = put out 0 l;
+    })
     (append-nil (encode (Write (c .request + 1) limit) []))
   where
     opens : ℕ → Step

@@ -22,6 +22,7 @@ use Rattle.record.specs.declared.Operation.the-variants.{Update, Scan}
 use Rattle.record.specs.declared.Wait.{Wait}
 use Rattle.record.specs.declared.Wait.the-variants.{Idle, Reading, Writing, Comparing, Borrowing}
 use Rattle.step.specs.Told as K
+use Rattle.step.specs.declared.Ending.{Ending}
 use Rattle.step.specs.declared.Ending.the-variants.{None}
 use Rattle.calls.specs.Entry as N
 use Rattle.calls.specs.CallResult.{CallResult}
@@ -64,7 +65,7 @@ abbrev wrongly : Test → (Node → List ℕ → CallResult) → Node → ℕ �
 wrongly f g c s b out = pick (tests f (c .maxtag) (c .wait) (decode (c .n) b)) (g c out) (N.message c s b out)
 
 abbrev unchanged : Node → List ℕ → CallResult
-unchanged c out = record { answer = K.nothing; node = c; length = 0; out = out }
+unchanged c out = record { answer = K.nothing; ending = result None; node = c; length = 0; out = out }
 
 abbrev isUpdate : Operation → Bool
 isUpdate (Update p) = true
@@ -76,9 +77,9 @@ does : (f : Test) (g : Node → List ℕ → CallResult) (c : Node) (o : Operati
 does f g c o m s t b out L h = rw (L .reads, L .says, h) refl
 
 -- What is told cannot be both.
-told-apart : {x : CallResult} {c d : Node} {j k : ℕ} {o q : List ℕ}
-    → x ≡ record { answer = K.nothing; node = c; length = j; out = o }
-    → x ≡ record { answer = K.spent 13; node = d; length = k; out = q } → ⊥
+told-apart : {x : CallResult} {y z : Answer Ending} {c d : Node} {j k : ℕ} {o q : List ℕ}
+    → x ≡ record { answer = K.nothing; ending = y; node = c; length = j; out = o }
+    → x ≡ record { answer = K.spent 13; ending = z; node = d; length = k; out = q } → ⊥
 told-apart p q =
     let e : K.nothing ≡ K.spent 13 = ap (λ (x : CallResult). x .answer) (sym p ∙ q) in
     let z : _≡_ {A = ℕ} 0 1 = cc e in omega arith

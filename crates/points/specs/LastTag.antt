@@ -23,6 +23,7 @@ use Rattle.record.specs.declared.Kind.the-variants.{Update as UpdateKind, Scan 
 use Rattle.record.specs.declared.Wait.the-variants.{Idle, Reading}
 use Rattle.step.specs.Move.{opened}
 use Rattle.step.specs.Told as K
+use Rattle.step.specs.declared.Ending.the-variants.{None, Spent}
 use Rattle.calls.specs.CallResult.{CallResult}
 use Rattle.history.specs.Order.{OneTo}
 use Rattle.points.specs.Calls.{Calls}
@@ -46,12 +47,14 @@ used c m t = max (max m t) (c .maxtag)
 -- What the call leaves: what it tells, the whole record, the length of the messages and every byte of the buffer. A
 -- spent update writes nothing, and no operation is open.
 abbrev pub spentBy : Node → List ℕ → CallResult
-spentBy c out = record { answer = K.spent 13; node = closed c Idle; length = 0; out = out }
+spentBy c out =
+    record { answer = K.spent 13; ending = result Spent; node = closed c Idle; length = 0; out = out }
 
 -- One less: the value has the largest tag, and round 0 opens with the tag used.
 abbrev pub goesOn : Node → Report → List ℕ → CallResult
 goesOn c p out = record {
   answer = K.nothing;
+  ending = result None;
   node = opened c UpdateKind 0 (limit - 1);
   length = 56;
   out = put out 0 (encode (Value limit (c .own) p) [] ++ encode (Write (c .request + 1) (limit - 1)) []);
@@ -61,6 +64,7 @@ goesOn c p out = record {
 abbrev pub scanGoesOn : Node → List ℕ → CallResult
 scanGoesOn c out = record {
   answer = K.nothing;
+  ending = result None;
   node = opened c ScanKind 1 limit;
   length = 26;
   out = put out 0 (encode (Write (c .request + 1) limit) []);

@@ -38,7 +38,8 @@ pub record Taken (calls : Calls) (n : ℕ) : Type 0 where
   pub write : (m : Message) (v out : List ℕ) → allowed n m v ≡ true → length (encode m v) ≤ length out
       → calls .write n m v out ≡ (result (length (encode m v)), put out 0 (encode m v))
   pub fresh-node : (own : ℕ) → OneTo n own
-      → calls .fresh-node n own ≡ record { answer = nothing; node = blank n own; length = 0; out = [] }
+      → calls .fresh-node n own
+      ≡ record { answer = nothing; ending = result None; node = blank n own; length = 0; out = [] }
   -- in bytes of the length that the library states for n
   pub fresh-cluster : (b : List ℕ) → length b ≡ calls .size n
       → calls .fresh n b ≡ record { bytes = freshBytes n (length b); answer = result None; view = noView; sent = [] }

@@ -11,10 +11,9 @@ use Rattle.octets.specs.Bytes.{Bytes, part, put}
 use Rattle.octets.specs.Word.{word, words, wordSize}
 use Rattle.octets.proofs.Table.{length-tab}
 use Rattle.view.specs.Size.{nodes, viewSize}
-use Rattle.view.specs.View.{viewBytes, viewOf}
+use Rattle.view.specs.View.{viewBytes}
 use Rattle.view.specs.declared.Report.{Report}
 use Rattle.view.specs.declared.View.{View}
-use Rattle.view.proofs.ViewBytes.{view-absent}
 use Rattle.table.specs.Table.{cell, newest, putEntry, cells}
 use Rattle.table.proofs.Laws.{length-numbered}
 use Rattle.wire.specs.declared.Message.{Message}
@@ -29,12 +28,9 @@ use Rattle.step.proofs.Lawful.{react-started}
 use Rattle.region.specs.Record.{recordSize, heardPlace, viewPlace, viewIn, waitIn, recordOf, recordBytes, nPlace}
 use Rattle.region.specs.Record.{maxtagPlace, keptPlace, lastIn, atmaxIn, atroundIn, keptIn}
 use Rattle.region.specs.Record.{headOf, headBytes, withMaxtag, withKept, withWait as headWithWait}
-use Rattle.region.proofs.Back.{Sized, SizedNode, record-back}
+use Rattle.region.proofs.Back.{Sized, SizedNode, sized-view, sized-of, record-back}
 use Rattle.react_bytes.specs.Handled.{entered}
 use Rattle.react_bytes.proofs.Sections.{Tables, tables-of, heard-put, view-put, view-entry, assembled}
-
-pub sized-view : (n : ℕ) (b : List ℕ) → n ≤ nodes → Sized (viewOf n b)
-sized-view n b h = record { tags = view-absent n b h .tags-length; reports = view-absent n b h .reports-length }
 
 module _ (r : List ℕ) (h : Bytes r) (l : length r ≡ recordSize) where
   T : Tables r (words cells r heardPlace)
@@ -111,17 +107,6 @@ sized-entry v w t p z =
 pub sized-newest : (t : ℕ) (last held : View) → Sized (newest t last held)
 unfolding newest
 sized-newest t last held = record { tags = length-numbered nodes _; reports = length-numbered nodes _ }
-
-pub sized-of : (r : List ℕ) → SizedNode (recordOf r)
-unfolding recordOf
-sized-of r =
-    record {
-      heard = length-tab cells (λ i. word r (heardPlace + wordSize * i));
-      last = sized-view nodes (part r (viewPlace lastIn) (viewSize nodes)) (omega arith);
-      atmax = sized-view nodes (part r (viewPlace atmaxIn) (viewSize nodes)) (omega arith);
-      atround = sized-view nodes (part r (viewPlace atroundIn) (viewSize nodes)) (omega arith);
-      keptview = sized-view nodes (part r (viewPlace keptIn) (viewSize nodes)) (omega arith);
-    }
 
 module _ (c : Node) (z : SizedNode c) where
   sized-withWait : (w : Wait) → SizedNode (withWait c w)

@@ -1,3 +1,5 @@
 pub mod Handling
+pub mod Reacted
 pub mod Replaced
 pub mod Sections
+pub mod Views

@@ -1,15 +1,19 @@
 -- Cited by inner contracts only: a message handled on the bytes of a record, the words that the handlers' contracts use
 -- beside those of the record.
 use Prim.Native.Nat.{ℕ, _+_, _-_, _*_}
-use mathlib.Core.Bool.{Bool}
+use mathlib.Core.Bool.{Bool, true}
 use mathlib.Core.List.{List}
+use lib.Dec.{leb}
+use lib.ListN.{length}
 use Rattle.octets.specs.Word.{wordSize}
 use Rattle.octets.specs.Test.{pick}
 use Rattle.octets.specs.Bytes.{be, put}
-use Rattle.view.specs.Size.{entrySize}
+use Rattle.view.specs.Size.{entrySize, viewSize}
 use Rattle.view.specs.View.{entryBytes}
 use Rattle.view.specs.declared.Report.{Report}
 use Rattle.view.specs.declared.View.{View}
+use Rattle.wire.specs.Codec.{isGood}
+use Rattle.wire.specs.declared.Message.{Message}
 use Rattle.table.specs.Table.{cell, newestTag, newestReport}
 use Rattle.region.specs.Record.{heardPlace, lastIn, atmaxIn, atroundIn, viewPlace}
 
@@ -33,3 +37,7 @@ unfoldable pub entered : (s w t : ℕ) → Report → (fresh held round : Bool) 
 entered s w t p fresh held round r =
     putWhere round atroundIn w t p
     (putWhere held atmaxIn w t p (putWhere fresh lastIn w t p (put r (cellPlace s w) (be wordSize t))))
+
+-- The bytes v hold the view of message m where it carries one.
+abbrev pub viewThere : ℕ → Message → List ℕ → Bool
+viewThere n m v = pick (isGood m) (leb (viewSize n) (length v)) true

@@ -50,7 +50,7 @@ ghost use Rattle.record.specs.Usable.{stale};
 ghost use Rattle.step.specs.React.{raised, isNew, received, keep, react};
 ghost use Rattle.region.specs.Record.{recordSize, recordOf, recordBytes};
 ghost use Rattle.step.specs.Stale.{staleMessage, writerWithin};
-ghost use Rattle.react_bytes.specs.Handled.{entered};
+ghost use Rattle.react_bytes.specs.Handled.{entered, viewThere};
 
 // The record waits for something else.
 pub fn waiting_in(r: &mut [u8], w: Wait)
@@ -119,9 +119,9 @@ fn kept_in(r: &mut [u8], n: usize, t: u64, v: &[u8])
     save_head(r, h);
 }
 
-// The handler of each kind; `v` has the view that a good message carries. What it sends is the answer.
+// The handler of each kind; `v` has the view of a good message. What it sends is the answer.
 pub fn react_in(r: &mut [u8], n: usize, s: usize, m: Message, v: &[u8]) -> Sent
-    requires { ⌜ (length (now r) ≡ recordSize) × (n ≤ nodes) × (viewSize n ≤ length (now v)) × (1 ≤ s) × (s ≤ nodes)
+    requires { ⌜ (length (now r) ≡ recordSize) × (n ≤ nodes) × (viewThere n m (now v) ≡ true) × (1 ≤ s) × (s ≤ nodes)
         × (writerWithin nodes m ≡ true) ⌝ }
     ensures { λ sent. ⌜ (sent ≡ react (recordOf (now (r .entry))) s m (viewOf n (now (v .entry))) .outbox .handler)
         × (now (r .exit) ≡ recordBytes (react (recordOf (now (r .entry))) s m (viewOf n (now (v .entry))) .node)) ⌝ }

@@ -12,14 +12,14 @@ use Rattle.octets.specs.Loop.{tab}
 use Rattle.octets.specs.Word.{wordSize, word, words, wordBytes}
 use Rattle.octets.proofs.Number.{num-be-suc}
 use Rattle.octets.proofs.Put.{part-seam}
-use Rattle.octets.proofs.Table.{part-join, tab-ext, tab-of}
+use Rattle.octets.proofs.Table.{part-join, tab-ext, tab-of, length-tab}
 use Rattle.octets.proofs.Word.{length-wordBytes, word-of, words-of}
 use Rattle.view.specs.Size.{nodes, reportSize, viewSize}
 use Rattle.view.specs.Report.{noReport, reportBytes}
 use Rattle.view.specs.View.{viewBytes, viewOf}
 use Rattle.view.specs.declared.View.{View}
 use Rattle.view.proofs.ReportBytes.{report-back}
-use Rattle.view.proofs.ViewBytes.{length-viewBytes, view-back}
+use Rattle.view.proofs.ViewBytes.{length-viewBytes, view-back, view-absent}
 use Rattle.table.specs.Table.{cells}
 use Rattle.record.specs.declared.Node.{Node}
 use Rattle.record.specs.declared.Operation.the-variants.{Update, Scan}
@@ -282,3 +282,18 @@ module _ (c : Node) (z : SizedNode c) where
 
   pub record-known : codesKnown (recordBytes c) ≡ true
   record-known = known (recordBytes c) (headIn c) (runs c (z .heard) .ofHead)
+
+-- The tables of every record in bytes have their sizes.
+pub sized-view : (n : ℕ) (b : List ℕ) → n ≤ nodes → Sized (viewOf n b)
+sized-view n b h = record { tags = view-absent n b h .tags-length; reports = view-absent n b h .reports-length }
+
+pub sized-of : (r : List ℕ) → SizedNode (recordOf r)
+unfolding recordOf
+sized-of r =
+    record {
+      heard = length-tab cells (λ i. word r (heardPlace + wordSize * i));
+      last = sized-view nodes (part r (viewPlace lastIn) (viewSize nodes)) (omega arith);
+      atmax = sized-view nodes (part r (viewPlace atmaxIn) (viewSize nodes)) (omega arith);
+      atround = sized-view nodes (part r (viewPlace atroundIn) (viewSize nodes)) (omega arith);
+      keptview = sized-view nodes (part r (viewPlace keptIn) (viewSize nodes)) (omega arith);
+    }

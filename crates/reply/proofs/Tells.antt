@@ -9,7 +9,7 @@ use Rattle.reply.specs.declared.Said.{Said}
 use Rattle.reply.specs.Tells.{toldBy}
 
 -- the view that is shown is all that is told of a view
-told-toldView : (e : Ending) (v : View) → told (result e) (toldView (told (result e) v)) ≡ told (result e) v
+pub told-toldView : (e : Ending) (v : View) → told (result e) (toldView (told (result e) v)) ≡ told (result e) v
 told-toldView None v = refl
 told-toldView (Done r) v = refl
 told-toldView (Scan r) v = refl

@@ -59,7 +59,8 @@ fn said_of(e: Ending) -> Said
     }
 }
 
-fn view_shown(e: Ending, v: View) -> View
+// The view that is shown, only by a scan.
+pub fn view_shown(e: Ending, v: View) -> View
     ensures { λ r. ⌜ r ≡ toldView (told (result e) v) ⌝ }
 {
     match e {

@@ -10,12 +10,12 @@ use Rattle.record.specs.Usable.{full}
 use Rattle.record.specs.declared.Node.{Node}
 use Rattle.step.specs.Move.{begun}
 use Rattle.region.specs.Record.{recordOf}
-use Rattle.react_bytes.proofs.Handling.{sized-of}
+use Rattle.region.proofs.Back.{sized-of}
 use Rattle.layout.specs.Layout.{node}
+use Rattle.step_bytes.proofs.Moved.{sized-begun, step-bytes, step-back}
 use Rattle.step_bytes.proofs.Turned.{stepOf}
 use Rattle.outgoing.proofs.Judged.{cut-judged}
 use Rattle.events.proofs.Told.{becomes, refuses}
-use Rattle.cluster.proofs.Moved.{sized-begun, step-bytes, step-back}
 use Rattle.events.proofs.Settled.{settle-told, open-busy, open-full, open-uncut, open-settles}
 use Rattle.cluster.proofs.open_on.Statement.{statement}
 use Rattle.cluster.proofs.open_on.Tie as tie

@@ -8,7 +8,7 @@ use Rattle.step.specs.declared.Step.{Step}
 use Rattle.calls.specs.Entry.{letOut}
 use Rattle.calls.proofs.Refusals.{begin-12, begin-2, begin-5, begin-6, begin-goes}
 use Rattle.reply.specs.Tells.{tells}
-use Rattle.node.proofs.Rooms.{begin-fit}
+use Rattle.calls.proofs.Rooms.{begin-fit}
 use Rattle.node.proofs.begin.Statement.{statement}
 use Rattle.node.proofs.begin.Tie as tie
 

@@ -13,8 +13,8 @@ use Rattle.step.specs.declared.Step.{Step}
 use Rattle.calls.specs.Entry.{letOut}
 use Rattle.calls.proofs.Refusals.{taken-9, taken-goes}
 use Rattle.reply.specs.Tells.{tells}
-use Rattle.node.proofs.Rim.{read-writer, read-lawful}
-use Rattle.node.proofs.Rooms.{message-fit}
+use Rattle.calls.proofs.Rim.{read-writer, read-lawful}
+use Rattle.calls.proofs.Rooms.{message-fit}
 use Rattle.node.proofs.taken_message.Statement.{statement}
 use Rattle.node.proofs.taken_message.Tie as tie
 use Rattle.record.specs.Record.{faultsOf}

@@ -2,6 +2,7 @@
 use borrow.Author.Needs.{needs}
 use mathlib.Core.Path.{refl, ap, ap₂, _∙_}
 use Prim.Native.Nat.{ℕ, _-_}
+use borrow.Author.Tests.{leb-true}
 use Rattle.wire.specs.declared.Message.the-variants.{ReadAnswer}
 use Rattle.record.specs.Record.{withWait}
 use Rattle.record.specs.declared.Wait.{Wait}
@@ -17,6 +18,11 @@ received-in-requires c κs =
     let p = c .before .before .before .before .before .before .pre in
     let w = writer-from _ (rw (c .before .before .m6 .given .1) at (p .5)) in
     (p .0, p .3, p .4, w .0, w .1)
+
+kept-in-requires : tie.Need-kept-in-requires
+kept-in-requires c κs =
+    let p = c .before .before .before .before .before .before .pre in
+    (p .0, p .1, leb-true _ _ (rw (c .before .before .m7 .given .1) at (p .2)))
 
 returns : tie.Need-returns
 unfolding react recordOf
@@ -101,7 +107,7 @@ react-in-spec =
     (λ c κs. search needs) (λ c κs. search needs) (λ c κs. search needs) (λ c κs. search needs) (λ c. search needs)
     (λ c κs. search needs) (λ c κs. search needs) (λ c. search needs) (λ c κs. search needs) (λ c κs. search needs)
     (λ c κs. search needs) (λ c κs. search needs) (λ c. search needs) (λ c κs. search needs) (λ c κs. search needs)
-    (λ c. search needs) received-in-requires (λ c κs. search needs) (λ c. search needs) (λ c κs. search needs)
+    (λ c. search needs) received-in-requires (λ c κs. search needs) (λ c. search needs) kept-in-requires
     (λ c. search needs) returns (λ c. search needs) returns-2 (λ c. search needs) returns-3 (λ c. search needs)
     returns-4
     (λ c. search needs) returns-5 (λ c. search needs) returns-6 (λ c. search needs) returns-7)

@@ -12,7 +12,10 @@ use Rattle.step.specs.Step.{started}
 use Rattle.step.proofs.Allowed.{lawful-writer}
 use Rattle.region.specs.Channel.{first}
 use Rattle.region.specs.Record.{recordOf}
-use Rattle.react_bytes.proofs.Handling.{sized-view, sized-of, reacted, reacted-n, reacted-bytes, reacted-step}
+use Rattle.region.proofs.Back.{sized-view, sized-of}
+use Rattle.react_bytes.proofs.Handling.{reacted, reacted-n, reacted-bytes, reacted-step}
+use Rattle.react_bytes.proofs.Reacted.{react-usable}
+use Rattle.step_bytes.proofs.Moved.{sized-moved, step-bytes, step-back}
 use Rattle.block.specs.Block.{takeOff}
 use Rattle.layout.specs.Layout.{node, channel, onBlock}
 use Rattle.step_bytes.proofs.Turned.{stepOf}
@@ -20,8 +23,6 @@ use Rattle.outgoing.proofs.Judged.{cut-judged}
 use Rattle.events.proofs.Told.{refuses, becomes}
 use Rattle.events.proofs.Settled.{settle-told}
 use Rattle.events.proofs.Handed.{hand-stale, hand-uncut, hand-settles}
-use Rattle.cluster.proofs.Moved.{sized-moved, step-bytes, step-back}
-use Rattle.cluster.proofs.Reacted.{react-usable}
 use Rattle.cluster.proofs.handing.hand_on.Statement.{statement}
 use Rattle.cluster.proofs.handing.hand_on.Tie as tie
 

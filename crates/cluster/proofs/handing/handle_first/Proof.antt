@@ -1,10 +1,10 @@
 -- `cluster::handing::handle_first` meets its contract.
 use borrow.Author.Needs.{needs}
 use mathlib.Core.Path.{_≡_, refl, ap, _∙_}
-use Prim.Native.Nat.{ℕ, _-_, _*_}
+use Prim.Native.Nat.{ℕ, _+_, _-_, _*_, _≤_}
 use native.Mathlib.Omega.{arith}
 use mathlib.Core.List.{List}
-use lib.ListN.{length}
+use lib.ListN.{length, take, drop}
 use Rattle.octets.proofs.Lent.{lent}
 use Rattle.wire.specs.Layout.{goodHead}
 use Rattle.view.specs.Size.{viewSize}
@@ -14,6 +14,7 @@ use Rattle.view.specs.declared.View.{View}
 use Rattle.wire.specs.Codec.{viewAt}
 use Rattle.step.specs.React.{react}
 use Rattle.region.specs.Record.{recordOf, recordBytes}
+use Rattle.react_bytes.proofs.Views.{long-there}
 use Rattle.layout.specs.Layout.{channel}
 use Rattle.layout.proofs.Blocks.{length-channel, length-first}
 use Rattle.cluster.proofs.handing.handle_first.Statement.{statement}
@@ -27,6 +28,15 @@ part-react-in-end c =
     ∙ length-first (channel (a .b .now) (a .a) (a .c))
     (length-channel (a .b .now) (a .a) (a .c) (omega arith) (omega arith) (omega arith) (omega arith)) in
     search needs
+
+react-in-requires : tie.Need-react-in-requires
+react-in-requires c κs =
+    let c5 = c .before .before .before .before .before in
+    let a = c5 .args in
+    let p = c5 .pre in
+    let v = take (goodHead + viewSize (a .n) - goodHead) (drop goodHead (c .before .before .first-at .result .now)) in
+    let long : viewSize (a .n) ≤ length v = search needs in
+    (p .6, p .0, long-there (a .n) (a .m) v long, p .1, omega (arith, p .0, p .2), p .7)
 
 returns : tie.Need-returns
 returns c =
@@ -45,4 +55,4 @@ pub handle-first-spec : {M : Type 1} → statement M
 handle-first-spec =
     tie.close
     (tie.spec (λ c κs. search needs) (λ c. search needs) (λ c. search needs) (λ c. search needs)
-    (λ c. search needs) part-react-in-end (λ c κs. search needs) (λ c. search needs) returns)
+    (λ c. search needs) part-react-in-end react-in-requires (λ c. search needs) returns)

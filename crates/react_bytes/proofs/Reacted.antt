@@ -11,7 +11,7 @@ use Rattle.step.specs.Allowed.{lawful}
 use Rattle.step.specs.React.{react}
 use Rattle.step.proofs.Handled.{react-parts}
 use Rattle.region.specs.Record.{recordOf}
-use Rattle.react_bytes.proofs.Handling.{sized-of}
+use Rattle.region.proofs.Back.{sized-of}
 
 pub react-usable : (r : List ℕ) (s : ℕ) (m : Message) (v : View) → usable (recordOf r) ≡ true → 1 ≤ s
     → s ≤ recordOf r .n

@@ -1,2 +1,0 @@
-pub mod Rim
-pub mod Rooms

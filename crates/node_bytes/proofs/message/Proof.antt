@@ -1,0 +1,108 @@
+-- `node_bytes::message` meets its contract.
+use borrow.Author.Needs.{needs}
+use mathlib.Core.Path.{sym, ap, _∙_}
+use mathlib.Core.List.{List}
+use Prim.Native.Nat.{ℕ}
+use lib.Dec.{leb}
+use borrow.Author.Tests.{le-ltb, leb-true, not-true, not-false}
+use Rattle.octets.specs.Answer.{result}
+use Rattle.octets.specs.Test.{both}
+use Rattle.octets.proofs.Test.{both-left, both-right}
+use Rattle.wire.specs.Codec.{decode, viewPart}
+use Rattle.wire.specs.Layout.{allowed}
+use Rattle.wire.specs.Outcome.{parsed}
+use Rattle.wire.proofs.Handed.{read-room, read-view}
+use Rattle.wire.proofs.RoundTrip.{read-only}
+use Rattle.calls.specs.Entry as N
+use Rattle.calls.proofs.Refusals.{message-2, message-3, message-7, message-read}
+use Rattle.region.specs.Record.{recordOf}
+use Rattle.calls_bytes.specs.Entry.{inBytes}
+use Rattle.node_bytes.proofs.Admitted.{admitted, turned, at-admitted, refused-at, own-n}
+use Rattle.node_bytes.proofs.Stepped.{becomes}
+use Rattle.node_bytes.proofs.message.Statement.{statement}
+use Rattle.node_bytes.proofs.message.Tie as tie
+
+returns : tie.Need-returns
+returns c =
+    let a = c .before .before .before .before .before .before .before .args in
+    becomes (c .turned-away .result) _ _ (turned (a .r .now) (a .out .now) (λ d. N.message d (a .s) (a .b .now) (a .out .now))
+    (λ l u. message-2 _ (a .s) (a .b .now) (a .out .now) (le-ltb _ _ l) u) (c .before .before .admission .ensures) (c .before .if1 .taken))
+    (c .turned-away .ensures _ _)
+
+get-word-requires : tie.Need-get-word-requires
+get-word-requires c κs = let long = admitted (c .before .before .before .before .before .before .before .args .r .now) (c .before .before .before .before .before .before .before .args .out .now) (sym (c .before .before .admission .ensures) ∙ c .before .if1 .left) .long in search needs
+
+returns-2 : tie.Need-returns-2
+returns-2 c =
+    let a = c .before .before .before .before .before .before .before .before .before .before .before .args in
+    let h = admitted (a .r .now) (a .out .now) (sym (c .before .before .before .before .before .before .admission .ensures) ∙ c .before .before .before .before .before .if1 .left) in
+    let d = recordOf (a .r .now) in
+    let e = own-n (a .r .now) (c .before .before .before .get-word .ensures) in
+    becomes (c .turned-away2 .result) _ _ (refused-at (a .r .now) (a .out .now) (λ d. N.message d (a .s) (a .b .now) (a .out .now)) h
+    (message-3 d (a .s) (a .b .now) (a .out .now) (le-ltb _ _ (h .room)) (h .can-step)
+    (sym (c .before .before .and .ensures ∙ ap (λ (j : ℕ). both (leb 1 (a .s)) (leb (a .s) j)) (sym e)) ∙ not-true _ (c .before .if2 .taken))))
+    (c .turned-away2 .ensures _ _)
+
+parsed-view-requires : tie.Need-parsed-view-requires
+parsed-view-requires c κs = read-room (c .before .before .before .before .before .before .before .get-word .result) (c .before .before .before .before .before .before .before .before .before .before .before .before .before .before .before .args .b .now) _ (ap parsed (sym (c .before .before .p .given .1)) ∙ c .before .before .before .before .parse .ensures)
+
+take-message-requires : tie.Need-take-message-requires
+take-message-requires c κs =
+    let a = c .before .before .before .before .before .before .before .before .before .before .before .before .before .before .before .before .before .args in
+    let h = admitted (a .r .now) (a .out .now) (sym (c .before .before .before .before .before .before .before .before .before .before .before .before .admission .ensures) ∙ c .before .before .before .before .before .before .before .before .before .before .before .if1 .left) in
+    let d = recordOf (a .r .now) in
+    let e = own-n (a .r .now) (c .before .before .before .before .before .before .before .before .before .get-word .ensures) in
+    let n = c .before .before .before .before .before .before .before .before .before .get-word .result in
+    let m = c .before .before .before .before .p .given .0 .0 in
+    let read = sym (c .before .before .before .before .before .before .parse .ensures) ∙ ap parsed (c .before .before .before .before .p .given .1) in
+    let view = c .before .parsed-view .ensures .0 ∙ read-view n (a .b .now) _ (sym read) in
+    let low = leb 1 (a .s) in
+    let high = leb (a .s) n in
+    let sender = sym (c .before .before .before .before .before .before .before .before .and .ensures) ∙ not-false _ (c .before .before .before .before .before .before .before .if2 .left) in (
+      h .long,
+      h .can-step,
+      e,
+      leb-true _ _ (both-left low high sender),
+      leb-true _ _ (both-right low high sender),
+      ap (λ (v : List ℕ). allowed n m v) view ∙ read-only n (a .b .now) m read .allowed-is,
+      h .room,
+    )
+
+returns-3 : tie.Need-returns-3
+returns-3 c =
+    let a = c .before .before .before .before .before .before .before .before .before .before .before .before .before .before .before .before .before .before .before .before .before .before .args in
+    let h = admitted (a .r .now) (a .out .now) (sym (c .before .before .before .before .before .before .before .before .before .before .before .before .before .before .before .before .before .admission .ensures) ∙ c .before .before .before .before .before .before .before .before .before .before .before .before .before .before .before .before .if1 .left) in
+    let d = recordOf (a .r .now) in
+    let e = own-n (a .r .now) (c .before .before .before .before .before .before .before .before .before .before .before .before .before .before .get-word .ensures) in
+    let sender = sym (c .before .before .before .before .before .before .before .before .before .before .before .before .before .and .ensures ∙ ap (λ (j : ℕ). both (leb 1 (a .s)) (leb (a .s) j)) (sym e)) ∙ not-false _ (c .before .before .before .before .before .before .before .before .before .before .before .before .if2 .left) in
+    let n = c .before .before .before .before .before .before .before .before .before .before .before .before .before .before .get-word .result in
+    let m = c .before .before .before .before .before .before .before .before .before .p .given .0 .0 in
+    let read = sym (c .before .before .before .before .before .before .before .before .before .before .before .parse .ensures) ∙ ap parsed (c .before .before .before .before .before .before .before .before .before .p .given .1) in
+    let view = c .before .before .before .before .before .before .parsed-view .ensures .0 ∙ read-view n (a .b .now) _ (sym read) ∙ ap (λ (j : ℕ). viewPart j (a .b .now)) (sym e) in
+    becomes (c .before .before .before .before .take-message .result) _ _
+    (at-admitted (a .r .now) (a .out .now) (λ d. N.message d (a .s) (a .b .now) (a .out .now)) h
+    ∙ ap (inBytes (a .r .now)) (message-read d (a .s) (a .b .now) (a .out .now) (le-ltb _ _ (h .room)) (h .can-step) sender m
+    (ap (λ (j : ℕ). decode j (a .b .now)) e ∙ read)
+    ∙ ap (λ (v : List ℕ). N.taken d (a .s) v (a .out .now) (result m)) (sym view)))
+    (c .before .before .before .before .take-message .ensures)
+
+returns-4 : tie.Need-returns-4
+returns-4 c =
+    let a = c .before .before .before .before .before .before .before .before .before .before .before .before .before .before .args in
+    let h = admitted (a .r .now) (a .out .now) (sym (c .before .before .before .before .before .before .before .before .before .admission .ensures) ∙ c .before .before .before .before .before .before .before .before .if1 .left) in
+    let d = recordOf (a .r .now) in
+    let e = own-n (a .r .now) (c .before .before .before .before .before .before .get-word .ensures) in
+    let sender = sym (c .before .before .before .before .before .and .ensures ∙ ap (λ (j : ℕ). both (leb 1 (a .s)) (leb (a .s) j)) (sym e)) ∙ not-false _ (c .before .before .before .before .if2 .left) in
+    let read = sym (c .before .before .before .parse .ensures) ∙ ap parsed (c .before .enum-told .given .1) in
+    becomes (c .turned-away3 .result) _ _ (refused-at (a .r .now) (a .out .now) (λ d. N.message d (a .s) (a .b .now) (a .out .now)) h
+    (message-7 d (a .s) (a .b .now) (a .out .now) (le-ltb _ _ (h .room)) (h .can-step) sender _
+    (ap (λ (j : ℕ). decode j (a .b .now)) e ∙ read)))
+    (c .turned-away3 .ensures _ _)
+
+pub message-spec : {M : Type 1} → statement M
+message-spec =
+    tie.close
+    (tie.spec (λ c κs. search needs) (λ c κs. search needs) (λ c. search needs) returns get-word-requires
+    (λ c κs. search needs) (λ c κs. search needs) (λ c. search needs) returns-2 (λ c κs. search needs)
+    (λ c. search needs) parsed-view-requires take-message-requires (λ c. search needs) (λ c κs. search needs)
+    (λ c. search needs) (λ c. search needs) returns-3 (λ c. search needs) returns-4)

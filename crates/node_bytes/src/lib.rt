@@ -1,0 +1,187 @@
+// The calls at one node on its record in lent bytes, on any input: size, fresh, begin and message. A step is done where
+// the record lies. All that can refuse a call is judged before the first byte is written, so that a refusal leaves
+// every byte as it was.
+use block::judge::record_sound;
+use calls::OUTPUT;
+use emit::emit_all;
+use events::Outcome;
+use events::Reply;
+use events::refused;
+use octets::and;
+use octets::get_word;
+use react_bytes::is_stale_in;
+use react_bytes::react_in;
+use record::Operation;
+use record::blank_node;
+use region::places::N_PLACE;
+use region::places::OWN_PLACE;
+use region::places::RECORD;
+use region::stored::save;
+use reply::view_shown;
+use step::Ending;
+use step_bytes::Effect;
+use step_bytes::begin_in;
+use step_bytes::is_full_in;
+use step_bytes::is_open_in;
+use step_bytes::move_in;
+use table::quorum::most_faults;
+use view::NODES;
+use view::absent;
+use wire::Message;
+use wire::Parsed;
+use wire_parse::views::parsed_view;
+ghost use mathlib.Core.Path.{_≡_};
+ghost use mathlib.Core.Bool.{true};
+ghost use mathlib.Core.List.{List, []};
+ghost use Prim.Native.Nat.{ℕ, _≤_};
+ghost use lib.ListN.{length};
+ghost use Rattle.octets.specs.Answer.{result};
+ghost use Rattle.view.specs.Size.{nodes};
+ghost use Rattle.wire.specs.Layout.{allowed};
+ghost use Rattle.record.specs.Usable.{usable};
+ghost use Rattle.step.specs.Claims.{AllLawful, sizes};
+ghost use Rattle.step.specs.Step.{messages};
+ghost use Rattle.calls.specs.Entry.{leastOutput, taken};
+ghost use Rattle.region.specs.Record.{recordSize, recordOf};
+ghost use Rattle.calls_bytes.specs.Entry.{refuse, inBytes, fresh as freshCall, begin as beginCall};
+ghost use Rattle.calls_bytes.specs.Entry.{message as messageCall};
+ghost use Rattle.node_bytes.specs.Admission.{usableIn, admission as admissionOf};
+ghost use Rattle.node_bytes.specs.Called.{tells, lets};
+
+// What a call says, and how many bytes of messages stand at the start of the output buffer.
+pub struct Called {
+    pub reply: Reply,
+    pub length: usize,
+}
+
+// The bytes of a record.
+pub fn size() -> usize
+    ensures { λ r. ⌜ r ≡ recordSize ⌝ }
+{
+    RECORD
+}
+
+fn turned_away(k: u8) -> Called
+    ensures { λ a. ⌜ ((r out : List ℕ) → tells a r out (refuse k r out)) ⌝ }
+{
+    Called {
+        reply: refused(k),
+        length: 0,
+    }
+}
+
+// Makes the lent bytes the fresh record of node `own` of n, or refuses with 1, 12.
+pub fn fresh(n: usize, own: usize, r: &mut [u8]) -> Called
+    ensures { λ a. ⌜ tells a (now (r .exit)) [] (freshCall n own (now (r .entry))) ⌝ }
+{
+    if !and(and(1 <= n, n <= NODES), and(1 <= own, own <= n)) {
+        return turned_away(1);
+    }
+    if r.len() != RECORD {
+        return turned_away(12);
+    }
+    save(r, blank_node(n, own));
+    Called {
+        reply: Reply {
+            outcome: Outcome::Accepted(Ending::None),
+            view: absent(),
+        },
+        length: 0,
+    }
+}
+
+// Whether these bytes are a record that can be used.
+fn is_usable_in(r: &[u8]) -> bool
+    requires { ⌜ length (now r) ≡ recordSize ⌝ }
+    ensures { λ t. ⌜ t ≡ usableIn (now (r .entry)) ⌝ }
+{
+    let n = get_word(r, N_PLACE) as usize;
+    if NODES < n {
+        return false;
+    }
+    record_sound(r, n, get_word(r, OWN_PLACE) as usize)
+}
+
+// The first of 12 and 2 that refuses a call on these bytes with so much room for output; 0 where none does.
+fn admission(r: &[u8], room: usize) -> u8
+    ensures { λ k. ⌜ k ≡ admissionOf (now (r .entry)) room ⌝ }
+{
+    if !and(r.len() == RECORD, OUTPUT <= room) {
+        return 12;
+    }
+    if !is_usable_in(r) {
+        return 2;
+    }
+    0
+}
+
+// Writes what a step sends, and answers with the rest of it.
+fn let_out(n: usize, e: Effect, out: &mut [u8]) -> Called
+    requires { ⌜ (1 ≤ n) × (n ≤ nodes) × AllLawful n (e .outbox .view) (messages (e .outbox))
+        × (sizes n (messages (e .outbox)) ≤ length (now out)) ⌝ }
+    ensures { λ a. ⌜ lets a (now (out .exit)) (now (out .entry)) n e ⌝ }
+{
+    let written = emit_all(n, e.outbox, out);
+    let ending = e.ending;
+    Called {
+        reply: Reply {
+            outcome: Outcome::Accepted(ending),
+            view: view_shown(ending, e.view),
+        },
+        length: written,
+    }
+}
+
+// Begins an operation; the messages go to `out`. It refuses with 12, 2, 5, 6.
+pub fn begin(r: &mut [u8], o: Operation, out: &mut [u8]) -> Called
+    ensures { λ a. ⌜ tells a (now (r .exit)) (now (out .exit)) (beginCall (now (r .entry)) o (now (out .entry))) ⌝ }
+{
+    let k = admission(r, out.len());
+    if k != 0 {
+        return turned_away(k);
+    }
+    if is_open_in(r) {
+        return turned_away(5);
+    }
+    if is_full_in(r) {
+        return turned_away(6);
+    }
+    let n = get_word(r, N_PLACE) as usize;
+    let e = begin_in(r, o);
+    let_out(n, e, out)
+}
+
+// A message that was read is handled, v the bytes of its view, or refused with 9.
+fn take_message(r: &mut [u8], n: usize, s: usize, v: &[u8], m: Message, out: &mut [u8]) -> Called
+    requires { ⌜ (length (now r) ≡ recordSize) × (usable (recordOf (now r)) ≡ true) × (recordOf (now r) .n ≡ n)
+        × (1 ≤ s) × (s ≤ n) × (allowed n m (now v) ≡ true) × (leastOutput ≤ length (now out)) ⌝ }
+    ensures { λ a. ⌜ tells a (now (r .exit)) (now (out .exit)) (inBytes (now (r .entry))
+        (taken (recordOf (now (r .entry))) s (now (v .entry)) (now (out .entry)) (result m))) ⌝ }
+{
+    if is_stale_in(r, s, m) {
+        return turned_away(9);
+    }
+    let sent = react_in(r, n, s, m, v);
+    let e = move_in(r, n, most_faults(n), s, sent);
+    let_out(n, e, out)
+}
+
+// Handles a message from node s; the messages that it gives rise to go to `out`. It refuses with 12, 2, 3, 7, 9.
+pub fn message(r: &mut [u8], s: usize, b: &[u8], out: &mut [u8]) -> Called
+    ensures { λ a. ⌜ tells a (now (r .exit)) (now (out .exit))
+        (messageCall (now (r .entry)) s (now (b .entry)) (now (out .entry))) ⌝ }
+{
+    let k = admission(r, out.len());
+    if k != 0 {
+        return turned_away(k);
+    }
+    let n = get_word(r, N_PLACE) as usize;
+    if !and(1 <= s, s <= n) {
+        return turned_away(3);
+    }
+    let p = wire_parse::parse(n, b);
+    match p {
+        Parsed::Got(m) => take_message(r, n, s, parsed_view(b, p), m, out),
+        Parsed::Refused(_) => turned_away(7),
+    }
+}
