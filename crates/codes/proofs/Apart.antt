@@ -1,7 +1,7 @@
 -- The codes at the border to C are told apart: by cases of what is told, and by the refusals of each event in turn.
 use Prim.Native.Nat.{ℕ, _+_, _*_, _≤_, _<_}
 use native.Mathlib.Omega.{arith}
-use mathlib.Core.Path.{_≡_, refl, sym, ap, subst}
+use mathlib.Core.Path.{_≡_, refl, sym, ap, _∙_, subst}
 use mathlib.Core.Bool.{Bool, true, false, not}
 use mathlib.Core.List.{List}
 use lib.ListN.{length}
@@ -14,10 +14,11 @@ use Rattle.view.specs.Size.{isSize, limit, entrySize}
 use Rattle.view.specs.View.{viewOf, viewOk}
 use Rattle.view.specs.declared.View.{View}
 use Rattle.wire.specs.Layout.{encode, allowed}
-use Rattle.wire.specs.Codec.{said, viewAt, begins, front, whole, decode, answer}
+use Rattle.wire.specs.Codec.{said, viewAt, viewPart, begins, front, whole, decode, answer}
 use Rattle.wire.specs.declared.Message.{Message}
 use Rattle.figures.specs.Figures.{figuresOf}
-use Rattle.record.specs.Usable.{isOpen, full}
+use Rattle.record.specs.Usable.{usable, isOpen, full}
+use Rattle.record.specs.declared.Node.{Node}
 use Rattle.record.specs.declared.Operation.{Operation}
 use Rattle.step.specs.declared.Rule.{Rule}
 use Rattle.step.specs.declared.Rule.the-variants.{Direct, Borrowed}
@@ -26,7 +27,12 @@ use Rattle.step.specs.declared.Ending.the-variants.{None, Done, Scan, Spent}
 use Rattle.step.specs.declared.Step.{Step}
 use Rattle.step.specs.Move.{messageStep, beginStep}
 use Rattle.step.specs.Stale.{staleMessage}
-use Rattle.step.specs.Told.{spentNumber, told}
+use Rattle.step.specs.Told.{Told, refusal, spentNumber, told, toldView}
+use Rattle.step.proofs.Numbers.{on-pick}
+use Rattle.calls.specs.CallResult.{CallResult}
+use Rattle.calls.specs.Entry as N
+use Rattle.reply.proofs.Tells.{told-toldView}
+use Rattle.region.specs.Record.{recordSize, recordOf, codesKnown}
 use Rattle.region.specs.Channel.{countOf, first}
 use Rattle.block.specs.Block.{takeOff}
 use Rattle.layout.specs.Layout.{clusterSize, stated, faultsIn, stopped, node, channel, onBlock, fits, sound, isNode}
@@ -35,9 +41,10 @@ use Rattle.outgoing.specs.Outgoing.{mayStop, mayCut, hasRoom}
 use Rattle.events.specs.Event.{Result, demand, admitted, settle, deliverMessage, fresh, begin, deliver}
 use Rattle.events.specs.Stop.{stop}
 use Rattle.events.proofs.Admitted.{admitted-is}
+use Rattle.calls_bytes.specs.Entry as L
 use Rattle.codes.specs.Code.{lastRefusal, doneFrom, scanFrom, ruleCode, eventCode, ruleIn, codeOf}
 use Rattle.codes.specs.Apart.{meant, ruleMeant, Called, by-fresh, by-begin, by-deliver, by-stop}
-use Rattle.codes.specs.Apart.{Numbered, Apart}
+use Rattle.codes.specs.Apart.{CalledNode, by-fresh-node, by-begin-node, by-message, Numbered, Apart}
 
 -- ---- the codes
 
@@ -170,6 +177,84 @@ proper (by-begin c o x b) = of-begin c o x b
 proper (by-deliver a c x b) = of-deliver a c x b
 proper (by-stop c b) = of-stop c b
 
+-- ---- the refusals of the calls at one node
+
+-- what such a call tells, and the same with its rule
+record Fitting (answer : Told) (ending : Answer Ending) : Type 0 where
+  number-is : Numbered ending
+  told-is : answer ≡ told ending (toldView answer)
+
+refuses : (k : ℕ) → both (leb 1 k) (leb k lastRefusal) ≡ true → Fitting (refusal k) (refused k)
+refuses k h = record { number-is = in-range k h; told-is = refl }
+
+-- by value
+abbrev ByValue : CallResult → Type 0
+ByValue e = Fitting (e .answer) (e .ending)
+
+let-out-fits : (s : Step) (out : List ℕ) → ByValue (N.letOut s out)
+unfolding N.letOut
+let-out-fits s out = record { number-is = accepted; told-is = sym (told-toldView (s .ending) (s .view)) }
+
+taken-fits : (c : Node) (s : ℕ) (v out : List ℕ) (a : Answer Message) → ByValue (N.taken c s v out a)
+unfolding N.taken
+taken-fits c s v out (refused k) = refuses 7 refl
+taken-fits c s v out (result m) =
+    on-pick ByValue (staleMessage c s m) _ _ (λ e. refuses 9 refl) (λ e. let-out-fits _ out)
+
+message-fits : (c : Node) (s : ℕ) (b out : List ℕ) → ByValue (N.message c s b out)
+unfolding N.message
+message-fits c s b out =
+    on-pick ByValue (ltb (length out) N.leastOutput) _ _ (λ e. refuses 12 refl) (λ e.
+    on-pick ByValue (usable c) _ _ (λ e.
+    on-pick ByValue (both (leb 1 s) (leb s (c .n))) _ _
+    (λ e. taken-fits c s (viewPart (c .n) b) out (decode (c .n) b)) (λ e. refuses 3 refl)) (λ e. refuses 2 refl))
+
+begin-fits : (c : Node) (o : Operation) (out : List ℕ) → ByValue (N.begin c o out)
+unfolding N.begin
+begin-fits c o out =
+    on-pick ByValue (ltb (length out) N.leastOutput) _ _ (λ e. refuses 12 refl) (λ e.
+    on-pick ByValue (usable c) _ _ (λ e.
+    on-pick ByValue (isOpen (c .wait)) _ _ (λ e. refuses 5 refl) (λ e.
+    on-pick ByValue (full c) _ _ (λ e. refuses 6 refl) (λ e. let-out-fits _ out))) (λ e. refuses 2 refl))
+
+fresh-fits : (n own : ℕ) → ByValue (N.fresh n own)
+unfolding N.fresh
+fresh-fits n own =
+    on-pick ByValue (isSize n) _ _
+    (λ e. on-pick ByValue (both (leb 1 own) (leb own n)) _ _
+    (λ e. record { number-is = accepted; told-is = refl }) (λ e. refuses 1 refl)) (λ e. refuses 1 refl)
+
+-- on lent bytes
+abbrev InBytes : L.LentResult → Type 0
+InBytes e = Fitting (e .answer) (e .ending)
+
+at-fits : (r out : List ℕ) (call : Node → CallResult) → ByValue (call (recordOf r)) → InBytes (L.atRecord r out call)
+unfolding L.atRecord L.inBytes
+at-fits r out call h =
+    on-pick InBytes (L.fits r out) _ _
+    (λ e. on-pick InBytes (codesKnown r) _ _ (λ e. h) (λ e. refuses 2 refl)) (λ e. refuses 12 refl)
+
+made-fits : (n own : ℕ) (r : List ℕ) → InBytes (L.fresh n own r)
+unfolding L.fresh L.inBytes
+made-fits n own r =
+    on-pick InBytes (L.isRefusal (N.fresh n own .ending)) _ _ (λ e. fresh-fits n own)
+    (λ e. on-pick InBytes (eqb (length r) recordSize) _ _ (λ e. fresh-fits n own) (λ e. refuses 12 refl))
+
+fitting : {e : L.LentResult} → CalledNode e → InBytes e
+fitting (by-fresh-node n own r) = made-fits n own r
+fitting (by-begin-node r o out) = at-fits r out (λ c. N.begin c o out) (begin-fits (recordOf r) o out)
+fitting (by-message r s b out) = at-fits r out (λ c. N.message c s b out) (message-fits (recordOf r) s b out)
+
+-- read back, by what is told
+node-back : (a : Told) (x : Answer Ending) → Fitting a x → meant (eventCode a (ruleIn x)) (toldView a) ≡ a
+node-back a x h =
+    ap (λ (y : Told). meant (eventCode y (ruleIn x)) (toldView a)) (h .told-is)
+    ∙ told-back x (toldView a) (h .number-is) ∙ sym (h .told-is)
+
+node-ruled : (a : Told) (x : Answer Ending) → Fitting a x → ruleMeant (eventCode a (ruleIn x)) ≡ ruleIn x
+node-ruled a x h =
+    ap (λ (y : Told). ruleMeant (eventCode y (ruleIn x))) (h .told-is) ∙ ruled x (toldView a) (h .number-is)
+
 -- ---- the refusals of the other calls
 
 -- of two answers, either
@@ -211,10 +296,14 @@ apart =
     record {
       refusals = λ {e} c. proper c .numbered;
       own-code = λ e k is. ap (λ (a : Answer Ending). eventCode (told a (e .view)) (ruleIn a)) is;
+      node-refusals = λ {e} c. fitting c .number-is;
       reading = of-read;
+      walking = of-front;
       writing = of-write;
       summing = of-figures;
       endings = no-ending;
       read-back = λ {e} c. told-back (e .answer) (e .view) (proper c .numbered);
       rule-back = λ {e} c. ruled (e .answer) (e .view) (proper c .numbered);
+      node-read-back = λ {e} c. node-back (e .answer) (e .ending) (fitting c);
+      node-rule-back = λ {e} c. node-ruled (e .answer) (e .ending) (fitting c);
     }

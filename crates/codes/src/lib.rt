@@ -3,6 +3,7 @@
 use events::Outcome;
 use events::Reply;
 use outgoing::Extent;
+use outgoing::entries::is_answer;
 use step::Ending;
 use step::Rule;
 use step::SPENT;
@@ -18,13 +19,18 @@ ghost use Rattle.view.specs.declared.View.{View};
 ghost use Rattle.step.specs.Told.{told};
 ghost use Rattle.events.specs.Outcome.{answerOf, toldBy};
 ghost use Rattle.codes.specs.Code.{numbers, reportIn, messageOf};
-ghost use Rattle.codes.specs.Code.{extentOf, ruleCode, ruleIn, eventCode, eventView};
+ghost use Rattle.codes.specs.Code.{extentOf, ruleCode, ruleIn, eventCode, eventView, accepted, routeOf};
 
 // The first code of an update done and of a scan ended, to which the rule is added. Below them stand 0, where nothing
 // ended, the refusals and spent.
 const DONE: u8 = 100;
 
 const SCAN: u8 = 110;
+
+// The two ways that a message of an output goes: to all nodes, or to the sender of the message that was handled.
+const TO_ALL: u8 = 0;
+
+const TO_SENDER: u8 = 1;
 
 pub fn extent_of(cut: bool, m: usize) -> Extent
     ensures { λ r. ⌜ r ≡ extentOf cut m ⌝ }
@@ -63,6 +69,17 @@ pub fn event_code(r: Reply) -> u8
     }
 }
 
+// Whether an answer is no refusal.
+pub fn is_accepted(r: Reply) -> bool
+    ensures { λ t. ⌜ t ≡ accepted (answerOf (r .outcome)) ⌝ }
+{
+    let outcome = r.outcome;
+    match outcome {
+        Outcome::Refused(_) => false,
+        Outcome::Accepted(_) => true,
+    }
+}
+
 // Writes the view of a scan that ended.
 pub fn show(r: Reply, out: &mut [u8; VIEW])
     ensures { λ _. ⌜ now (out .exit) ≡ eventView (toldBy r) (now (out .entry)) ⌝ }
@@ -77,6 +94,13 @@ pub fn show(r: Reply, out: &mut [u8; VIEW])
             Ending::Spent => {}
         },
     }
+}
+
+// Where a message of an output goes.
+pub fn route_of(m: Message) -> u8
+    ensures { λ r. ⌜ r ≡ routeOf m ⌝ }
+{
+    if is_answer(m) { TO_SENDER } else { TO_ALL }
 }
 
 pub fn message_numbers(m: Message) -> [u64; 4]

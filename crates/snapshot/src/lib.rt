@@ -1,5 +1,5 @@
 // The library's calls for C or Rust to link, on numbers and lent memory. Each is thin over the call that it names and
-// meets the same definition, for every input; none has a precondition.
+// meets the same definition, for every input; none has a precondition. `include/snapshot.h` tells a caller of them.
 //
 // What crosses: a slice as a pointer and a length, an array and a lent number as a pointer, a bool as 0 or 1. An enum
 // does not: an answer is a code, a message is four numbers (kind, request number, writer, tag) and its report beside
@@ -19,29 +19,41 @@
 // that come later stay below 100. A refusal leaves all that is lent as it was.
 use codes::event_code;
 use codes::extent_of;
+use codes::is_accepted;
 use codes::message_numbers;
 use codes::message_of;
 use codes::message_report;
+use codes::route_of;
 use codes::show;
 use figures::Summed;
+use node_bytes::Called;
 use record::Operation;
 use view::REPORT;
 use view::VIEW;
 use view::read_report;
+use wire::Found;
 use wire::Parsed;
 use wire::Written;
 ghost use mathlib.Core.Path.{_≡_};
+ghost use Prim.Native.Nat.{ℕ};
+ghost use mathlib.Core.List.{List};
 ghost use Rattle.view.specs.Report.{reportOf};
-ghost use Rattle.wire.specs.Codec.{decode};
+ghost use Rattle.wire.specs.Codec.{front, decode};
 ghost use Rattle.figures.specs.Figures.{figuresOf};
 ghost use Rattle.record.specs.declared.Operation.the-variants.{Update, Scan};
+ghost use Rattle.region.specs.Record.{recordSize};
 ghost use Rattle.layout.specs.Layout.{sizeFor};
 ghost use Rattle.events.specs.Event.{begin, deliver, fresh};
 ghost use Rattle.events.specs.Outcome.{toldOf};
 ghost use Rattle.events.specs.Stop.{stop};
+ghost use Rattle.calls_bytes.specs.Entry.{LentResult, fresh as freshNode, begin as beginNode};
+ghost use Rattle.calls_bytes.specs.Entry.{message as messageNode};
+ghost use Rattle.node_bytes.specs.Called.{tells};
 ghost use Rattle.codes.specs.Code.{extentOf, eventView, leaves};
 ghost use Rattle.codes.specs.Code.{numbers as numbersOf, reportIn, messageIn, sums as sumsOf};
-ghost use Rattle.codes.specs.Code.{answerCode, lent, wrote};
+ghost use Rattle.codes.specs.Code.{answerCode, lent, wrote, lentCode, leavesNode, routeOf};
+
+// ---- a cluster in one buffer
 
 // The bytes to lend for a cluster of n nodes; 0 where there may be none.
 #[no_mangle]
@@ -53,82 +65,189 @@ pub extern "C" fn snapshot_size(n: usize) -> usize
 
 // Makes the lent bytes a fresh cluster of n nodes.
 #[no_mangle]
-pub extern "C" fn snapshot_fresh(n: usize, b: &mut [u8]) -> u8
-    ensures { λ r. ⌜ leaves r (now (b .exit)) (fresh n (now (b .entry))) ⌝ }
+pub extern "C" fn snapshot_fresh(n: usize, cluster: &mut [u8]) -> u8
+    ensures { λ r. ⌜ leaves r (now (cluster .exit)) (fresh n (now (cluster .entry))) ⌝ }
 {
-    event_code(cluster::fresh(n, b))
+    event_code(cluster::fresh(n, cluster))
 }
 
-// Begins an update with this report at node c; in a cut only the first m entries go out.
+// Begins an update with this report at a node; in a cut only so many of its first entries go out.
 #[no_mangle]
 pub extern "C" fn snapshot_begin_update(
-    b: &mut [u8],
-    c: usize,
+    cluster: &mut [u8],
+    node: usize,
     report: &[u8; REPORT],
     cut: bool,
-    m: usize,
+    entries: usize,
 ) -> u8
-    ensures { λ r. ⌜ leaves r (now (b .exit)) (begin c (Update (reportOf (now (report .entry))))
-        (extentOf cut m) (now (b .entry))) ⌝ }
+    ensures { λ r. ⌜ leaves r (now (cluster .exit)) (begin node (Update (reportOf (now (report .entry))))
+        (extentOf cut entries) (now (cluster .entry))) ⌝ }
 {
     event_code(cluster::begin(
-        b,
-        c,
+        cluster,
+        node,
         Operation::Update(read_report(report)),
-        extent_of(cut, m),
+        extent_of(cut, entries),
     ))
 }
 
-// Begins a scan at node c.
+// Begins a scan at a node.
 #[no_mangle]
-pub extern "C" fn snapshot_begin_scan(b: &mut [u8], c: usize, cut: bool, m: usize) -> u8
-    ensures { λ r. ⌜ leaves r (now (b .exit)) (begin c Scan (extentOf cut m) (now (b .entry))) ⌝ }
+pub extern "C" fn snapshot_begin_scan(
+    cluster: &mut [u8],
+    node: usize,
+    cut: bool,
+    entries: usize,
+) -> u8
+    ensures { λ r. ⌜ leaves r (now (cluster .exit)) (begin node Scan (extentOf cut entries) (now (cluster .entry))) ⌝ }
 {
-    event_code(cluster::begin(b, c, Operation::Scan, extent_of(cut, m)))
+    event_code(cluster::begin(cluster, node, Operation::Scan, extent_of(cut, entries)))
 }
 
-// Delivers what has waited longest on the channel from a to c. The view of a scan that ends goes to `view`: n entries,
-// then zeros.
+// Delivers what has waited longest on the channel between two nodes. The view of a scan that ends goes to `view`: n
+// entries, then zeros.
 #[no_mangle]
 pub extern "C" fn snapshot_deliver(
-    b: &mut [u8],
-    a: usize,
-    c: usize,
+    cluster: &mut [u8],
+    from: usize,
+    to: usize,
     cut: bool,
-    m: usize,
+    entries: usize,
     view: &mut [u8; VIEW],
 ) -> u8
-    ensures { λ r. ⌜ leaves r (now (b .exit)) (deliver a c (extentOf cut m) (now (b .entry)))
-        × (now (view .exit) ≡ eventView (toldOf (deliver a c (extentOf cut m) (now (b .entry))))
+    ensures { λ r. ⌜ leaves r (now (cluster .exit)) (deliver from to (extentOf cut entries) (now (cluster .entry)))
+        × (now (view .exit) ≡ eventView (toldOf (deliver from to (extentOf cut entries) (now (cluster .entry))))
         (now (view .entry))) ⌝ }
 {
-    let r = cluster::deliver(b, a, c, extent_of(cut, m));
+    let r = cluster::deliver(cluster, from, to, extent_of(cut, entries));
     show(r, view);
     event_code(r)
 }
 
-// Stops node c.
+// Stops a node.
 #[no_mangle]
-pub extern "C" fn snapshot_stop(b: &mut [u8], c: usize) -> u8
-    ensures { λ r. ⌜ leaves r (now (b .exit)) (stop c (now (b .entry))) ⌝ }
+pub extern "C" fn snapshot_stop(cluster: &mut [u8], node: usize) -> u8
+    ensures { λ r. ⌜ leaves r (now (cluster .exit)) (stop node (now (cluster .entry))) ⌝ }
 {
-    event_code(cluster::stop(b, c))
+    event_code(cluster::stop(cluster, node))
 }
+
+// ---- one node on its record in lent bytes, `state`
+
+// The bytes of a node's record.
+#[no_mangle]
+pub extern "C" fn snapshot_node_size() -> usize
+    ensures { λ r. ⌜ r ≡ recordSize ⌝ }
+{
+    node_bytes::size()
+}
+
+// Makes the lent bytes the fresh record of node `own` of n.
+#[no_mangle]
+pub extern "C" fn snapshot_node_fresh(n: usize, own: usize, state: &mut [u8]) -> u8
+    ensures { λ r. ⌜ (r ≡ lentCode (freshNode n own (now (state .entry))))
+        × (now (state .exit) ≡ freshNode n own (now (state .entry)) .bytes) ⌝ }
+{
+    let a = node_bytes::fresh(n, own, state);
+    event_code(a.reply)
+}
+
+// The code of a call at a node. One that was accepted tells the length of its messages.
+fn node_code(a: Called, length: &mut usize) -> u8
+    ensures { λ r. ⌜ ((state out : List ℕ) (e : LentResult) → tells a state out e
+        → leavesNode r state out (now (length .exit)) e (now (length .entry))) ⌝ }
+{
+    if is_accepted(a.reply) {
+        *length = a.length;
+        return event_code(a.reply);
+    }
+    event_code(a.reply)
+}
+
+// Begins an update with this report; the messages to send go to the front of `out`, and their length to `length`.
+#[no_mangle]
+pub extern "C" fn snapshot_node_begin_update(
+    state: &mut [u8],
+    report: &[u8; REPORT],
+    out: &mut [u8],
+    length: &mut usize,
+) -> u8
+    ensures { λ r. ⌜ leavesNode r (now (state .exit)) (now (out .exit)) (now (length .exit))
+        (beginNode (now (state .entry)) (Update (reportOf (now (report .entry)))) (now (out .entry)))
+        (now (length .entry)) ⌝ }
+{
+    let a = node_bytes::begin(state, Operation::Update(read_report(report)), out);
+    node_code(a, length)
+}
+
+// Begins a scan.
+#[no_mangle]
+pub extern "C" fn snapshot_node_begin_scan(
+    state: &mut [u8],
+    out: &mut [u8],
+    length: &mut usize,
+) -> u8
+    ensures { λ r. ⌜ leavesNode r (now (state .exit)) (now (out .exit)) (now (length .exit))
+        (beginNode (now (state .entry)) Scan (now (out .entry))) (now (length .entry)) ⌝ }
+{
+    let a = node_bytes::begin(state, Operation::Scan, out);
+    node_code(a, length)
+}
+
+// Handles one message from node `sender`. The view of a scan that ends goes to `view`: n entries, then zeros.
+#[no_mangle]
+pub extern "C" fn snapshot_node_message(
+    state: &mut [u8],
+    sender: usize,
+    bytes: &[u8],
+    out: &mut [u8],
+    length: &mut usize,
+    view: &mut [u8; VIEW],
+) -> u8
+    ensures { λ r. ⌜ leavesNode r (now (state .exit)) (now (out .exit)) (now (length .exit))
+        (messageNode (now (state .entry)) sender (now (bytes .entry)) (now (out .entry))) (now (length .entry))
+        × (now (view .exit) ≡ eventView
+        (messageNode (now (state .entry)) sender (now (bytes .entry)) (now (out .entry)) .answer)
+        (now (view .entry))) ⌝ }
+{
+    let a = node_bytes::message(state, sender, bytes, out);
+    show(a.reply, view);
+    node_code(a, length)
+}
+
+// The message at the front of `bytes`: its length goes to `length`, and where it goes to `route`.
+#[no_mangle]
+pub extern "C" fn snapshot_next(n: usize, bytes: &[u8], length: &mut usize, route: &mut u8) -> u8
+    ensures { λ r. ⌜ (r ≡ answerCode (front n (now (bytes .entry))))
+        × (now (length .exit) ≡ lent (λ p. p .1) (front n (now (bytes .entry))) (now (length .entry)))
+        × (now (route .exit) ≡ lent (λ p. routeOf (p .0)) (front n (now (bytes .entry))) (now (route .entry))) ⌝ }
+{
+    match wire_parse::parse_prefix(n, bytes) {
+        Found::At(m, k) => {
+            *length = k;
+            *route = route_of(m);
+            0
+        }
+        Found::Refused(k) => k,
+    }
+}
+
+// ---- messages and figures
 
 // Reads one message: its numbers go to `numbers`, 0 where the kind has none, its report to `report`, zeros where it has
 // none. The view of a good one is the bytes from 18 on.
 #[no_mangle]
 pub extern "C" fn snapshot_read(
     n: usize,
-    b: &[u8],
+    bytes: &[u8],
     numbers: &mut [u64; 4],
     report: &mut [u8; REPORT],
 ) -> u8
-    ensures { λ r. ⌜ (r ≡ answerCode (decode n (now (b .entry))))
-        × (now (numbers .exit) ≡ lent numbersOf (decode n (now (b .entry))) (now (numbers .entry)))
-        × (now (report .exit) ≡ lent reportIn (decode n (now (b .entry))) (now (report .entry))) ⌝ }
+    ensures { λ r. ⌜ (r ≡ answerCode (decode n (now (bytes .entry))))
+        × (now (numbers .exit) ≡ lent numbersOf (decode n (now (bytes .entry))) (now (numbers .entry)))
+        × (now (report .exit) ≡ lent reportIn (decode n (now (bytes .entry))) (now (report .entry))) ⌝ }
 {
-    match wire_parse::parse(n, b) {
+    match wire_parse::parse(n, bytes) {
         Parsed::Got(m) => {
             *numbers = message_numbers(m);
             *report = message_report(m);

@@ -1,0 +1,30 @@
+-- `snapshot::node_code` meets its contract.
+use borrow.Author.Needs.{needs}
+use mathlib.Core.Path.{sym, ap, ap₂, _∙_}
+use Rattle.codes.specs.Code.{eventCode, ruleIn, accepted}
+use Rattle.codes.proofs.Accepted.{lent-accepted, lent-refused}
+use Rattle.snapshot.proofs.node_code.Statement.{statement}
+use Rattle.snapshot.proofs.node_code.Tie as tie
+
+returns : tie.Need-returns
+returns c =
+    λ state out e t. (
+      c .event-code .ensures ∙ ap₂ eventCode (t .0) (ap ruleIn (t .1)),
+      t .4,
+      t .5,
+      t .3 ∙ lent-accepted (e .ending) (e .length) _ (ap accepted (sym (t .1)) ∙ sym (c .before .before .is-accepted .ensures) ∙ c .before .if1 .taken),
+    )
+
+returns-2 : tie.Need-returns-2
+returns-2 c =
+    λ state out e t. (
+      c .event-code2 .ensures ∙ ap₂ eventCode (t .0) (ap ruleIn (t .1)),
+      t .4,
+      t .5,
+      lent-refused (e .ending) (e .length) _ (ap accepted (sym (t .1)) ∙ sym (c .before .before .is-accepted .ensures) ∙ c .before .if1 .left),
+    )
+
+pub node-code-spec : {M : Type 1} → statement M
+node-code-spec =
+    tie.close
+    (tie.spec (λ c κs. search needs) (λ c κs. search needs) returns (λ c κs. search needs) returns-2)
