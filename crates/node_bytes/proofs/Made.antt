@@ -4,17 +4,20 @@ use mathlib.Core.Path.{_≡_, refl}
 use mathlib.Core.Bool.{Bool, true, false}
 use mathlib.Core.List.{List, []}
 use lib.Dec.{eqb, leb}
-use lib.ListN.{length}
+use lib.ListN.{length, replicate}
 use Rattle.octets.specs.Answer.{result}
+use Rattle.octets.specs.Bytes.{put}
+use Rattle.octets.specs.Loop.{join}
 use Rattle.octets.specs.Test.{pick, both}
 use Rattle.octets.proofs.Test.{both-left, both-right}
 use Rattle.view.specs.Size.{isSize}
+use Rattle.view.specs.View.{viewBytes}
 use Rattle.record.specs.Record.{blank}
 use Rattle.step.specs.declared.Ending.the-variants.{None}
 use Rattle.step.specs.Told.{nothing}
 use Rattle.calls.specs.CallResult.{CallResult}
 use Rattle.calls.specs.Entry as N
-use Rattle.region.specs.Record.{recordSize, recordBytes}
+use Rattle.region.specs.Record.{recordSize, nPlace, headIn, headBytes, recordBytes}
 use Rattle.calls_bytes.specs.Entry.{LentResult, inBytes, refuse, fresh}
 
 module _ (n own : ℕ) (r : List ℕ) where
@@ -51,3 +54,9 @@ module _ (n own : ℕ) (r : List ℕ) where
         }
     unfolding fresh N.fresh inBytes
     made l = rw (size-is, own-is, l) refl
+
+-- zeros with the head of a fresh record are that record
+pub blank-bytes : (n own k : ℕ) → k ≡ recordSize
+    → put (replicate k 0) nPlace (headBytes (headIn (blank n own))) ≡ recordBytes (blank n own)
+unfolding put recordBytes viewBytes join
+blank-bytes n own k e = rw e refl

@@ -8,15 +8,17 @@ use events::Outcome;
 use events::Reply;
 use events::refused;
 use octets::and;
+use octets::fill;
 use octets::get_word;
 use react_bytes::is_stale_in;
 use react_bytes::react_in;
 use record::Operation;
-use record::blank_node;
+use record::Wait;
+use region::head::Head;
+use region::head::save_head;
 use region::places::N_PLACE;
 use region::places::OWN_PLACE;
 use region::places::RECORD;
-use region::stored::save;
 use reply::view_shown;
 use step::Ending;
 use step_bytes::Effect;
@@ -80,7 +82,18 @@ pub fn fresh(n: usize, own: usize, r: &mut [u8]) -> Called
     if r.len() != RECORD {
         return turned_away(12);
     }
-    save(r, blank_node(n, own));
+    fill(r, 0);
+    save_head(
+        r,
+        Head {
+            n: n as u64,
+            own: own as u64,
+            maxtag: 0,
+            request: 0,
+            kept: 0,
+            wait: Wait::Idle,
+        },
+    );
     Called {
         reply: Reply {
             outcome: Outcome::Accepted(Ending::None),

@@ -11,20 +11,30 @@ use Rattle.node_bytes.proofs.admission.Statement.{statement}
 use Rattle.node_bytes.proofs.admission.Tie as tie
 
 returns : tie.Need-returns
-returns c = is-12 (c .before .before .before .args .r .now) (c .before .before .before .args .room) (sym (c .before .and .ensures) ∙ not-true _ (c .if1 .taken))
+returns c =
+    let c3 = c .before .before .before in
+    is-12 (c3 .args .r .now) (c3 .args .room) (sym (c .before .and .ensures) ∙ not-true _ (c .if1 .taken))
 
 is-usable-in-requires : tie.Need-is-usable-in-requires
 is-usable-in-requires c κs =
-    eqb-true _ _ (both-left (eqb (length (c .before .before .before .args .r .now)) recordSize) _ (sym (c .before .and .ensures) ∙ not-false _ (c .if1 .left)))
+    let c3 = c .before .before .before in
+    eqb-true _ _ (both-left (eqb (length (c3 .args .r .now)) recordSize) _ (sym (c .before .and .ensures)
+    ∙ not-false _ (c .if1 .left)))
 
 returns-2 : tie.Need-returns-2
 returns-2 c =
-    is-2 (c .before .before .before .before .before .args .r .now) (c .before .before .before .before .before .args .room) (sym (c .before .before .before .and .ensures) ∙ not-false _ (c .before .before .if1 .left))
+    let c2 = c .before .before in
+    let c3 = c2 .before in
+    let c5 = c3 .before .before in
+    is-2 (c5 .args .r .now) (c5 .args .room) (sym (c3 .and .ensures) ∙ not-false _ (c2 .if1 .left))
     (sym (c .before .is-usable-in .ensures) ∙ not-true _ (c .if2 .taken))
 
 returns-3 : tie.Need-returns-3
 returns-3 c =
-    is-0 (c .before .before .before .before .before .args .r .now) (c .before .before .before .before .before .args .room) (sym (c .before .before .before .and .ensures) ∙ not-false _ (c .before .before .if1 .left))
+    let c2 = c .before .before in
+    let c3 = c2 .before in
+    let c5 = c3 .before .before in
+    is-0 (c5 .args .r .now) (c5 .args .room) (sym (c3 .and .ensures) ∙ not-false _ (c2 .if1 .left))
     (sym (c .before .is-usable-in .ensures) ∙ not-false _ (c .if2 .left))
 
 pub admission-spec : {M : Type 1} → statement M

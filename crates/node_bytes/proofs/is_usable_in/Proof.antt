@@ -9,7 +9,10 @@ returns : tie.Need-returns
 returns c = sym (too-many (c .before .before .before .args .r .now) (c .before .get-word .ensures) (c .if1 .taken))
 
 returns-2 : tie.Need-returns-2
-returns-2 c = c .record-sound .ensures ∙ own-sound (c .before .before .before .before .before .args .r .now) (c .before .before .before .get-word .ensures) (c .before .get-word2 .ensures)
+returns-2 c =
+    let c3 = c .before .before .before in
+    let c5 = c3 .before .before in
+    c .record-sound .ensures ∙ own-sound (c5 .args .r .now) (c3 .get-word .ensures) (c .before .get-word2 .ensures)
 
 pub is-usable-in-spec : {M : Type 1} → statement M
 is-usable-in-spec =

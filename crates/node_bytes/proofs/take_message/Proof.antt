@@ -39,9 +39,11 @@ is-stale-in-requires c κs =
 
 returns : tie.Need-returns
 returns c =
-    let a = c .before .before .before .before .before .before .before .args in
+    let c2 = c .before .before in
+    let c7 = c2 .before .before .before .before .before in
+    let a = c7 .args in
     becomes (c .turned-away .result) _ _ (ap (inBytes (a .r .now)) (taken-9 _ (a .s) (a .v .now) (a .out .now) (a .m)
-    (sym (c .before .before .is-stale-in .ensures) ∙ c .before .if1 .taken)) ∙ in-refused 9 (a .r .now) (a .out .now))
+    (sym (c2 .is-stale-in .ensures) ∙ c .before .if1 .taken)) ∙ in-refused 9 (a .r .now) (a .out .now))
     (c .turned-away .ensures _ _)
 
 react-in-requires : tie.Need-react-in-requires
@@ -59,55 +61,69 @@ react-in-requires c κs =
 
 move-in-requires : tie.Need-move-in-requires
 move-in-requires c κs =
-    let a = c .before .before .before .before .before .before .before .before .before .before .before .before .args in
-    let p = c .before .before .before .before .before .before .before .before .before .before .before .before .pre in
+    let c4 = c .before .before .before .before in
+    let c12 = c4 .before .before .before .before .before .before .before .before in
+    let a = c12 .args in
+    let p = c12 .pre in
     let r = a .r .now in
-    let r′ = c .before .before .before .before .react-in .last .0 in
+    let r′ = c4 .react-in .last .0 in
     let small = small-n r (p .1) (p .2) in
     let v = viewOf (a .n) (a .v .now) in
     let z = sized-view (a .n) (a .v .now) small in
     let low : 1 ≤ a .n = subst (λ (j : ℕ). 1 ≤ j) (p .2) (parts _ (p .1) .n-low) in (
-      c .before .before .before .before .react-in .kept .0 ∙ p .0,
-      reacted-n r r′ (a .s) (a .m) v z (c .before .before .before .before .react-in .ensures .1) ∙ p .2,
+      c4 .react-in .kept .0 ∙ p .0,
+      reacted-n r r′ (a .s) (a .m) v z (c4 .react-in .ensures .1) ∙ p .2,
       small,
       subst (λ (j : ℕ). j < a .n) (sym (c .most-faults .ensures)) (faults-below (a .n) low),
-      ap usable (reacted r r′ (a .s) (a .m) v z (c .before .before .before .before .react-in .ensures .1))
+      ap usable (reacted r r′ (a .s) (a .m) v z (c4 .react-in .ensures .1))
           ∙ react-usable r (a .s) (a .m) v (p .1) (p .3) (subst (λ (j : ℕ). a .s ≤ j) (sym (p .2)) (p .4))
           (ap (λ (j : ℕ). lawful j (a .m) v) (p .2) ∙ allowed-lawful (a .n) (a .m) (a .v .now) (p .5)),
-      reacted-bytes r r′ (a .s) (a .m) v z (c .before .before .before .before .react-in .ensures .1),
+      reacted-bytes r r′ (a .s) (a .m) v z (c4 .react-in .ensures .1),
     )
 
 let-out-requires : tie.Need-let-out-requires
 let-out-requires c κs =
-    let a = c .before .before .before .before .before .before .before .before .before .before .before .before .before .before .before .before .args in
-    let p = c .before .before .before .before .before .before .before .before .before .before .before .before .before .before .before .before .pre in
+    let c3 = c .before .before .before in
+    let c4 = c3 .before in
+    let c8 = c4 .before .before .before .before in
+    let c16 = c8 .before .before .before .before .before .before .before .before in
+    let a = c16 .args in
+    let p = c16 .pre in
     let r = a .r .now in
     let d = recordOf r in
     let v = beside (d .n) (a .v .now) (a .m) in
-    let whole = handled r (c .before .before .before .before .before .before .before .before .react-in .last .0) (a .n) (a .s) (c .before .before .before .before .most-faults .result) (a .m) (a .v .now) (p .2)
-    (small-n r (p .1) (p .2)) (c .before .before .before .before .most-faults .ensures) (c .before .before .before .before .before .before .before .before .react-in .ensures .0) (c .before .before .before .before .before .before .before .before .react-in .ensures .1) in
+    let whole = handled r (c8 .react-in .last .0) (a .n) (a .s) (c4 .most-faults .result) (a .m) (a .v .now) (p .2)
+    (small-n r (p .1) (p .2)) (c4 .most-faults .ensures) (c8 .react-in .ensures .0) (c8 .react-in .ensures .1) in
     let s = messageStep (faultsOf d) d (a .s) (a .m) v in
     can-write s (a .n) (length (a .out .now))
     (message-fit (faultsOf d) d (a .s) (a .m) v s (length (a .out .now)) refl refl (p .1)
     (read-lawful (d .n) (a .v .now) (a .m) (ap (λ (j : ℕ). allowed j (a .m) (a .v .now)) (p .2) ∙ p .5)) (long-of r)
     (p .3) (subst (λ (j : ℕ). a .s ≤ j) (sym (p .2)) (p .4)) (p .6))
-    (subst (λ (x : Step). isStep (c .before .before .before .move-in .result) (c .before .before .before .move-in .last .0) x) whole (c .before .before .before .move-in .ensures))
+    (subst (λ (x : Step). isStep (c3 .move-in .result) (c3 .move-in .last .0) x) whole (c3 .move-in .ensures))
     (message-n (faultsOf d) d (a .s) (a .m) v ∙ p .2)
 
 returns-2 : tie.Need-returns-2
 returns-2 c =
-    let a = c .before .before .before .before .before .before .before .before .before .before .before .before .before .before .before .before .before .before .before .args in
-    let p = c .before .before .before .before .before .before .before .before .before .before .before .before .before .before .before .before .before .before .before .pre in
+    let c2 = c .before .before in
+    let c6 = c2 .before .before .before .before in
+    let c7 = c6 .before in
+    let c11 = c7 .before .before .before .before in
+    let c13 = c11 .before .before in
+    let c14 = c13 .before in
+    let c19 = c14 .before .before .before .before .before in
+    let a = c19 .args in
+    let p = c19 .pre in
     let r = a .r .now in
     let d = recordOf r in
     let v = beside (d .n) (a .v .now) (a .m) in
-    let whole = handled r (c .before .before .before .before .before .before .before .before .before .before .before .react-in .last .0) (a .n) (a .s) (c .before .before .before .before .before .before .before .most-faults .result) (a .m) (a .v .now) (p .2)
-    (small-n r (p .1) (p .2)) (c .before .before .before .before .before .before .before .most-faults .ensures) (c .before .before .before .before .before .before .before .before .before .before .before .react-in .ensures .0) (c .before .before .before .before .before .before .before .before .before .before .before .react-in .ensures .1) in
-    becomes (c .before .before .let-out .result) _ _ (ap (inBytes r) (taken-goes d (a .s) (a .v .now) (a .out .now) (a .m)
-    (sym (c .before .before .before .before .before .before .before .before .before .before .before .before .before .before .is-stale-in .ensures) ∙ c .before .before .before .before .before .before .before .before .before .before .before .before .before .if1 .left)))
-    (stepped (messageStep (faultsOf d) d (a .s) (a .m) v) (a .n) r (c .before .before .before .before .before .before .move-in .last .0) (a .out .now) _ (c .before .before .let-out .result)
-    (subst (λ (x : Step). isStep (c .before .before .before .before .before .before .move-in .result) (c .before .before .before .before .before .before .move-in .last .0) x) whole (c .before .before .before .before .before .before .move-in .ensures))
-    (message-n (faultsOf d) d (a .s) (a .m) v ∙ p .2) (c .before .before .let-out .ensures))
+    let whole = handled r (c11 .react-in .last .0) (a .n) (a .s) (c7 .most-faults .result) (a .m) (a .v .now) (p .2)
+    (small-n r (p .1) (p .2)) (c7 .most-faults .ensures) (c11 .react-in .ensures .0) (c11 .react-in .ensures .1) in
+    becomes (c2 .let-out .result) _ _ (ap (inBytes r) (taken-goes d (a .s) (a .v .now) (a .out .now) (a .m)
+    (sym (c14 .is-stale-in .ensures) ∙ c13 .if1 .left)))
+    (stepped (messageStep (faultsOf d) d (a .s) (a .m) v) (a .n) r (c6 .move-in .last .0) (a .out .now) _
+    (c2 .let-out .result)
+    (subst (λ (x : Step). isStep (c6 .move-in .result) (c6 .move-in .last .0) x) whole (c6 .move-in .ensures))
+    (message-n (faultsOf d) d (a .s) (a .m) v ∙ p .2) (c2 .let-out .ensures))
 
 pub take-message-spec : {M : Type 1} → statement M
 take-message-spec =

@@ -7,7 +7,9 @@ use Rattle.snapshot.proofs.snapshot_next.Tie as tie
 
 returns : tie.Need-returns
 returns c =
-    let e = sym (c .before .before .before .before .parse-prefix .ensures) ∙ ap found (c .before .before .m .given .1) in
+    let c2 = c .before .before in
+    let c4 = c2 .before .before in
+    let e = sym (c4 .parse-prefix .ensures) ∙ ap found (c2 .m .given .1) in
     rw e (refl, refl, c .route-of .ensures)
 
 returns-2 : tie.Need-returns-2

@@ -6,8 +6,11 @@ use Rattle.snapshot.proofs.snapshot_node_begin_update.Tie as tie
 
 returns : tie.Need-returns
 returns c =
-    let a = c .before .before .before .before .before .before .before .before .before .before .before .before .before .args in
-    rw (sym (c .before .before .before .before .before .before .before .before .read-report .ensures)) (c .node-code .ensures _ _ _ (c .before .before .before .before .before .before .begin .ensures))
+    let c6 = c .before .before .before .before .before .before in
+    let c8 = c6 .before .before in
+    let c13 = c8 .before .before .before .before .before in
+    let a = c13 .args in
+    rw (sym (c8 .read-report .ensures)) (c .node-code .ensures _ _ _ (c6 .begin .ensures))
 
 pub snapshot-node-begin-update-spec : {M : Type 1} → statement M
 snapshot-node-begin-update-spec =
