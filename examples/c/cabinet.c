@@ -10,6 +10,7 @@
  * To plug it to links: put each frame that comes out on its link or, for receiver 0, on the links to cabinets 1 to N in
  * turn, before the next frame; the link to the cabinet itself leads back to its own standard input. What a link brings
  * from cabinet s goes in as 'm', s, length, message. Go on reading while you write, or the two may wait for each other.
+ * Both ends block: a read waits for input, a write for room.
  *
  * Endings, and refusals of a begin, are told in a line each on standard error, after all messages of the step are out.
  * A message that is refused was not sent so by a cabinet of this house, or a link has lost something. Then the cabinet

@@ -1,5 +1,5 @@
-/* Document 01's session through the calls of a cluster: one node, an update, eleven deliveries of the node's messages to
- * itself, a scan, six deliveries. It prints what the bench program prints for sessions/document.txt. */
+/* Document 01's session through the calls of a cluster: one node, an update, eleven deliveries of the node's messages
+ * to itself, a scan, six deliveries. It prints what the bench program prints for sessions/document.txt. */
 #include "print.h"
 #include "snapshot.h"
 #include <stdio.h>
