@@ -19,8 +19,8 @@
  *   3. A node gets its own messages too: what goes to all goes to nodes 1 to n in turn, the sender among them, and is
  *      handed to it like any other, with its own number as the sender.
  *   4. All messages of an output are sent before the next call on the record, and before its ending is told to anyone.
- *   5. A record is never put back from an older copy. A node that has lost its record, or that was interrupted in the
- *      middle of a call or of sending, has stopped and does not come back.
+ *   5. A record is never put back from an older copy (it may be moved: it holds no address). A node that has lost its
+ *      record, or that was interrupted in the middle of a call or of sending, has stopped and does not come back.
  *   6. All nodes have the same n, each its own number, and each starts from snapshot_node_fresh.
  * Fewer than half of the nodes may stop: f of n, where f is the largest whole number with 2f < n. While no more have,
  * each operation at a standing node ends, once all messages to standing nodes are handed over.
@@ -147,7 +147,13 @@ static inline bool snapshot_is_refusal(uint8_t code)
 extern "C" {
 #endif
 
-/* ---- One node ---- */
+/* ---- One node ----
+ *
+ * A record is unusable (refusal 2) where its n is not 1 to 16, its own number not 1 to n, its round not 0 to 3, or a
+ * number above its limit; where a report that is held for maxtag (the largest tag written here), for the tag of the
+ * open round, or in the kept view has a tag above that one; where bytes that are not zero stand beside tag 0; or where
+ * fewer request numbers are left than the open operation may still use. What these calls leave is usable.
+ */
 
 /* The length of a node's record: SNAPSHOT_RECORD. Refuses nothing, writes nothing. */
 size_t snapshot_node_size(void);
@@ -161,7 +167,7 @@ uint8_t snapshot_node_fresh(size_t n, size_t own, uint8_t *record, size_t record
 /* Begins an update with this report. The messages to send stand in out[0] to out[*length - 1]: walk them with
  * snapshot_next. The update ends in a later snapshot_node_message.
  *   12  record_len is not SNAPSHOT_RECORD, or out_len is below SNAPSHOT_OUTPUT
- *   2   the record is unusable: snapshot_node_fresh and these calls have not made it, so far as its bytes tell
+ *   2   the record is unusable
  *   5   an operation is open
  *   6   fewer than five request numbers are left
  * Answers 0. Writes the record, the first *length bytes of out, and *length. */
@@ -174,11 +180,11 @@ uint8_t snapshot_node_begin_scan(uint8_t *record, size_t record_len, uint8_t *ou
 /* Hands over one message that node `sender` has sent to this one. It may give rise to messages, which stand in
  * out[0] to out[*length - 1], and it may end the open operation.
  *   12  record_len is not SNAPSHOT_RECORD, or out_len is below SNAPSHOT_OUTPUT
- *   2   the record is unusable, as above
+ *   2   the record is unusable
  *   3   sender is not 1 to n
  *   7   the bytes are not one message of the layout
  *   9   a value whose tag is below the last that was heard from that sender for that writer, or above the writer's last
- *       while that last is above the largest tag written here (maxtag)
+ *       while that last is above maxtag
  * Where all nodes and links keep what they owe, none of 2, 3, 7 and 9 is to be expected here. A node that meets one
  * should stop for good, which the others bear: to go on would be to lose a message, which they do not.
  * Answers 0, SNAPSHOT_SPENT, or 100 to 103, an update done, or 110 to 113, a scan ended. Writes the record, the first
@@ -254,7 +260,9 @@ uint8_t snapshot_stop(uint8_t *b, size_t b_len, size_t c);
 /* ---- Messages and views ----
  *
  * The numbers of a message: numbers[0] its kind (enum snapshot_kind), [1] its request number, [2] its writer, [3] its
- * tag.
+ * tag. The layout allows request numbers from 1 to 2^63 - 1, writers from 1 to n, tags from 0 (of an echo and a value
+ * from 1) to 2^63 - 1, and in a good message a view of 16 n bytes without a tag above its own and with zeros beside
+ * tag 0.
  */
 
 /* Reads one message.
@@ -267,8 +275,7 @@ uint8_t snapshot_read(size_t n, const uint8_t *b, size_t b_len, uint64_t numbers
 /* Writes the message of these numbers at the front of out. The report is looked at only for a value, the view only for
  * a good message, and of the numbers those that the kind has.
  *   1   n is not 1 to 16
- *   7   the layout does not allow it: a kind that is not 1 to 7, a number outside its limits, a view that is not 16 n
- *       bytes or not one of a good message with this tag
+ *   7   the kind is not 1 to 7, or the layout does not allow its numbers or its view
  *   12  out_len is below the length of the message
  * Answers 0. Writes the message and *length, its length. */
 uint8_t snapshot_write(size_t n, const uint64_t numbers[4], const uint8_t report[SNAPSHOT_REPORT], const uint8_t *view,
