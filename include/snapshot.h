@@ -150,8 +150,8 @@ extern "C" {
 /* ---- One node ----
  *
  * A record is unusable (refusal 2) where its n is not 1 to 16, its own number not 1 to n, its round not 0 to 3, or a
- * number above its limit; where a report that is held for maxtag (the largest tag written here), for the tag of the
- * open round, or in the kept view has a tag above that one; where bytes that are not zero stand beside tag 0; or where
+ * number above its limit; where a report that is held for maxtag (the top tag, by writes and echoes), for the open
+ * round's tag, or in the kept view has a tag above that one; where bytes that are not zero stand beside tag 0; or where
  * fewer request numbers are left than the open operation may still use. What these calls leave is usable.
  */
 
