@@ -43,7 +43,10 @@
  *   - A refusal writes nothing: each lent byte and number is as it was. Without a refusal exactly what is named beside
  *     the call is written, and every other lent byte is as it was.
  *   - It always returns. It has no state but what is lent, keeps no pointer, and neither allocates, blocks nor makes a
- *     system call.
+ *     system call. Of other code it calls memcpy and memset alone.
+ *   - It takes little stack, in bytes (x86-64 Linux, measured by examples/c/stack.c, rounded up): of one node fresh
+ *     8400, a begin 3700, a message 5800; of a cluster fresh 11600, a begin 6900, a delivery 8800, a stop 300; all
+ *     others 200.
  */
 #ifndef SNAPSHOT_H
 #define SNAPSHOT_H

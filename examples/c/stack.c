@@ -159,12 +159,8 @@ static void deliver_all(void)
     }
 }
 
-int main(int argc, char **argv)
+static void call_all(void)
 {
-    size_t limit = argc == 2 ? strtoul(argv[1], NULL, 10) : 0;
-    bool within = true;
-
-    base = depth(nothing);
     expect(node_size);
     expect(node_fresh);
     expect(node_update);
@@ -187,6 +183,19 @@ int main(int argc, char **argv)
     expect(read_one);
     expect(next);
     expect(figures);
+}
+
+int main(int argc, char **argv)
+{
+    size_t limit = argc == 2 ? strtoul(argv[1], NULL, 10) : 0;
+    bool within = true;
+
+    /* The second time counts: in the first the loader looks for memcpy and memset, on the stack of the call. */
+    base = depth(nothing);
+    call_all();
+    for (size_t i = 0; i < CALLS; i++)
+        calls[i].most = 0;
+    call_all();
 
     for (size_t i = 0; i < CALLS; i++) {
         printf("%-28s%6zu\n", calls[i].name, calls[i].most);
