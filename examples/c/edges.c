@@ -1,0 +1,292 @@
+/* Bad input: many calls with random numbers, lengths and bytes, right ones among them. All that is lent stands right
+ * beside pages that cannot be touched, so that a byte read or written outside of it ends the program. After each call
+ * all that it may not write must be as it was: after a refusal, everything. How often each call answered each code is
+ * printed, code:times; the contracts leave no choice in it. */
+#define _DEFAULT_SOURCE
+#include "snapshot.h"
+#include <stdio.h>
+#include <stdlib.h>
+#include <string.h>
+#include <sys/mman.h>
+
+#define TRIALS 200000
+#define NODES 3 /* of the cluster */
+#define GUARD 4096
+#define ROOM ((SNAPSHOT_CLUSTER(NODES) / GUARD + 1) * GUARD)
+
+/* Memory to lend, between two pages that cannot be touched. */
+struct region {
+    uint8_t *pages, *at;
+    size_t length;        /* 0 where it is not lent to this call */
+    uint8_t before[ROOM]; /* what it held before the call */
+};
+
+static struct region record, out, length, view, bytes, report, route, numbers, sums, cluster;
+static struct region *const regions[] = {&record, &out,   &length,  &view, &bytes,
+                                         &report, &route, &numbers, &sums, &cluster};
+
+#define REGIONS (sizeof regions / sizeof *regions)
+
+/* What the calls have made so far: the record of a node of n, its messages, oldest first, and a cluster. */
+static size_t n = 1;
+static uint8_t node[SNAPSHOT_RECORD], link[4096], house[SNAPSHOT_CLUSTER(NODES)];
+static size_t waiting; /* bytes on the link */
+static size_t front;   /* the length of its first message */
+
+enum { NODE_FRESH, NODE_UPDATE, NODE_SCAN, NODE_MESSAGE, NEXT, READ, WRITE, FIGURES };
+enum { FRESH = FIGURES + 1, UPDATE, SCAN, DELIVER, STOP };
+
+static const char *const names[] = {"node fresh", "node update", "node scan", "node message", "next", "read", "write",
+                                    "figures", "fresh", "update", "scan", "deliver", "stop"};
+
+#define CALLS (sizeof names / sizeof *names)
+
+static unsigned answers[CALLS][UINT8_MAX + 1];
+
+static void fail(const char *what)
+{
+    fprintf(stderr, "%s\n", what);
+    exit(1);
+}
+
+/* A number below the bound, by a generator of Lehmer's. */
+static size_t below(size_t bound)
+{
+    static uint32_t state = 2026;
+    state = (uint32_t)((uint64_t)state * 48271 % 2147483647);
+    return state % bound;
+}
+
+/* A number that is mostly the right one. */
+static size_t about(size_t right)
+{
+    const size_t others[] = {0, right - 1, right + 1, SIZE_MAX / 2, SIZE_MAX / 2 + 1, SIZE_MAX};
+    size_t k = below(200);
+    return k < sizeof others / sizeof *others ? others[k] : right;
+}
+
+/* A length that is mostly the right one, which is at least 1. */
+static size_t about_length(size_t right)
+{
+    size_t k = about(right);
+    return k > right + 1 ? below(right) : k;
+}
+
+static void open_regions(void)
+{
+    for (size_t i = 0; i < REGIONS; i++) {
+        uint8_t *low = mmap(NULL, ROOM + 2 * GUARD, PROT_NONE, MAP_PRIVATE | MAP_ANONYMOUS, -1, 0);
+        if (low == MAP_FAILED || mprotect(low + GUARD, ROOM, PROT_READ | PROT_WRITE) != 0)
+            fail("no memory");
+        regions[i]->pages = low + GUARD;
+    }
+}
+
+/* Lends so many bytes: those given, seldom with a bit changed, then zeros. They stand at one end of the pages. */
+static void *lend(struct region *r, size_t count, const void *given, size_t given_count)
+{
+    r->at = r->pages + (below(2) == 0 ? 0 : ROOM - count);
+    r->length = count;
+    memset(r->at, 0, count);
+    memcpy(r->at, given, given_count < count ? given_count : count);
+    if (count > 0 && below(100) == 0)
+        r->at[below(count)] ^= (uint8_t)(1u << below(8));
+    memcpy(r->before, r->at, count);
+    return r->at;
+}
+
+/* Lends random bytes. */
+static void *lend_any(struct region *r, size_t count)
+{
+    uint8_t any[SNAPSHOT_OUTPUT + 1];
+    for (size_t i = 0; i < sizeof any; i++)
+        any[i] = (uint8_t)below(UINT8_MAX + 1);
+    return lend(r, count, any, sizeof any);
+}
+
+/* The region is as it was from this byte on. */
+static void kept(const struct region *r, size_t from)
+{
+    if (from > r->length || memcmp(r->at + from, r->before + from, r->length - from) != 0)
+        fail("what a call may not write has changed");
+}
+
+/* Counts an answer. After a refusal all is as it was. */
+static bool accepted(size_t call, uint8_t code)
+{
+    answers[call][code]++;
+    for (size_t i = 0; snapshot_is_refusal(code) && i < REGIONS; i++) {
+        if (regions[i]->length > 0)
+            kept(regions[i], 0);
+    }
+    return !snapshot_is_refusal(code);
+}
+
+/* Puts the messages that a call has left in `out` on the link. Past them `out` is as it was. */
+static void send_output(void)
+{
+    size_t count = 0;
+    memcpy(&count, length.at, sizeof count);
+    kept(&out, count);
+    if (waiting + count > sizeof link)
+        waiting = 0;
+    memcpy(link + waiting, out.at, count);
+    waiting += count;
+}
+
+static void call_node_fresh(void)
+{
+    size_t nodes = about(1 + below(2)), own = about(1), size = about_length(SNAPSHOT_RECORD);
+    if (accepted(NODE_FRESH, snapshot_node_fresh(nodes, own, lend_any(&record, size), size))) {
+        memcpy(node, record.at, sizeof node);
+        n = nodes;
+        waiting = 0;
+    }
+}
+
+static void call_node_begin(bool scan)
+{
+    size_t size = about_length(SNAPSHOT_RECORD), room = about_length(SNAPSHOT_OUTPUT);
+    uint8_t *r = lend(&record, size, node, sizeof node), *o = lend_any(&out, room);
+    uint8_t *posted = lend_any(&report, SNAPSHOT_REPORT);
+    size_t *count = lend_any(&length, sizeof *count);
+    uint8_t code = scan ? snapshot_node_begin_scan(r, size, o, room, count)
+                        : snapshot_node_begin_update(r, size, posted, o, room, count);
+    if (accepted(scan ? NODE_SCAN : NODE_UPDATE, code)) {
+        memcpy(node, record.at, sizeof node);
+        kept(&report, 0);
+        send_output();
+    }
+}
+
+static void call_node_message(void)
+{
+    size_t size = about_length(SNAPSHOT_RECORD), room = about_length(SNAPSHOT_OUTPUT), given = about_length(front);
+    size_t sender = about(1 + below(n));
+    uint8_t *r = lend(&record, size, node, sizeof node), *message = lend(&bytes, given, link, front);
+    uint8_t *o = lend_any(&out, room), *shown = lend_any(&view, SNAPSHOT_VIEW);
+    size_t *count = lend_any(&length, sizeof *count);
+    uint8_t code = snapshot_node_message(r, size, sender, message, given, o, room, count, shown);
+    waiting = waiting < front ? 0 : waiting - front;
+    memmove(link, link + front, waiting);
+    if (accepted(NODE_MESSAGE, code)) {
+        memcpy(node, record.at, sizeof node);
+        kept(&bytes, 0);
+        if (!snapshot_is_scan(code))
+            kept(&view, 0);
+        send_output();
+    }
+}
+
+static void call_next(void)
+{
+    size_t given = about_length(1 + below(2 * front)), nodes = about(n);
+    uint8_t *message = lend(&bytes, given, link, waiting), *way = lend_any(&route, 1);
+    size_t *count = lend_any(&length, sizeof *count);
+    if (accepted(NEXT, snapshot_next(nodes, message, given, count, way)))
+        kept(&bytes, 0);
+}
+
+static void call_read(void)
+{
+    size_t given = about_length(front), nodes = about(n);
+    uint8_t *message = lend(&bytes, given, link, front), *carried = lend_any(&report, SNAPSHOT_REPORT);
+    uint64_t *told = lend_any(&numbers, 4 * sizeof *told);
+    if (accepted(READ, snapshot_read(nodes, message, given, told, carried)))
+        kept(&bytes, 0);
+}
+
+static void call_write(void)
+{
+    uint64_t some[4];
+    const size_t right[4] = {1 + below(7), 1 + below(9), 1 + below(n), 1 + below(3)};
+    for (size_t i = 0; i < 4; i++)
+        some[i] = about(right[i]);
+    size_t given = about_length(SNAPSHOT_ENTRY * n), room = about_length(SNAPSHOT_LONGEST), nodes = about(n);
+    uint64_t *told = lend(&numbers, sizeof some, some, sizeof some);
+    uint8_t *carried = lend_any(&report, SNAPSHOT_REPORT), *shown = lend(&bytes, given, "", 0);
+    uint8_t *o = lend_any(&out, room);
+    size_t *count = lend_any(&length, sizeof *count);
+    if (accepted(WRITE, snapshot_write(nodes, told, carried, shown, given, o, room, count))) {
+        kept(&numbers, 0);
+        kept(&report, 0);
+        kept(&bytes, 0);
+        send_output();
+    }
+}
+
+static void call_figures(void)
+{
+    const uint8_t entry[SNAPSHOT_ENTRY] = {0, 0, 0, 0, 0, 0, 0, 1, 255, 255, 0, 2, 0, 3, 0, 4};
+    size_t given = about_length(SNAPSHOT_ENTRY * n), nodes = about(n);
+    uint8_t *shown = lend(&bytes, given, entry, sizeof entry);
+    uint32_t *sum = lend_any(&sums, 4 * sizeof *sum);
+    if (accepted(FIGURES, snapshot_figures(nodes, shown, given, sum)))
+        kept(&bytes, 0);
+}
+
+/* An event of the cluster, seldom a cut. */
+static void call_cluster(size_t call)
+{
+    size_t size = about_length(sizeof house), a = about(1 + below(NODES)), c = about(1 + below(NODES)), m = below(9);
+    size_t nodes = about(NODES);
+    bool cut = below(200) == 0;
+    uint8_t *b = lend(&cluster, size, house, sizeof house), *posted = lend_any(&report, SNAPSHOT_REPORT);
+    uint8_t *shown = lend_any(&view, SNAPSHOT_VIEW);
+    uint8_t code = call == FRESH     ? snapshot_fresh(nodes, b, size)
+                   : call == UPDATE  ? snapshot_begin_update(b, size, c, posted, cut, m)
+                   : call == SCAN    ? snapshot_begin_scan(b, size, c, cut, m)
+                   : call == DELIVER ? snapshot_deliver(b, size, a, c, cut, m, shown)
+                                     : snapshot_stop(b, size, c);
+    if (accepted(call, code)) {
+        memcpy(house, cluster.at, sizeof house);
+        kept(&report, 0);
+        if (!snapshot_is_scan(code))
+            kept(&view, 0);
+    }
+}
+
+static void call_some(void)
+{
+    size_t some = below(1000);
+    if (some < 5 || (some < 200 && waiting == 0))
+        call_node_fresh();
+    else if (some < 20 || (some < 700 && waiting == 0))
+        call_node_begin(below(2) == 0);
+    else if (some < 700)
+        call_node_message();
+    else if (some < 750)
+        call_next();
+    else if (some < 800)
+        call_read();
+    else if (some < 850)
+        call_write();
+    else if (some < 900)
+        call_figures();
+    else if (some < 902)
+        call_cluster(below(2) == 0 ? FRESH : STOP);
+    else
+        call_cluster(some < 910 ? UPDATE : some < 918 ? SCAN : DELIVER);
+}
+
+int main(void)
+{
+    open_regions();
+    for (size_t k = 0; k < TRIALS; k++) {
+        uint8_t to = 0;
+        if (snapshot_next(n, link, waiting, &front, &to) != SNAPSHOT_TAKEN)
+            front = SNAPSHOT_ENTRY; /* no message, but some bytes */
+        for (size_t i = 0; i < REGIONS; i++)
+            regions[i]->length = 0;
+        call_some();
+    }
+    for (size_t call = 0; call < CALLS; call++) {
+        printf("%-12s", names[call]);
+        for (size_t code = 0; code <= UINT8_MAX; code++) {
+            if (answers[call][code] > 0)
+                printf(" %zu:%u", code, answers[call][code]);
+        }
+        printf("\n");
+    }
+    return 0;
+}
