@@ -1,4 +1,4 @@
-//! The declarations of the proved calls, as `include/snapshot.h` has them for C. `tests/declarations.rs` holds both and
+//! The declarations of the proved calls, as `include/snapshot.h` has them for C. `tests/declarations` holds both and
 //! `crates/snapshot/src/lib.rt` together.
 use crate::{REPORT, VIEW};
 
