@@ -47,8 +47,8 @@ impl Cluster {
         &self.bytes
     }
 
-    /// Begins an operation at a node. Refusals: 12, 2 (the bytes), 3 (no such node), 4 (it has stopped), 5 (an operation
-    /// is open), 6 (too few request numbers), 10 (a cut, and no more may stop), 11 (a channel would be full).
+    /// Begins an operation at a node. Refusals: 12, 2 (the bytes), 3 (no such node), 4 (it has stopped), 5 (an
+    /// operation is open), 6 (too few request numbers), 10 (a cut, and no more may stop), 11 (a channel would be full).
     pub fn begin(&mut self, node: usize, operation: Operation, extent: Extent) -> Result<(), Refusal> {
         let (cut, m) = extent.cut();
         accepted(match operation {

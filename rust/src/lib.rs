@@ -45,16 +45,16 @@
 //!
 //! 1. A link, one from each node to each, loses no message, repeats none, alters none and keeps their order. It may be
 //!    as slow as it likes, and which link hands over next is free.
-//! 2. The messages of an output are sent in their order: message k goes to all that it goes to before message k + 1 goes
-//!    to any. So a node that stops while it sends has sent a first part of its list.
+//! 2. The messages of an output are sent in their order: message k goes to all that it goes to before message k + 1
+//!    goes to any. So a node that stops while it sends has sent a first part of its list.
 //! 3. A node gets its own messages too: what goes to all goes to nodes 1 to n in turn, the sender among them.
 //! 4. All messages of an output are sent before the node's next call, and before an ending that came with them is told.
 //! 5. A node never starts again from an older record, one that was saved before later messages went out, nor from a
 //!    fresh one: the others would hear it contradict itself. If its newest record is lost, it has stopped.
 //! 6. All nodes have the same n and each its own number, and each has started fresh.
 //!
-//! Fewer than half of the nodes may stop. While no more have, an operation at a node that stands ends, once the messages
-//! to all that stand are handed over.
+//! Fewer than half of the nodes may stop. While no more have, an operation at a node that stands ends, once the
+//! messages to all that stand are handed over.
 #![deny(missing_docs, unsafe_code)]
 
 mod cluster;

@@ -147,8 +147,8 @@ pub enum To {
     Sender,
 }
 
-/// What a node sends: the messages of its last begin or message, each once, in the order in which they leave. It is lent
-/// to each call and may serve again.
+/// What a node sends: the messages of its last begin or message, each once, in the order in which they leave. It is
+/// lent to each call and may serve again.
 ///
 /// ```
 /// use snapshot::{Message, Node, Operation, Output, Refusal, To};
