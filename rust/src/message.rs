@@ -92,8 +92,8 @@ impl Message {
     }
 
     /// Writes the message among n nodes at the front of `out` and answers its length; the other bytes of `out` stay.
-    /// The view is looked at only for a good one. Refusals: 1 (n is not 1 to 16), 7 (the layout does not allow the numbers
-    /// or the view), 12 (`out` is shorter than the message; [`LONGEST`](crate::LONGEST) bytes hold any).
+    /// The view is looked at only for a good one. Refusals: 1 (n is not 1 to 16), 7 (the layout does not allow the
+    /// numbers or the view), 12 (`out` is shorter than the message; [`LONGEST`](crate::LONGEST) bytes hold any).
     pub fn write(&self, n: usize, view: &[u8], out: &mut [u8]) -> Result<usize, Refusal> {
         let none = Report::default();
         let (numbers, report) = match *self {
