@@ -3,6 +3,7 @@ use crate::lent;
 use crate::operation::{ending, Ending, Operation};
 use crate::refusal::{accepted, Refusal};
 use crate::VIEW;
+use std::fmt;
 
 /// How much of what an event sends goes out.
 #[derive(Clone, Copy, Debug, PartialEq, Eq)]
@@ -71,5 +72,11 @@ impl Cluster {
     /// Stops a node for good. Refusals: 12, 2 (the bytes), 3 (no such node), 4 (it has stopped), 10 (no more may stop).
     pub fn stop(&mut self, node: usize) -> Result<(), Refusal> {
         accepted(lent::stop(&mut self.bytes, node))
+    }
+}
+
+impl fmt::Debug for Cluster {
+    fn fmt(&self, f: &mut fmt::Formatter) -> fmt::Result {
+        f.debug_struct("Cluster").finish_non_exhaustive()
     }
 }

@@ -29,13 +29,14 @@
 //!         Ok(Some(Ending::Done(_))) => told.push(format!("{event} done 1")),
 //!         Ok(Some(Ending::Spent)) => told.push(format!("{event} spent 1")),
 //!         Ok(Some(Ending::Scan(_, view))) => {
-//!             assert_eq!(view.entry(1).map(|entry| entry.report), Some(report));
-//!             told.push(format!("{event} scan 1"));
+//!             let shown = view.entry(1).unwrap().report;
+//!             assert_eq!(shown, report);
+//!             told.push(format!("{event} scan 1 {:016x}", u64::from_be_bytes(shown.to_bytes())));
 //!         }
 //!         Err(refusal) => told.push(format!("{event} no {}", refusal.number())),
 //!     }
 //! }
-//! assert_eq!(told, ["11 done 1", "17 scan 1", "19 no 8"]);
+//! assert_eq!(told, ["11 done 1", "17 scan 1 0001000200030004", "19 no 8"]);
 //! # Ok::<(), Refusal>(())
 //! ```
 //!
@@ -55,7 +56,7 @@
 //!
 //! Fewer than half of the nodes may stop. While no more have, an operation at a node that stands ends, once the
 //! messages to all that stand are handed over.
-#![deny(missing_docs, unsafe_code)]
+#![deny(missing_docs, missing_debug_implementations, unsafe_code)]
 
 mod cluster;
 #[allow(unsafe_code)]

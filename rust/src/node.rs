@@ -3,6 +3,7 @@ use crate::lent;
 use crate::operation::{ending, Ending, Operation};
 use crate::refusal::{accepted, Refusal};
 use crate::{OUTPUT, RECORD, VIEW};
+use std::fmt;
 
 /// One node (document 01's cabinet), by its record. It handles begins and messages; what it sends is in an [`Output`],
 /// and the caller's links carry it. What they owe is in [the crate's head](crate#what-the-links-owe).
@@ -126,8 +127,10 @@ impl Node {
 
     /// Handles a message from node `sender`; what is to be sent is in `out`. Answers the ending of an operation that
     /// ended by it. Refusals: 2 (the record is not usable), 3 (the sender is not 1 to n), 7 (the bytes are not one
-    /// message), 9 (a value that cannot come now, so the link has lost, repeated or swapped something); `out` is empty
-    /// then.
+    /// message), 9 (a value that cannot come now); `out` is empty then.
+    ///
+    /// Where all keep the rules, none of these comes. A node that meets one should stop for good, which the others bear:
+    /// to go on would be to lose a message, which they do not.
     pub fn message(&mut self, sender: usize, bytes: &[u8], out: &mut Output) -> Result<Option<Ending>, Refusal> {
         out.length = 0;
         let mut view = [0; VIEW];
@@ -135,6 +138,12 @@ impl Node {
         let told = ending(code, self.nodes(), &view)?;
         out.nodes = self.nodes();
         Ok(told)
+    }
+}
+
+impl fmt::Debug for Node {
+    fn fmt(&self, f: &mut fmt::Formatter) -> fmt::Result {
+        f.debug_struct("Node").finish_non_exhaustive()
     }
 }
 
@@ -183,6 +192,12 @@ impl Output {
     }
 }
 
+impl fmt::Debug for Output {
+    fn fmt(&self, f: &mut fmt::Formatter) -> fmt::Result {
+        f.debug_list().entries(self).finish()
+    }
+}
+
 impl Default for Output {
     fn default() -> Output {
         Output::new()
@@ -199,6 +214,7 @@ impl<'a> IntoIterator for &'a Output {
 }
 
 /// The messages of an [`Output`], in their order.
+#[derive(Clone, Debug)]
 pub struct Messages<'a> {
     nodes: usize,
     rest: &'a [u8],

@@ -8,7 +8,7 @@ use std::fmt;
 /// ```
 /// use snapshot::{Node, Refusal};
 ///
-/// let refusal = Node::fresh(17, 1).err().unwrap();
+/// let refusal = Node::fresh(17, 1).unwrap_err();
 /// assert_eq!(refusal, Refusal::Size);
 /// assert_eq!(refusal.number(), 1);
 /// println!("refused: {refusal}");

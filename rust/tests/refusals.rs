@@ -1,5 +1,8 @@
 //! Each refusal that a user can meet, at a node and in a cluster, by its condition; and that it leaves all as it was.
-use snapshot::{Cluster, Ending, Extent, Message, Node, Operation, Output, Refusal, Report, LONGEST};
+use snapshot::{
+    lent, Cluster, Ending, Extent, Message, Node, Operation, Output, Refusal, Report, LONGEST, OUTPUT, RECORD, VIEW,
+};
+use std::fmt::Debug;
 
 const WHOLE: Extent = Extent::Whole;
 const UPDATE: Operation = Operation::Update(Report { extensions: 1, lines: 2, waiting: 3, wakeups: 4 });
@@ -14,20 +17,20 @@ fn value(n: usize, tag: u64, writer: usize) -> Vec<u8> {
 }
 
 /// A call at a node is refused, its record stays as it was, and there is nothing to send.
-fn refused_at<T>(node: &mut Node, call: impl FnOnce(&mut Node, &mut Output) -> Result<T, Refusal>) -> Refusal {
+fn refused_at<T: Debug>(node: &mut Node, call: impl FnOnce(&mut Node, &mut Output) -> Result<T, Refusal>) -> Refusal {
     let mut out = Output::new();
     Node::fresh(1, 1).unwrap().begin(UPDATE, &mut out).unwrap();
     let before = *node.as_bytes();
-    let refusal = call(node, &mut out).err().expect("a refusal");
+    let refusal = call(node, &mut out).expect_err("a refusal");
     assert!(*node.as_bytes() == before);
     assert_eq!(out.messages().count(), 0);
     refusal
 }
 
 /// A call in a cluster is refused, and its bytes stay as they were.
-fn refused_in<T>(cluster: &mut Cluster, call: impl FnOnce(&mut Cluster) -> Result<T, Refusal>) -> Refusal {
+fn refused_in<T: Debug>(cluster: &mut Cluster, call: impl FnOnce(&mut Cluster) -> Result<T, Refusal>) -> Refusal {
     let before = cluster.as_bytes().to_vec();
-    let refusal = call(cluster).err().expect("a refusal");
+    let refusal = call(cluster).expect_err("a refusal");
     assert!(cluster.as_bytes() == before);
     refusal
 }
@@ -222,4 +225,49 @@ fn an_update_near_the_last_tag_is_spent() {
     let answer = out.as_bytes().to_vec();
     assert_eq!(node.message(1, &answer, &mut out), Ok(Some(Ending::Spent)));
     assert_eq!(out.messages().count(), 0);
+}
+
+/// A node lends what it must; by the calls one by one any length may come.
+#[test]
+fn lent_bytes_of_a_wrong_length() {
+    let record = *Node::fresh(3, 1).unwrap().as_bytes();
+    let message = value(3, 1, 1);
+    for (held, room) in [(RECORD, 0), (RECORD, OUTPUT - 1), (0, OUTPUT), (RECORD - 1, OUTPUT), (RECORD + 1, OUTPUT)] {
+        let (mut bytes, mut out, mut length, mut view) = (record.to_vec(), vec![7; room], 7, [7; VIEW]);
+        bytes.resize(held, 0);
+        let before = bytes.clone();
+        let codes = [
+            lent::node_begin_update(&mut bytes, &[0; 8], &mut out, &mut length),
+            lent::node_begin_scan(&mut bytes, &mut out, &mut length),
+            lent::node_message(&mut bytes, 1, &message, &mut out, &mut length, &mut view),
+        ];
+        assert_eq!(codes, [12; 3], "{held} bytes of a record, {room} of an output");
+        assert!(bytes == before && out.iter().chain(&view).all(|&x| x == 7) && length == 7);
+    }
+    let (mut bytes, mut out, mut length, mut view) = (record.to_vec(), vec![7; OUTPUT + 1], 7, [7; VIEW]);
+    assert_eq!(lent::node_message(&mut bytes, 1, &message, &mut out, &mut length, &mut view), 0);
+    assert_eq!(out[..length], message);
+    assert!(out[length..].iter().chain(&view).all(|&x| x == 7));
+    for held in [0, RECORD - 1, RECORD + 1] {
+        assert_eq!(lent::node_fresh(3, 1, &mut vec![0; held]), 12);
+        assert_eq!(lent::node_fresh(3, 4, &mut vec![0; held]), 1);
+    }
+}
+
+#[test]
+fn the_front_of_an_output() {
+    let bytes = [value(3, 1, 1), value(3, 2, 2)].concat();
+    let (mut length, mut route) = (7, 7);
+    assert_eq!(lent::next(0, &bytes, &mut length, &mut route), 1);
+    assert_eq!(lent::next(17, &bytes, &mut length, &mut route), 1);
+    assert_eq!(lent::next(3, &[], &mut length, &mut route), 7);
+    assert_eq!(lent::next(3, &bytes[..29], &mut length, &mut route), 7);
+    assert_eq!(lent::next(3, &bytes[1..], &mut length, &mut route), 7);
+    assert_eq!((length, route), (7, 7));
+    assert_eq!(lent::next(3, &bytes, &mut length, &mut route), 0);
+    assert_eq!((length, route), (30, 0));
+    let mut answer = [0; LONGEST];
+    Message::WriteAnswer { request: 1, tag: 0 }.write(3, &[], &mut answer).unwrap();
+    assert_eq!(lent::next(3, &answer, &mut length, &mut route), 0);
+    assert_eq!((length, route), (26, 1));
 }
