@@ -1,7 +1,8 @@
-//! The differential run: both sides get the same events on their own copy of a cluster, and every answer, every lent
-//! view and every byte must be the same. Some clusters are damaged on the way.
+//! The differential run: both sides get the same events on their own copy of a cluster, or the same calls on their own
+//! copy of a node, and every answer, every lent view and every byte must be the same. Some are damaged on the way.
 use crate::dice::Dice;
-use crate::side::{Event, Numbers, Plain, Proved, Side, View, SCAN};
+use crate::network::{Input, Lent, Network};
+use crate::side::{is_refusal, Event, Numbers, Operation, Plain, Proved, Side, View, SCAN};
 use crate::workload::waiting;
 
 /// Numbers near the limits.
@@ -45,42 +46,46 @@ fn some_event(dice: &mut Dice, n: usize, habits: &Habits, b: &[u8]) -> Event {
     Event::Deliver { from: node(dice), to: node(dice), cut }
 }
 
-/// Damages a few places: words of a record, entries of its views past n, the head of a channel, bytes of the oldest
-/// message, or any bytes.
-fn damage(dice: &mut Dice, n: usize, b: &mut [u8]) {
-    let block = 1 + 73345 * dice.below(n);
-    let channel = block + 3169 + 4386 * dice.below(n);
-    let put = |b: &mut [u8], at: usize, x: u64| b[at..at + 8].copy_from_slice(&x.to_be_bytes());
-    match dice.below(13) {
-        0..=2 => {
-            let at = block + 1 + 8 * dice.below(12);
-            put(b, at, odd_number(dice));
-        }
-        3 => {
-            let at = block + 1 + 96 + 8 * dice.below(384);
-            put(b, at, odd_number(dice));
-        }
-        4 => b[block] = dice.below(3) as u8,
-        5 => b[channel] = dice.below(18) as u8,
-        6 => b[channel + 1] = dice.next() as u8,
-        7 => {
-            let slot = channel + 2 + 274 * (b[channel + 1] as usize % 16);
-            b[slot + dice.below(34)] = dice.below(9) as u8;
-        }
-        8..=10 => {
+fn put_word(b: &mut [u8], at: usize, x: u64) {
+    b[at..at + 8].copy_from_slice(&x.to_be_bytes());
+}
+
+/// Damages a record: a word, the request number and the wait, an entry of a view past n, or any byte.
+fn damage_record(dice: &mut Dice, n: usize, record: &mut [u8]) {
+    match dice.below(8) {
+        0..=2 => put_word(record, 8 * dice.below(12), odd_number(dice)),
+        3 => put_word(record, 96 + 8 * dice.below(384), odd_number(dice)),
+        4..=6 => {
             // The request number near its limit, and the wait's code, kind and round.
-            put(b, block + 25, i64::MAX as u64 - dice.below(7) as u64);
+            put_word(record, 24, i64::MAX as u64 - dice.below(7) as u64);
             for word in 5..8 {
                 if dice.chance(300) {
-                    put(b, block + 1 + 8 * word, dice.below(6) as u64);
+                    put_word(record, 8 * word, dice.below(6) as u64);
                 }
             }
         }
-        11 if n < 16 => {
+        _ if n < 16 => {
             // A report past n, often one that refusal 2 lets pass: no view may show it.
-            let entry = block + 2145 + 256 * dice.below(4) + 16 * (n + dice.below(16 - n));
-            put(b, entry, dice.below(3) as u64);
-            put(b, entry + 8, dice.next());
+            let entry = 2144 + 256 * dice.below(4) + 16 * (n + dice.below(16 - n));
+            put_word(record, entry, dice.below(3) as u64);
+            put_word(record, entry + 8, dice.next());
+        }
+        _ => record[dice.below(3168)] = dice.next() as u8,
+    }
+}
+
+/// Damages a place of a cluster: in a record, the head of a channel, the oldest message, or any byte.
+fn damage(dice: &mut Dice, n: usize, b: &mut [u8]) {
+    let block = 1 + 73345 * dice.below(n);
+    let channel = block + 3169 + 4386 * dice.below(n);
+    match dice.below(13) {
+        0..=7 => damage_record(dice, n, &mut b[block + 1..block + 3169]),
+        8 => b[block] = dice.below(3) as u8,
+        9 => b[channel] = dice.below(18) as u8,
+        10 => b[channel + 1] = dice.next() as u8,
+        11 => {
+            let slot = channel + 2 + 274 * (b[channel + 1] as usize % 16);
+            b[slot + dice.below(34)] = dice.below(9) as u8;
         }
         _ => {
             let at = dice.below(b.len());
@@ -133,12 +138,10 @@ impl Pair {
 /// How often each answer was given.
 type Tally = [u64; 256];
 
-/// The top tag and the last request number of each node, near their limit.
-fn age(dice: &mut Dice, n: usize, b: &mut [u8]) {
-    for block in (0..n).map(|i| 1 + 73345 * i) {
-        for at in [block + 17, block + 25] {
-            b[at..at + 8].copy_from_slice(&(i64::MAX as u64 - dice.below(30) as u64).to_be_bytes());
-        }
+/// The top tag and the last request number of a record, near their limit.
+fn age(dice: &mut Dice, record: &mut [u8]) {
+    for at in [16, 24] {
+        put_word(record, at, i64::MAX as u64 - dice.below(30) as u64);
     }
 }
 
@@ -155,7 +158,9 @@ fn session(n: usize, seed: u64, events: usize, damaged: bool, tally: &mut Tally)
     let mut pair = Pair::new((0..Proved::size(n)).map(|_| dice.next() as u8).collect());
     tally[pair.fresh(n) as usize] += 1;
     if dice.chance(250) {
-        age(&mut dice, n, &mut pair.proved);
+        for block in (0..n).map(|i| 1 + 73345 * i) {
+            age(&mut dice, &mut pair.proved[block + 1..]);
+        }
         pair.plain.copy_from_slice(&pair.proved);
     }
     let mut spare = pair.proved.clone();
@@ -253,6 +258,122 @@ fn codec(seed: u64, rounds: usize, tally: &mut Tally) {
     }
 }
 
+/// Gives the input to both sides.
+fn give_both(input: &Input, record: &mut [u8], lent: &mut Lent) -> u8 {
+    let (mut other_record, mut other_lent) = (record.to_vec(), lent.clone());
+    let told = (input.give::<Proved>(record, lent), input.give::<Plain>(&mut other_record, &mut other_lent));
+    assert_eq!(told.0, told.1, "another answer to {input:?}");
+    assert!(record == other_record, "another record after {input:?}");
+    assert!(*lent == other_lent, "another output or view after {input:?}");
+    told.0
+}
+
+/// A network of nodes from fresh; some are made old at once. Where `damaged`, some calls come upon a copy of a record.
+fn network(n: usize, seed: u64, calls: usize, damaged: bool, tally: &mut Tally) {
+    let mut dice = Dice::new(seed);
+    let mut network = Network::new(n, dice.next());
+    if dice.chance(250) {
+        network.records.iter_mut().for_each(|record| age(&mut dice, record));
+    }
+    for _ in 0..calls {
+        let code = network.step(|_, input, record, lent| {
+            if damaged && dice.chance(300) {
+                strange_calls(&mut dice, n, input, record, tally);
+            }
+            let code = give_both(input, record, lent);
+            tally[code as usize] += 1;
+            if !is_refusal(code) {
+                walk(n, &lent.out[..lent.length], tally);
+            }
+            code
+        });
+        assert!([0, 5, 6, 13].contains(&code) || code >= 100, "a network answers {code}");
+    }
+}
+
+/// Calls on a damaged copy of a record, the messages damaged too or made up, the output often too short.
+fn strange_calls(dice: &mut Dice, n: usize, input: &Input, record: &[u8], tally: &mut Tally) {
+    let mut record = record.to_vec();
+    for _ in 0..dice.below(3) {
+        damage_record(dice, n, &mut record);
+    }
+    if dice.chance(20) {
+        record.resize(dice.below(2 * record.len()), 0);
+    }
+    for _ in 0..=dice.below(4) {
+        let mut lent = Lent::new(if dice.chance(50) { dice.below(600) } else { 512 });
+        let input = match dice.below(8) {
+            0 => Input::Begin(Operation::Scan),
+            1 => Input::Begin(Operation::Update(dice.next().to_be_bytes())),
+            2 | 3 => input.clone(),
+            _ => {
+                let sender = if dice.chance(30) { odd_number(dice) as usize } else { dice.below(n) + 1 };
+                Input::Message { sender, bytes: made_up(dice, n, &record) }
+            }
+        };
+        tally[give_both(&input, &mut record, &mut lent) as usize] += 1;
+    }
+}
+
+/// A message whose numbers are near those of the record, in which a byte may be damaged.
+fn made_up(dice: &mut Dice, n: usize, record: &[u8]) -> Vec<u8> {
+    let near = |dice: &mut Dice, at: usize| {
+        let x = record.get(at..at + 8).map_or(0, |b| u64::from_be_bytes(b.try_into().unwrap()));
+        x.wrapping_add(dice.below(3) as u64).wrapping_sub(dice.below(2) as u64)
+    };
+    // The request number; the top tag, the round's tag, or a last tag.
+    let at = [16, 64, 2144 + 16 * dice.below(n)][dice.below(3)];
+    let numbers = [dice.below(7) as u64 + 1, near(dice, 24), dice.below(n) as u64 + 1, near(dice, at)];
+    let report = dice.next().to_be_bytes();
+    let view = record.get(2144..2144 + 16 * n).unwrap_or(&[]);
+    let (mut bytes, mut length) = (vec![0; 274], 0);
+    if Plain::write(n, &numbers, &report, view, &mut bytes, &mut length) != 0 {
+        length = dice.below(40);
+    }
+    bytes.truncate(length);
+    if dice.chance(100) && length > 0 {
+        bytes[dice.below(length)] = dice.below(9) as u8;
+    }
+    bytes
+}
+
+/// The message at the front of the bytes, by both sides; its length, 0 where there is none.
+fn next_both(n: usize, bytes: &[u8], tally: &mut Tally) -> usize {
+    let (mut one, mut two) = ((0, 9), (0, 9));
+    let told = (Proved::next(n, bytes, &mut one.0, &mut one.1), Plain::next(n, bytes, &mut two.0, &mut two.1));
+    assert_eq!((told.0, one), (told.1, two), "the next of {bytes:?}");
+    tally[told.0 as usize] += 1;
+    one.0
+}
+
+/// Walks an output of n nodes.
+fn walk(n: usize, out: &[u8], tally: &mut Tally) {
+    let mut at = 0;
+    while at < out.len() {
+        let length = next_both(n, &out[at..], tally);
+        assert!(length > 0, "no message in an output");
+        at += length;
+    }
+}
+
+/// Fresh records of any numbers and lengths, and walks over any bytes.
+fn strange_nodes(seed: u64, tally: &mut Tally) {
+    let mut dice = Dice::new(seed);
+    for _ in 0..20_000 {
+        let n = if dice.chance(900) { dice.below(16) + 1 } else { odd_number(&mut dice) as usize };
+        let own = if dice.chance(900) { dice.below(17) } else { odd_number(&mut dice) as usize };
+        let mut one = vec![9; if dice.chance(900) { 3168 } else { dice.below(4000) }];
+        let mut two = one.clone();
+        let told = (Proved::node_fresh(n, own, &mut one), Plain::node_fresh(n, own, &mut two));
+        assert_eq!(told.0, told.1, "a fresh node {own} of {n}");
+        assert!(one == two, "the bytes of a fresh node {own} of {n}");
+        tally[told.0 as usize] += 1;
+        let mut bytes = made_up(&mut dice, n.clamp(1, 16), &one);
+        bytes.resize(dice.below(300), dice.next() as u8);
+        next_both(n, &bytes, tally);
+    }
+}
+
 /// Runs everything; panics at the first difference.
 pub fn check(seeds: u64) {
     for n in 0..=20 {
@@ -265,9 +386,17 @@ pub fn check(seeds: u64) {
         }
         strange_bytes(seed, &mut events);
     }
+    assert_eq!(Proved::node_size(), Plain::node_size());
+    let mut calls: Tally = [0; 256];
+    for seed in 0..seeds {
+        for n in 1..=16 {
+            network(n, 1000 * seed + n as u64, 5000, seed % 2 == 1, &mut calls);
+        }
+        strange_nodes(seed, &mut calls);
+    }
     let mut messages: Tally = [0; 256];
     codec(1, 200_000, &mut messages);
-    for (what, tally) in [("cluster events", events), ("messages and figures", messages)] {
+    for (what, tally) in [("cluster events", events), ("one node", calls), ("messages and figures", messages)] {
         println!("{what}: {} answers, all the same", tally.iter().sum::<u64>());
         for (code, count) in tally.iter().enumerate().filter(|(_, &count)| count > 0) {
             println!("  answer {code:2}: {count}");

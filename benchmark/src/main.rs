@@ -1,4 +1,4 @@
-//! The proved cluster beside a plain one: whether they do the same, and how fast each is.
+//! The proved node and cluster beside plain ones: whether they do the same, and how fast each is.
 mod check;
 mod clock;
 // The oracle's generator, of which one function is not needed here.
@@ -6,6 +6,7 @@ mod clock;
 #[path = "../../oracle/src/dice.rs"]
 mod dice;
 mod measure;
+mod network;
 mod plain;
 mod side;
 mod workload;

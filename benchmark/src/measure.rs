@@ -1,6 +1,7 @@
 //! The measurements: both sides in turn on the same input, the best of several runs of each.
 mod codec;
 mod events;
+mod node;
 
 /// How often each side runs; the best time counts.
 const RUNS: usize = 15;
@@ -40,14 +41,16 @@ pub fn all(longest: usize) {
     println!();
     events::growth_with_nodes();
     println!();
+    let node = node::calls();
+    println!();
     let (codec, by_kind) = codec::messages();
     println!();
     let figures = codec::figures();
     println!();
     events::growth_with_length(longest);
     println!(
-        "\nlargest ratios: events {events:.2}, messages {codec:.2} (one kind alone {by_kind:.2}), figures {figures:.2}; \
-         the target is {TARGET:.2}"
+        "\nlargest ratios: events {events:.2}, one node {node:.2}, messages {codec:.2} (one kind alone {by_kind:.2}), \
+         figures {figures:.2}; the target is {TARGET:.2}"
     );
 }
 

@@ -1,11 +1,11 @@
 //! The two sides behind one interface: the calls of the crate `snapshot`, as numbers and lent memory.
 pub use crate::plain::bytes::{Report, NO_REPORT};
-use crate::plain::cluster;
 use crate::plain::figures::figures;
 use crate::plain::message::{read, write, Message};
-use crate::plain::record::Operation;
+pub use crate::plain::record::Operation;
 use crate::plain::step::{Ending, Rule};
-use crate::plain::Refusal;
+use crate::plain::{cluster, node, record, Refusal};
+use snapshot::lent;
 
 /// What a client asks of a cluster. A cut lets out its first entries, then the node stops.
 #[derive(Clone, Copy, Debug)]
@@ -39,73 +39,91 @@ pub trait Side {
     fn read(n: usize, b: &[u8], numbers: &mut Numbers, report: &mut Report) -> u8;
     fn write(n: usize, numbers: &Numbers, report: &Report, view: &[u8], out: &mut [u8], length: &mut usize) -> u8;
     fn figures(n: usize, view: &[u8], sums: &mut [u32; 4]) -> u8;
+    fn node_size() -> usize;
+    fn node_fresh(n: usize, own: usize, record: &mut [u8]) -> u8;
+    fn node_begin(record: &mut [u8], operation: &Operation, out: &mut [u8], length: &mut usize) -> u8;
+    fn node_message(
+        record: &mut [u8],
+        sender: usize,
+        bytes: &[u8],
+        out: &mut [u8],
+        length: &mut usize,
+        view: &mut View,
+    ) -> u8;
+    fn next(n: usize, bytes: &[u8], length: &mut usize, route: &mut u8) -> u8;
 }
 
-/// The proved code. Its declarations repeat those of `crates/snapshot/src/lib.rt`: a slice is a pointer and a length.
+/// The proved code.
 pub struct Proved;
 
-extern "C" {
-    fn snapshot_size(n: usize) -> usize;
-    fn snapshot_fresh(n: usize, b: *mut u8, len: usize) -> u8;
-    fn snapshot_begin_update(b: *mut u8, len: usize, c: usize, report: *const Report, cut: bool, m: usize) -> u8;
-    fn snapshot_begin_scan(b: *mut u8, len: usize, c: usize, cut: bool, m: usize) -> u8;
-    fn snapshot_deliver(b: *mut u8, len: usize, a: usize, c: usize, cut: bool, m: usize, view: *mut View) -> u8;
-    fn snapshot_stop(b: *mut u8, len: usize, c: usize) -> u8;
-    fn snapshot_read(n: usize, b: *const u8, len: usize, numbers: *mut Numbers, report: *mut Report) -> u8;
-    fn snapshot_write(
-        n: usize,
-        numbers: *const Numbers,
-        report: *const Report,
-        view: *const u8,
-        view_len: usize,
-        out: *mut u8,
-        out_len: usize,
-        length: *mut usize,
-    ) -> u8;
-    fn snapshot_figures(n: usize, view: *const u8, len: usize, sums: *mut [u32; 4]) -> u8;
-}
-
-// Every call below lends whole slices and arrays that do not overlap, which is all that the proved code asks.
 impl Side for Proved {
     fn size(n: usize) -> usize {
-        unsafe { snapshot_size(n) }
+        lent::size(n)
     }
 
     fn fresh(n: usize, b: &mut [u8]) -> u8 {
-        unsafe { snapshot_fresh(n, b.as_mut_ptr(), b.len()) }
+        lent::fresh(n, b)
     }
 
     fn apply(b: &mut [u8], event: &Event, view: &mut View) -> u8 {
-        let (p, len) = (b.as_mut_ptr(), b.len());
         let extent = |cut: Option<usize>| (cut.is_some(), cut.unwrap_or(0));
         match *event {
             Event::Update { node, report, cut } => {
                 let (cut, m) = extent(cut);
-                unsafe { snapshot_begin_update(p, len, node, &report, cut, m) }
+                lent::begin_update(b, node, &report, cut, m)
             }
             Event::Scan { node, cut } => {
                 let (cut, m) = extent(cut);
-                unsafe { snapshot_begin_scan(p, len, node, cut, m) }
+                lent::begin_scan(b, node, cut, m)
             }
             Event::Deliver { from, to, cut } => {
                 let (cut, m) = extent(cut);
-                unsafe { snapshot_deliver(p, len, from, to, cut, m, view) }
+                lent::deliver(b, from, to, cut, m, view)
             }
-            Event::Stop { node } => unsafe { snapshot_stop(p, len, node) },
+            Event::Stop { node } => lent::stop(b, node),
         }
     }
 
     fn read(n: usize, b: &[u8], numbers: &mut Numbers, report: &mut Report) -> u8 {
-        unsafe { snapshot_read(n, b.as_ptr(), b.len(), numbers, report) }
+        lent::read(n, b, numbers, report)
     }
 
     fn write(n: usize, numbers: &Numbers, report: &Report, view: &[u8], out: &mut [u8], length: &mut usize) -> u8 {
-        let (p, len) = (out.as_mut_ptr(), out.len());
-        unsafe { snapshot_write(n, numbers, report, view.as_ptr(), view.len(), p, len, length) }
+        lent::write(n, numbers, report, view, out, length)
     }
 
     fn figures(n: usize, view: &[u8], sums: &mut [u32; 4]) -> u8 {
-        unsafe { snapshot_figures(n, view.as_ptr(), view.len(), sums) }
+        lent::figures(n, view, sums)
+    }
+
+    fn node_size() -> usize {
+        lent::node_size()
+    }
+
+    fn node_fresh(n: usize, own: usize, record: &mut [u8]) -> u8 {
+        lent::node_fresh(n, own, record)
+    }
+
+    fn node_begin(record: &mut [u8], operation: &Operation, out: &mut [u8], length: &mut usize) -> u8 {
+        match operation {
+            Operation::Update(report) => lent::node_begin_update(record, report, out, length),
+            Operation::Scan => lent::node_begin_scan(record, out, length),
+        }
+    }
+
+    fn node_message(
+        record: &mut [u8],
+        sender: usize,
+        bytes: &[u8],
+        out: &mut [u8],
+        length: &mut usize,
+        view: &mut View,
+    ) -> u8 {
+        lent::node_message(record, sender, bytes, out, length, view)
+    }
+
+    fn next(n: usize, bytes: &[u8], length: &mut usize, route: &mut u8) -> u8 {
+        lent::next(n, bytes, length, route)
     }
 }
 
@@ -194,6 +212,57 @@ impl Side for Plain {
         match figures(n, view) {
             Ok(s) => {
                 *sums = s;
+                0
+            }
+            Err(refusal) => refusal,
+        }
+    }
+
+    #[inline(never)]
+    fn node_size() -> usize {
+        record::SIZE
+    }
+
+    #[inline(never)]
+    fn node_fresh(n: usize, own: usize, record: &mut [u8]) -> u8 {
+        code(node::fresh(n, own, record))
+    }
+
+    #[inline(never)]
+    fn node_begin(record: &mut [u8], operation: &Operation, out: &mut [u8], length: &mut usize) -> u8 {
+        match node::begin(record, *operation, out) {
+            Ok(k) => {
+                *length = k;
+                0
+            }
+            Err(refusal) => refusal,
+        }
+    }
+
+    #[inline(never)]
+    fn node_message(
+        record: &mut [u8],
+        sender: usize,
+        bytes: &[u8],
+        out: &mut [u8],
+        length: &mut usize,
+        view: &mut View,
+    ) -> u8 {
+        match node::message(record, sender, bytes, out, view) {
+            Ok((ending, k)) => {
+                *length = k;
+                code(Ok(ending))
+            }
+            Err(refusal) => refusal,
+        }
+    }
+
+    #[inline(never)]
+    fn next(n: usize, bytes: &[u8], length: &mut usize, route: &mut u8) -> u8 {
+        match node::next(n, bytes) {
+            Ok((k, is_answer)) => {
+                *length = k;
+                *route = u8::from(is_answer);
                 0
             }
             Err(refusal) => refusal,

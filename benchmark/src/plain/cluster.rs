@@ -3,7 +3,7 @@ use super::bytes::VIEW;
 use super::message::{read_prefix, Message};
 use super::record::{Operation, Record, Wait, SIZE as RECORD};
 use super::step::{Ending, Step};
-use super::Refusal;
+use super::{most_faults, Refusal};
 
 const SLOT: usize = 274;
 const CAPACITY: usize = 16;
@@ -17,10 +17,6 @@ pub fn size(n: usize) -> usize {
     } else {
         0
     }
-}
-
-fn most_faults(n: usize) -> usize {
-    (n - 1) / 2
 }
 
 fn block(b: &[u8], c: usize) -> &[u8; BLOCK] {
@@ -158,7 +154,7 @@ pub fn begin(b: &mut [u8], c: usize, operation: Operation, cut: Option<usize>) -
     if cut.is_some() {
         may_stop(b, n)?;
     }
-    let mut step = Step::new(record, Wait::Idle);
+    let mut step = Step::new(*record, Wait::Idle);
     step.begin(operation);
     has_room(b, n, c, c, cut, 0, step.messages())?;
     settle(b, n, c, c, cut, &step);
@@ -192,7 +188,7 @@ pub fn deliver(b: &mut [u8], a: usize, c: usize, cut: Option<usize>, view: &mut 
         may_stop(b, n)?;
     }
     let wait = Record(record).wait().unwrap_or(Wait::Idle);
-    let mut step = Step::new(record, wait);
+    let mut step = Step::new(*record, wait);
     step.message(most_faults(n), a, m, &slot[18..18 + 16 * n]);
     has_room(b, n, a, c, cut, usize::from(a == c), step.messages())?;
     pop(channel_mut(block_mut(b, c), a));
@@ -259,7 +255,7 @@ fn receivers(n: usize, a: usize, m: &Message, left: &mut usize) -> impl Iterator
 }
 
 /// Node c takes the step: its record is written, in a cut it stops, and the entries are let out.
-fn settle(b: &mut [u8], n: usize, a: usize, c: usize, cut: Option<usize>, step: &Step) {
+fn settle(b: &mut [u8], n: usize, a: usize, c: usize, cut: Option<usize>, step: &Step<[u8; RECORD]>) {
     let own = block_mut(b, c);
     *record_mut(own) = step.record.0;
     if cut.is_some() {

@@ -19,7 +19,7 @@ pub const ATMAX: usize = 2400;
 pub const ATROUND: usize = 2656;
 pub const KEPTVIEW: usize = 2912;
 
-#[derive(Clone, Copy)]
+#[derive(Clone, Copy, Debug)]
 pub enum Operation {
     Update(Report),
     Scan,

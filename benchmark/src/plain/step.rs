@@ -1,7 +1,8 @@
-//! One step of a node on a copy of its record: it handles a message or a begin, then moves the open operation on.
+//! One step of a node on its record or a copy of it: it handles a message or a begin, then moves the open operation on.
 use super::bytes::{LIMIT, VIEW};
 use super::message::Message;
 use super::record::{Kind, Operation, Record, Wait, ATMAX, ATROUND, KEPTVIEW, LAST, SIZE};
+use std::borrow::BorrowMut;
 
 /// How an operation came by its view: by a round of its own, or by a good message kept.
 #[derive(Clone, Copy, PartialEq, Debug)]
@@ -21,8 +22,8 @@ pub enum Ending {
 
 /// A step: the record after it, what is sent, and the ending. `view` is that of a good message sent and of an operation
 /// that ended.
-pub struct Step {
-    pub record: Record<[u8; SIZE]>,
+pub struct Step<B> {
+    pub record: Record<B>,
     pub ending: Ending,
     pub view: [u8; VIEW],
     wait: Wait,
@@ -30,10 +31,10 @@ pub struct Step {
     count: usize,
 }
 
-impl Step {
-    pub fn new(record: &[u8; SIZE], wait: Wait) -> Step {
+impl<B: BorrowMut<[u8; SIZE]>> Step<B> {
+    pub fn new(record: B, wait: Wait) -> Step<B> {
         Step {
-            record: Record(*record),
+            record: Record(record),
             ending: Ending::None,
             view: [0; VIEW],
             wait,

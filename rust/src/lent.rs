@@ -1,0 +1,169 @@
+//! The proved calls one by one, on any numbers and any lent bytes: a code comes out. The types of this crate stand on
+//! these; use them for bytes that live elsewhere.
+//!
+//! | code | after an event | after another call |
+//! |---|---|---|
+//! | 0 | no operation has ended | what was lent holds the result |
+//! | 1 to 12 | refused: [`Refusal`](crate::Refusal) | the same |
+//! | 13 | an update is spent | – |
+//! | 100 to 103 | an update is done | – |
+//! | 110 to 113 | a scan has ended | – |
+//!
+//! The last digit of 100 to 113 is the rule: 0 for a view borrowed from a good message, or the round, 1 to 3. A refusal
+//! leaves all that is lent as it was.
+//!
+//! ```
+//! use snapshot::lent;
+//!
+//! let mut record = vec![0; lent::node_size()];
+//! assert_eq!(lent::node_fresh(3, 4, &mut record), 1); // node 4 of three
+//! assert_eq!(lent::node_fresh(3, 2, &mut record), 0);
+//! ```
+//!
+//! This file has all the `unsafe` of the crate. What the calls ask is in the head of `crates/snapshot/src/lib.rt`: that
+//! a pointer and its length are those of memory, and that two regions lent at once do not overlap. Both hold of every
+//! call here, and that is why each `unsafe` is sound:
+//!
+//! - the pointer and the length are those of one slice, or the pointer is that of one array or number of the declared
+//!   type, so all of it is memory, aligned for its type, and has been written;
+//! - what the call writes comes in by `&mut`, so nothing else that is lent overlaps it;
+//! - the call keeps no pointer past its end, and has no precondition on what the memory holds.
+//!
+//! What a call writes is bytes and numbers, of which every value is one of its type.
+use crate::raw;
+use crate::{REPORT, VIEW};
+
+/// The bytes to lend for a cluster of n nodes; 0 where there may be none.
+#[inline]
+pub fn size(n: usize) -> usize {
+    // SAFETY: nothing is lent.
+    unsafe { raw::snapshot_size(n) }
+}
+
+/// Makes the lent bytes a fresh cluster of n nodes. Refusals: 1, 12.
+#[inline]
+pub fn fresh(n: usize, b: &mut [u8]) -> u8 {
+    // SAFETY: pointer and length of one slice.
+    unsafe { raw::snapshot_fresh(n, b.as_mut_ptr(), b.len()) }
+}
+
+/// Begins an update with this report at node c; where `cut`, only the first m entries go out and the node stops.
+/// Refusals: 12, 2, 3, 4, 5, 6, 10, 11.
+#[inline]
+pub fn begin_update(b: &mut [u8], c: usize, report: &[u8; REPORT], cut: bool, m: usize) -> u8 {
+    // SAFETY: pointer and length of one slice, which is lent by `&mut` and so apart from the array.
+    unsafe { raw::snapshot_begin_update(b.as_mut_ptr(), b.len(), c, report, cut, m) }
+}
+
+/// Begins a scan at node c, whole or cut. Refusals: 12, 2, 3, 4, 5, 6, 10, 11.
+#[inline]
+pub fn begin_scan(b: &mut [u8], c: usize, cut: bool, m: usize) -> u8 {
+    // SAFETY: pointer and length of one slice.
+    unsafe { raw::snapshot_begin_scan(b.as_mut_ptr(), b.len(), c, cut, m) }
+}
+
+/// Delivers what has waited longest on the channel from a to c, whole or cut. The view of a scan that ends goes to
+/// `view`: n entries, then zeros. Refusals: 12, 2, 3, 4, 8, 7, 9, 10, 11.
+#[inline]
+pub fn deliver(b: &mut [u8], a: usize, c: usize, cut: bool, m: usize, view: &mut [u8; VIEW]) -> u8 {
+    // SAFETY: pointer and length of one slice; the array is another region, since both are lent by `&mut`.
+    unsafe { raw::snapshot_deliver(b.as_mut_ptr(), b.len(), a, c, cut, m, view) }
+}
+
+/// Stops node c. Refusals: 12, 2, 3, 4, 10.
+#[inline]
+pub fn stop(b: &mut [u8], c: usize) -> u8 {
+    // SAFETY: pointer and length of one slice.
+    unsafe { raw::snapshot_stop(b.as_mut_ptr(), b.len(), c) }
+}
+
+/// Reads one message: its kind, request number, writer and tag go to `numbers`, 0 where the kind has none; its report
+/// to `report`, zeros where it has none. The view of a good one is the bytes from 18 on. Refusals: 1, 7.
+#[inline]
+pub fn read(n: usize, b: &[u8], numbers: &mut [u64; 4], report: &mut [u8; REPORT]) -> u8 {
+    // SAFETY: pointer and length of one slice; the two arrays are lent by `&mut`, so they are apart from it and from
+    // each other.
+    unsafe { raw::snapshot_read(n, b.as_ptr(), b.len(), numbers, report) }
+}
+
+/// Writes the message of these numbers at the front of `out`, and its length to `length`. The report is looked at only
+/// for a value, the view only for a good one, and of the numbers those that the kind has. Refusals: 1, 7, 12.
+#[inline]
+pub fn write(
+    n: usize,
+    numbers: &[u64; 4],
+    report: &[u8; REPORT],
+    view: &[u8],
+    out: &mut [u8],
+    length: &mut usize,
+) -> u8 {
+    let (at, room) = (out.as_mut_ptr(), out.len());
+    // SAFETY: each pointer with the length of its own slice; `out` and `length` are lent by `&mut`, so they are apart
+    // from each other and from what is only read.
+    unsafe { raw::snapshot_write(n, numbers, report, view.as_ptr(), view.len(), at, room, length) }
+}
+
+/// The four sums over a view of n nodes. Refusals: 12, 1, 7.
+#[inline]
+pub fn figures(n: usize, view: &[u8], sums: &mut [u32; 4]) -> u8 {
+    // SAFETY: pointer and length of one slice; the array is lent by `&mut`, so it is apart from it.
+    unsafe { raw::snapshot_figures(n, view.as_ptr(), view.len(), sums) }
+}
+
+/// The bytes of a node's record.
+#[inline]
+pub fn node_size() -> usize {
+    // SAFETY: nothing is lent.
+    unsafe { raw::snapshot_node_size() }
+}
+
+/// Makes the lent bytes the fresh record of node `own` of n. Refusals: 1, 12.
+#[inline]
+pub fn node_fresh(n: usize, own: usize, record: &mut [u8]) -> u8 {
+    // SAFETY: pointer and length of one slice.
+    unsafe { raw::snapshot_node_fresh(n, own, record.as_mut_ptr(), record.len()) }
+}
+
+/// Begins an update with this report at the node; the messages to send go to the front of `out`, their length to
+/// `length`. Refusals: 12, 2, 5, 6.
+#[inline]
+pub fn node_begin_update(record: &mut [u8], report: &[u8; REPORT], out: &mut [u8], length: &mut usize) -> u8 {
+    let (at, room) = (out.as_mut_ptr(), out.len());
+    // SAFETY: each pointer with the length of its own slice; all but the report are lent by `&mut`, so no two overlap.
+    unsafe { raw::snapshot_node_begin_update(record.as_mut_ptr(), record.len(), report, at, room, length) }
+}
+
+/// Begins a scan at the node, likewise. Refusals: 12, 2, 5, 6.
+#[inline]
+pub fn node_begin_scan(record: &mut [u8], out: &mut [u8], length: &mut usize) -> u8 {
+    let (at, room) = (out.as_mut_ptr(), out.len());
+    // SAFETY: each pointer with the length of its own slice; all are lent by `&mut`, so no two overlap.
+    unsafe { raw::snapshot_node_begin_scan(record.as_mut_ptr(), record.len(), at, room, length) }
+}
+
+/// Handles a message from node `sender`; the messages to send go to the front of `out`, their length to `length`, and
+/// the view of a scan that ends to `view`: n entries, then zeros. Refusals: 12, 2, 3, 7, 9.
+#[inline]
+pub fn node_message(
+    record: &mut [u8],
+    sender: usize,
+    bytes: &[u8],
+    out: &mut [u8],
+    length: &mut usize,
+    view: &mut [u8; VIEW],
+) -> u8 {
+    let (held, held_len) = (record.as_mut_ptr(), record.len());
+    let (at, room) = (out.as_mut_ptr(), out.len());
+    // SAFETY: each pointer with the length of its own slice; all but the message's bytes are lent by `&mut`, so no two
+    // overlap.
+    unsafe { raw::snapshot_node_message(held, held_len, sender, bytes.as_ptr(), bytes.len(), at, room, length, view) }
+}
+
+/// The message at the front of an output: its length goes to `length`, and to `route` 0 where it goes to all nodes 1 to
+/// n in turn, 1 where it goes to the sender of the message handled. Refusals: 1, 7.
+#[inline]
+pub fn next(n: usize, bytes: &[u8], length: &mut usize, route: &mut u8) -> u8 {
+    // SAFETY: pointer and length of one slice; the two numbers are lent by `&mut`, so they are apart from it and from
+    // each other.
+    unsafe { raw::snapshot_next(n, bytes.as_ptr(), bytes.len(), length, route) }
+}

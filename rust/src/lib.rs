@@ -1,0 +1,91 @@
+//! The proved atomic snapshot for Rust: an exchange of up to sixteen nodes posts reports, and a scan shows all of them
+//! together, never one node's present with another's past, although messages arrive in any order and some nodes may
+//! stop for good. What is proved, and of what, is in the project's README; this crate calls that code, which
+//! `rt staticlib snapshot` builds, and needs no `unsafe` of its users.
+//!
+//! - [`Node`] is one node, for nodes that are apart: the caller's links carry the messages of its [`Output`].
+//! - [`Cluster`] is all nodes and the channels between them in one run of bytes.
+//! - [`Message`], [`View`], [`Report`] and [`figures`] read and write what crosses.
+//! - [`lent`] has the calls one by one, on lent bytes.
+//!
+//! Every call takes any numbers and any bytes, and gives its result or one [`Refusal`], which leaves all as it was.
+//!
+//! The session of document 01, on a cluster of one: an update, eleven deliveries, a scan, six deliveries.
+//!
+//! ```
+//! use snapshot::{Cluster, Ending, Extent, Operation, Refusal, Report};
+//!
+//! let mut cluster = Cluster::fresh(1)?;
+//! let report = Report { extensions: 1, lines: 2, waiting: 3, wakeups: 4 };
+//! let mut told = Vec::new();
+//! for event in 1..=19 {
+//!     let ending = match event {
+//!         1 => cluster.begin(1, Operation::Update(report), Extent::Whole).map(|()| None),
+//!         13 => cluster.begin(1, Operation::Scan, Extent::Whole).map(|()| None),
+//!         _ => cluster.deliver(1, 1, Extent::Whole),
+//!     };
+//!     match ending {
+//!         Ok(None) => (),
+//!         Ok(Some(Ending::Done(_))) => told.push(format!("{event} done 1")),
+//!         Ok(Some(Ending::Spent)) => told.push(format!("{event} spent 1")),
+//!         Ok(Some(Ending::Scan(_, view))) => {
+//!             let shown = view.entry(1).unwrap().report;
+//!             assert_eq!(shown, report);
+//!             told.push(format!("{event} scan 1 {:016x}", u64::from_be_bytes(shown.to_bytes())));
+//!         }
+//!         Err(refusal) => told.push(format!("{event} no {}", refusal.number())),
+//!     }
+//! }
+//! assert_eq!(told, ["11 done 1", "17 scan 1 0001000200030004", "19 no 8"]);
+//! # Ok::<(), Refusal>(())
+//! ```
+//!
+//! # What the links owe
+//!
+//! The proofs are of nodes whose links keep these rules. Who runs a [`Node`] on links of their own owes them:
+//!
+//! 1. A link, one from each node to each, loses no message, repeats none, alters none and keeps their order. It may be
+//!    as slow as it likes, and which link hands over next is free.
+//! 2. The messages of an output are sent in their order: message k goes to all that it goes to before message k + 1
+//!    goes to any. So a node that stops while it sends has sent a first part of its list.
+//! 3. A node gets its own messages too: what goes to all goes to nodes 1 to n in turn, the sender among them.
+//! 4. All messages of an output are sent before the node's next call, and before an ending that came with them is told.
+//! 5. A node never starts again from an older record, one that was saved before later messages went out, nor from a
+//!    fresh one: the others would hear it contradict itself. If its newest record is lost, it has stopped.
+//! 6. All nodes have the same n and each its own number, and each has started fresh.
+//!
+//! Fewer than half of the nodes may stop. While no more have, an operation at a node that stands ends, once the
+//! messages to all that stand are handed over.
+#![deny(missing_docs, missing_debug_implementations, unsafe_code)]
+
+mod cluster;
+#[allow(unsafe_code)]
+pub mod lent;
+mod message;
+mod node;
+mod operation;
+mod raw;
+mod refusal;
+mod view;
+
+pub use cluster::{Cluster, Extent};
+pub use message::Message;
+pub use node::{Messages, Node, Output, To};
+pub use operation::{Ending, Operation, Rule};
+pub use refusal::Refusal;
+pub use view::{figures, Entry, Figures, Report, View};
+
+/// The bytes of a node's record.
+pub const RECORD: usize = 3168;
+
+/// The bytes of an output: what one step sends never takes more.
+pub const OUTPUT: usize = 512;
+
+/// The bytes of the longest message, a good one of sixteen nodes.
+pub const LONGEST: usize = 274;
+
+/// The bytes of a view of sixteen nodes; one of n nodes has 16n.
+pub const VIEW: usize = 256;
+
+/// The bytes of a report.
+pub const REPORT: usize = 8;
