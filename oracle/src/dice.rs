@@ -25,6 +25,20 @@ impl Dice {
         self.below(1000) < in_thousand
     }
 
+    /// A place in a list, each as likely as its weight says; none where all weights are 0.
+    pub fn place(&mut self, weights: &[usize]) -> Option<usize> {
+        let total: usize = weights.iter().sum();
+        if total == 0 {
+            return None;
+        }
+        let left = self.below(total);
+        let mut passed = 0;
+        weights.iter().position(|weight| {
+            passed += weight;
+            left < passed
+        })
+    }
+
     pub fn pick<T: Clone>(&mut self, items: &[T]) -> T {
         items[self.below(items.len())].clone()
     }
