@@ -8,7 +8,8 @@ impl Dice {
         Dice(seed)
     }
 
-    pub fn next(&mut self) -> u64 {
+    /// A number of 64 bits.
+    pub fn number(&mut self) -> u64 {
         self.0 = self.0.wrapping_add(0x9e37_79b9_7f4a_7c15);
         let mut z = self.0;
         z = (z ^ (z >> 30)).wrapping_mul(0xbf58_476d_1ce4_e5b9);
@@ -18,7 +19,7 @@ impl Dice {
 
     /// A number from 0 to k − 1.
     pub fn below(&mut self, k: usize) -> usize {
-        (self.next() % k as u64) as usize
+        (self.number() % k as u64) as usize
     }
 
     pub fn chance(&mut self, in_thousand: usize) -> bool {

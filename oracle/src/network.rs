@@ -33,7 +33,7 @@ pub struct Happening {
 }
 
 impl Network {
-    /// A network of nodes that are fresh or, all of them, old: near the last tag, and each near its last request number.
+    /// A network of nodes that are fresh or, all of them, old: near the last tag, each near its last request number.
     pub fn draw(mut dice: Dice) -> Network {
         let n = dice.pick(&[1, 2, 2, 3, 3, 3, 4, 4, 5, 5, 5, 6, 7, 8, 9, 11, 13, 15, NODES]);
         let old = dice.chance(400);
@@ -128,7 +128,7 @@ impl Network {
         if !ready.is_empty() && begins {
             let node = self.dice.pick(&ready);
             let update = self.dice.chance(self.habits.updates);
-            let operation = if update { Operation::Update(self.dice.next()) } else { Operation::Scan };
+            let operation = if update { Operation::Update(self.dice.number()) } else { Operation::Scan };
             let extent = self.extent(stoppable, |network| network.begun(node, operation).1);
             return Some(Event::Begin { node, operation, extent });
         }

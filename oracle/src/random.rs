@@ -112,7 +112,7 @@ impl Maker {
         match self.dice.below(10) {
             0 => 0,
             1 => self.dice.below(3) as Report,
-            _ => self.dice.next(),
+            _ => self.dice.number(),
         }
     }
 

@@ -209,10 +209,11 @@ impl Record {
             }
             Message::Good { .. } => (),
             Message::ReadAnswer { request, tag } => match &mut self.wait {
-                Some(Wait::Reading { answered, largest, .. }) if request == self.request => {
-                    if answered.insert(sender) {
-                        *largest = tag.max(*largest);
-                    }
+                Some(Wait::Reading { answered, largest, .. })
+                    if request == self.request && !answered.contains(&sender) =>
+                {
+                    answered.insert(sender);
+                    *largest = tag.max(*largest);
                 }
                 _ => (),
             },
@@ -308,8 +309,8 @@ impl Record {
         self.wait = Some(Wait::Writing { kind, round, tag, answered: BTreeSet::new() });
     }
 
-    /// "A cabinet agrees when, for each writer, it has sent the report held for r or a later one; the own cabinet always
-    /// agrees."
+    /// "A cabinet agrees when, for each writer, it has sent the report held for r or a later one; the own cabinet
+    /// always agrees."
     fn quorum_agrees(&self) -> bool {
         let has_sent = |node, writer| self.heard(node, writer) >= tag_of(&self.at_round, writer);
         let agrees = |&node: &NodeId| node == self.own || (1..=self.n).all(|writer| has_sent(node, writer));
