@@ -159,7 +159,7 @@ impl Network {
     fn pick(&mut self, waiting: &[(NodeId, NodeId)]) -> Option<(NodeId, NodeId)> {
         let weights: Vec<usize> = waiting.iter().map(|&(from, to)| self.weather.weight(from, to)).collect();
         let mut picked = None;
-        for _ in 0..20 {
+        for _ in 0..60 {
             let place = self.dice.place(&weights);
             // Only starved links have messages: then any of them.
             let place = place.or_else(|| (!waiting.is_empty()).then(|| self.dice.below(waiting.len())));

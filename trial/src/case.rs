@@ -1,9 +1,9 @@
 //! One call with all that is lent to it, made on both sides: by the proved code, and by the oracle's record.
 
+use crate::chance::noise;
 use crate::stored;
 use oracle::cluster::Refusal;
 use oracle::dice::Dice;
-use oracle::message::Report;
 use oracle::node::{Ending, Operation, Rule, Step, To};
 use oracle::record::{Fault, Record, BAD_LENGTH, BAD_NUMBER, LEAST_OUTPUT, NODES, NOT_OF_THE_LAYOUT, UNUSABLE};
 use oracle::wire;
@@ -216,21 +216,5 @@ pub fn compare_next(dice: &mut Dice, n: usize, bytes: &[u8]) -> Result<u8, Strin
         Ok(code)
     } else {
         Err(format!("next {n} {bytes:02x?}: {:?}, expected {expected:?}", (code, length, route)))
-    }
-}
-
-/// So many bytes of anything.
-pub fn noise(dice: &mut Dice, size: usize) -> Vec<u8> {
-    let mut bytes: Vec<u8> = (0..size.div_ceil(8)).flat_map(|_| dice.number().to_be_bytes()).collect();
-    bytes.truncate(size);
-    bytes
-}
-
-/// A report by chance: zero, with a single bit, or any.
-pub fn report(dice: &mut Dice) -> Report {
-    match dice.below(4) {
-        0 => 0,
-        1 => 1 << dice.below(64),
-        _ => dice.number(),
     }
 }

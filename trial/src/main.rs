@@ -5,6 +5,7 @@
 //! `trial [CASES [SEED]]`
 
 mod case;
+mod chance;
 mod limits;
 mod messages;
 mod records;
@@ -14,6 +15,7 @@ mod tally;
 mod throw;
 
 use oracle::dice::Dice;
+use snapshot::lent;
 use std::env;
 use std::process::ExitCode;
 use throw::Trial;
@@ -31,6 +33,10 @@ fn main() -> ExitCode {
             return ExitCode::FAILURE;
         }
     };
+    if lent::node_size() != stored::SIZE {
+        println!("a record has {} bytes, expected {}", lent::node_size(), stored::SIZE);
+        return ExitCode::FAILURE;
+    }
     let mut trial = Trial::new(Dice::new(seed));
     while trial.cases < cases {
         run::network(&mut trial);

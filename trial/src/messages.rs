@@ -1,7 +1,7 @@
 //! Messages by chance: such as fit a record, and damaged ones.
 
-use crate::case::{noise, report};
-use crate::records::{extreme, near, nodes};
+use crate::chance::{extreme, near, noise, report};
+use crate::records::nodes;
 use crate::stored::{entry, heard, Words, KEPT, LAST, MAX_TAG, REQUEST, TAG};
 use oracle::dice::Dice;
 use oracle::message::{Message, NodeId, Tag, Value};

@@ -1,10 +1,10 @@
 //! Records that no run has left: usable ones with any contents, and damaged ones, most of them only just wrong or only
 //! just not.
 
-use crate::case::{noise, report};
+use crate::chance::{extreme, near, report};
 use crate::stored::{
-    self, entry, heard, Words, ANSWERED, AT_MAX, AT_ROUND, BORROWING, CODE, COMPARING, IDLE, KEPT, KEPT_VIEW, KIND,
-    LARGEST, LAST, MAX_TAG, N, OWN, READING, REPORT, REQUEST, ROUND, SIZE, TAG, WORDS, WRITING,
+    entry, heard, Words, ANSWERED, AT_MAX, AT_ROUND, BORROWING, CODE, COMPARING, IDLE, KEPT, KEPT_VIEW, KIND, LARGEST,
+    LAST, MAX_TAG, N, OWN, READING, REPORT, REQUEST, ROUND, TAG, WORDS, WRITING,
 };
 use oracle::dice::Dice;
 use oracle::message::{Tag, LIMIT};
@@ -13,16 +13,6 @@ use oracle::record::NODES;
 /// Bits that a narrower number would lose.
 const WIDE: u64 = 1 << 8;
 const WIDER: u64 = 1 << 32;
-
-/// A number, the one before it or the one after it.
-pub fn near(dice: &mut Dice, number: u64) -> u64 {
-    number.wrapping_add(dice.pick(&[0, 1, u64::MAX]))
-}
-
-/// A number at one end of what there is.
-pub fn extreme(dice: &mut Dice) -> u64 {
-    dice.pick(&[0, 1, LIMIT - 1, LIMIT, LIMIT + 1, u64::MAX])
-}
 
 /// The most nodes that the tables have place for, or as many as the record says.
 pub fn nodes(words: &Words) -> usize {
@@ -79,25 +69,24 @@ fn put_report(
     (words[place], words[place + 1]) = (tag, if tag == 0 { 0 } else { report(dice) });
 }
 
-/// Bytes that are no record, or one only by their first words.
-pub fn wild(dice: &mut Dice) -> Vec<u8> {
+/// What is no record, or one only by its first words.
+pub fn wild(dice: &mut Dice) -> Words {
+    let mut words = [0; WORDS].map(|_| dice.number());
     match dice.below(5) {
-        0 => vec![dice.pick(&[0, 1, 0x7f, 0xff]); SIZE],
-        1 => noise(dice, SIZE),
+        0 => words = [dice.pick(&[0, 1, LIMIT, u64::MAX]); WORDS],
+        1 => (),
         // Any tags at all, but for the bounds.
         kind => {
-            let mut words = stored::words(&noise(dice, SIZE)).expect("noise of a record's size");
             let n = 1 + dice.below(NODES);
             (words[N], words[OWN]) = (n as u64, 1 + dice.below(n) as u64);
             words[CODE..].iter_mut().for_each(|word| *word &= LIMIT);
-            (words[MAX_TAG], words[KEPT], words[REQUEST]) = (LIMIT, LIMIT, LIMIT - 9);
-            words[CODE] = IDLE;
+            (words[MAX_TAG], words[KEPT], words[REQUEST], words[CODE]) = (LIMIT, LIMIT, LIMIT - 9, IDLE);
             if kind > 2 {
                 set_wait(dice, &mut words);
             }
-            stored::bytes(&words)
         }
     }
+    words
 }
 
 /// Another wait, with numbers that leave a usable record usable; now and then also what makes its quorum agree.

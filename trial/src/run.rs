@@ -3,8 +3,9 @@
 
 use crate::case::{Call, Case};
 use crate::stored::{self, SIZE};
+use crate::tally::CUT_HALFWAY;
 use crate::throw::Trial;
-use oracle::cluster::{Accepted, Event};
+use oracle::cluster::{entries, Accepted, Event};
 use oracle::dice::Dice;
 use oracle::message::{Message, NodeId};
 use oracle::network::{Happening, Network};
@@ -34,6 +35,9 @@ pub fn network(trial: &mut Trial) {
         if step(trial, &network, &mut nodes, &happening).is_none() {
             return;
         }
+        if is_cut_halfway(n, &happening) {
+            trial.tally.count(CUT_HALFWAY);
+        }
         let ending = if happening.event.stops() { None } else { happening.step.ending };
         let accepted = Accepted { ending, let_out: happening.let_out };
         played.push(Played { number, event: Some(happening.event), outcome: Ok(accepted) });
@@ -45,6 +49,12 @@ pub fn network(trial: &mut Trial) {
     let order = order::check(n, &played).map_err(|why| format!("the order of a network: {why}"));
     trial.keep(order);
     trial.tally.count(format!("networks of {n:>2} nodes"));
+}
+
+/// Whether the node stopped when some of its list was let out, and not all.
+fn is_cut_halfway(n: usize, happening: &Happening) -> bool {
+    let all = entries(n, happening.step.sent.clone()).len();
+    (1..all).contains(&happening.let_out.len())
 }
 
 /// The network's nodes as it starts.

@@ -155,3 +155,22 @@ pub fn write(record: &Record) -> Words {
     }
     words
 }
+
+#[cfg(test)]
+mod tests {
+    use super::*;
+    use crate::records::crowded;
+    use oracle::dice::Dice;
+
+    /// What stands for nothing is zero in the words of a record, so the first reading takes it away.
+    #[test]
+    fn a_record_is_read_back_from_its_words() {
+        let mut dice = Dice::new(1);
+        for _ in 0..1000 {
+            let record = read(&crowded(&mut dice)).expect("crowded records have a wait");
+            assert_eq!(record.judge(), Ok(()));
+            let kept = bytes(&write(&record));
+            assert_eq!((kept.len(), words(&kept).and_then(|words| read(&words))), (3168, Some(record)));
+        }
+    }
+}

@@ -12,6 +12,9 @@ const ENDINGS: [u8; 10] = [0, 13, 100, 101, 102, 103, 110, 111, 112, 113];
 
 const NO_RECORD: &str = "unusable: no such wait or kind";
 
+/// A node of a network stopped halfway through a list.
+pub const CUT_HALFWAY: &str = "run: cut halfway";
+
 #[derive(Default)]
 pub struct Tally {
     counts: BTreeMap<String, usize>,
@@ -102,7 +105,7 @@ fn needed() -> Vec<String> {
         codes("next", &[0, 1, 7]),
         codes("run", &ENDINGS),
         faults.map(alone).to_vec(),
-        vec![NO_RECORD.to_string()],
+        vec![NO_RECORD.to_string(), CUT_HALFWAY.to_string()],
         LIMITED.map(just_at).to_vec(),
         LIMITED.map(just_past).to_vec(),
         waits.iter().map(|(wait, _)| just_enough(wait)).collect(),

@@ -1,8 +1,9 @@
 //! Throws cases: each starts from a record and a message of a run, or from made ones, and most are damaged.
 
-use crate::case::{compare_fresh, compare_next, report, Agreed, Call, Case};
+use crate::case::{compare_fresh, compare_next, Agreed, Call, Case};
+use crate::chance::report;
 use crate::records::{crowded, nodes, set_wait, wild};
-use crate::stored::{self, Words, SIZE};
+use crate::stored::{self, Words, CODE, IDLE, SIZE};
 use crate::tally::Tally;
 use crate::{messages, records};
 use oracle::dice::Dice;
@@ -35,7 +36,7 @@ impl Trial {
     /// One more case. Of a difference its number is told besides.
     pub fn keep<T>(&mut self, result: Result<T, String>) -> Option<T> {
         self.cases += 1;
-        if self.cases % PROGRESS == 0 {
+        if self.cases.is_multiple_of(PROGRESS) {
             eprintln!("{} cases", self.cases);
         }
         if let Err(difference) = &result {
@@ -67,7 +68,8 @@ impl Trial {
     pub fn throw(&mut self, record: &[u8], waiting: &[(usize, Message)]) {
         match self.dice.below(100) {
             0 | 1 => {
-                let n = self.dice.pick(&[0, 1, 2, 5, NODES, NODES + 1, 1 << 32, usize::MAX]);
+                let any = self.dice.below(NODES + 2);
+                let n = self.dice.pick(&[any, any, any, NODES, NODES + 1, 256 + any, (1 << 32) + any, usize::MAX]);
                 let own = self.dice.pick(&[0, 1, n / 2, n, n.wrapping_add(1), usize::MAX]);
                 let size = self.record_size();
                 self.fresh(n, own, size);
@@ -94,38 +96,32 @@ impl Trial {
     }
 
     fn throw_call(&mut self, record: &[u8], waiting: &[(usize, Message)]) {
-        let dice = &mut self.dice;
-        let wild = dice.chance(40).then(|| wild(dice));
-        let mut words = match &wild {
-            Some(bytes) => stored::words(bytes).expect("wild bytes are as many as a record's"),
-            None => self.base(record),
-        };
-        let dice = &mut self.dice;
-        let call = if dice.chance(200) {
-            // A begin is for an idle record, mostly.
-            if dice.chance(700) {
-                words[stored::CODE] = stored::IDLE;
-            }
-            Call::Begin(if dice.chance(500) { Operation::Scan } else { Operation::Update(report(dice)) })
+        let mut words = if self.dice.chance(40) { wild(&mut self.dice) } else { self.base(record) };
+        let call = if self.dice.chance(200) {
+            self.begin(&mut words)
         } else {
-            let n = nodes(&words);
+            let (n, dice) = (nodes(&words), &mut self.dice);
             let any = [0, n + 1, NODES, NODES + 1, 256 + 1, (1 << 32) + 1, usize::MAX];
             let sender = if dice.chance(950) { 1 + dice.below(n) } else { dice.pick(&any) };
             let (sender, bytes) = self.message(&words, sender, waiting);
             Call::Message { sender, bytes }
         };
-        let dice = &mut self.dice;
-        for _ in 0..dice.pick(&[0, 0, 1, 1, 1, 1, 2, 4]) {
-            records::damage(dice, &mut words);
+        for _ in 0..self.dice.pick(&[0, 0, 1, 1, 1, 1, 2, 4]) {
+            records::damage(&mut self.dice, &mut words);
         }
         let mut record = stored::bytes(&words);
-        let size = self.record_size();
-        let dice = &mut self.dice;
-        record.resize(size, dice.number() as u8);
-        let any = dice.below(2 * LEAST_OUTPUT);
-        let output = dice.pick(&[512, 512, 512, 512, 512, 512, 512, 513, 600, 1000, 511, any]);
-        let output = if output < LEAST_OUTPUT && dice.chance(700) { LEAST_OUTPUT } else { output };
+        record.resize(self.record_size(), self.dice.number() as u8);
+        let output = self.output_size();
         self.call(&Case { record, call, output });
+    }
+
+    /// A begin, mostly at an idle node.
+    fn begin(&mut self, words: &mut Words) -> Call {
+        let dice = &mut self.dice;
+        if dice.chance(700) {
+            words[CODE] = IDLE;
+        }
+        Call::Begin(if dice.chance(500) { Operation::Scan } else { Operation::Update(report(dice)) })
     }
 
     /// Where a case starts: the record of the run, as it is or in another wait, or a crowded one.
@@ -162,6 +158,16 @@ impl Trial {
         match self.dice.below(50) {
             0 => self.dice.pick(&[0, 1, SIZE - 8, SIZE - 1, SIZE + 1, SIZE + 8, 2 * SIZE, any]),
             _ => SIZE,
+        }
+    }
+
+    /// The bytes lent for an output: mostly enough.
+    fn output_size(&mut self) -> usize {
+        let any = self.dice.below(2 * LEAST_OUTPUT);
+        match self.dice.below(20) {
+            0 => self.dice.pick(&[0, 1, LEAST_OUTPUT - 1, LEAST_OUTPUT - 1, any]),
+            1..=4 => self.dice.pick(&[LEAST_OUTPUT + 1, LEAST_OUTPUT + any]),
+            _ => LEAST_OUTPUT,
         }
     }
 }
