@@ -281,7 +281,7 @@ impl Record {
                     self.after_round(kind, round, tag, step);
                 }
                 Wait::Borrowing { kind, tag } if self.kept >= tag => {
-                    step.ending = Some(ended(kind, Rule::Borrowed, self.shown(&self.kept_view)));
+                    self.end(ended(kind, Rule::Borrowed, self.shown(&self.kept_view)), step);
                 }
                 wait => {
                     self.wait = Some(wait);
@@ -294,7 +294,7 @@ impl Record {
     fn after_read(&mut self, operation: Operation, tag: Tag, step: &mut Step) {
         match operation {
             Operation::Scan => self.open_round(Kind::Scan, 1, tag, step),
-            Operation::Update(_) if tag == LIMIT => step.ending = Some(Ending::Spent),
+            Operation::Update(_) if tag == LIMIT => self.end(Ending::Spent, step),
             Operation::Update(report) => {
                 step.send(To::All, Message::Value(Value { tag: tag + 1, writer: self.own, report }));
                 self.open_round(Kind::Update, 0, tag, step);
@@ -327,10 +327,17 @@ impl Record {
         }
         match round {
             0 => self.open_round(kind, 1, self.max_tag.max(tag + 1), step),
-            _ if good => step.ending = Some(ended(kind, Rule::Round(round as u8), view)),
+            _ if good => self.end(ended(kind, Rule::Round(round as u8), view), step),
             3 => self.wait = Some(Wait::Borrowing { kind, tag }),
             _ => self.open_round(kind, round + 1, self.max_tag, step),
         }
+    }
+
+    /// The operation has ended, and nothing is held for a round. From fresh nothing is then; but a record whose wait has
+    /// no round may hold something there, and document 01 does not say what becomes of it.
+    fn end(&mut self, ending: Ending, step: &mut Step) {
+        self.at_round.clear();
+        step.ending = Some(ending);
     }
 
     /// What is given out of reports held: the first n places.
