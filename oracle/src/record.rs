@@ -333,8 +333,8 @@ impl Record {
         }
     }
 
-    /// The operation has ended, and nothing is held for a round. From fresh nothing is then; but a record whose wait has
-    /// no round may hold something there, and document 01 does not say what becomes of it.
+    /// The operation has ended, and nothing is held for a round any more. In a run nothing is held in a wait without a
+    /// round; of a record that holds something there all the same document 01 does not say what becomes of it.
     fn end(&mut self, ending: Ending, step: &mut Step) {
         self.at_round.clear();
         step.ending = Some(ending);
