@@ -11,7 +11,7 @@ use std::collections::VecDeque;
 pub const CAPACITY: usize = 16;
 
 /// An operation needs at most this many request numbers.
-const REQUESTS: u64 = 5;
+pub const REQUESTS: u64 = 5;
 
 /// How much of a step's list an event lets out: all, or its first entries, after which the node stops.
 #[derive(Clone, Copy, Debug, PartialEq, Eq)]
@@ -189,7 +189,7 @@ impl Cluster {
     }
 }
 
-fn demand(condition: bool, refusal: Refusal) -> Result<(), Refusal> {
+pub(crate) fn demand(condition: bool, refusal: Refusal) -> Result<(), Refusal> {
     if condition {
         Ok(())
     } else {
@@ -198,7 +198,7 @@ fn demand(condition: bool, refusal: Refusal) -> Result<(), Refusal> {
 }
 
 /// The entries of a list of messages: an answer is one, any other message is one to each node in turn.
-fn entries(n: usize, sent: Vec<(To, Message)>) -> Vec<(NodeId, Message)> {
+pub fn entries(n: usize, sent: Vec<(To, Message)>) -> Vec<(NodeId, Message)> {
     let mut entries = vec![];
     for (to, message) in sent {
         match to {

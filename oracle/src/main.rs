@@ -1,24 +1,7 @@
-//! The oracle: Algorithm 1 with document 01's amendments over sets that never forget, run from session text. It shares
-//! no code and no layout with the proved crates, so that agreement with them says something.
+//! The oracle as a program.
 
-mod cluster;
-mod dice;
-mod feed;
-mod habits;
-mod message;
-mod node;
-mod oddities;
-mod order;
-mod picture;
-mod random;
-mod session;
-mod stats;
-mod text;
-
-#[cfg(test)]
-mod tests;
-
-use session::Played;
+use oracle::session::Played;
+use oracle::{feed, order, picture, random, session, stats, text};
 use std::env;
 use std::io::{self, BufWriter, Read, Write};
 use std::process::{Command, ExitCode};

@@ -33,3 +33,10 @@ pub enum Message {
     Value(Value),
     Good { tag: Tag, view: View },
 }
+
+impl Message {
+    /// An answer goes to the sender of the message handled, every other kind to all.
+    pub fn is_answer(&self) -> bool {
+        matches!(self, Message::ReadAnswer { .. } | Message::WriteAnswer { .. })
+    }
+}

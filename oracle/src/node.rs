@@ -51,14 +51,14 @@ pub enum To {
 }
 
 /// What a step produces: messages in order, and perhaps the ending of the open operation.
-#[derive(Debug, Default)]
+#[derive(Debug, Default, PartialEq, Eq)]
 pub struct Step {
     pub sent: Vec<(To, Message)>,
     pub ending: Option<Ending>,
 }
 
 impl Step {
-    fn send(&mut self, to: To, message: Message) {
+    pub(crate) fn send(&mut self, to: To, message: Message) {
         self.sent.push((to, message));
     }
 }
@@ -85,6 +85,11 @@ impl Node {
     pub fn fresh(id: NodeId, n: usize) -> Node {
         let quorum = n - (n - 1) / 2;
         Node { id, n, quorum, values: vec![BTreeSet::new(); n + 1], max_tag: 0, goods: vec![], request: 0, open: None }
+    }
+
+    /// A node without a report that has come to this max_tag and has used these request numbers.
+    pub fn old(id: NodeId, n: usize, max_tag: Tag, request: u64) -> Node {
+        Node { max_tag, request, ..Node::fresh(id, n) }
     }
 
     pub fn is_idle(&self) -> bool {
@@ -241,7 +246,7 @@ impl Node {
     }
 
     /// Lines 31 to 34: of each writer the newest value up to the tag.
-    fn extract(&self, tag: Tag) -> View {
+    pub(crate) fn extract(&self, tag: Tag) -> View {
         let mut view = vec![None; self.n];
         // Ascending in tag, so the newest is stored last.
         for value in self.up_to(self.id, tag) {

@@ -23,7 +23,7 @@ pub fn bad_line(dice: &mut Dice) -> Vec<u8> {
         "u 1 0000000000000000 cut ",
     ];
     match dice.below(12) {
-        0 => (0..1 + dice.below(60)).map(|_| dice.next() as u8).filter(|&byte| byte != b'\n').collect(),
+        0 => (0..1 + dice.below(60)).map(|_| dice.number() as u8).filter(|&byte| byte != b'\n').collect(),
         1 => vec![b'1'; dice.pick(&[32, 39, 40, 41, 42, 500])],
         2 => format!("u 1 {}", "0".repeat(dice.pick(&[15, 17, 36, 37]))).into_bytes(),
         _ => dice.pick(&BAD).as_bytes().to_vec(),

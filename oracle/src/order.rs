@@ -129,9 +129,9 @@ fn belongs(op: &Op, ops: &[Op]) -> bool {
     }
 }
 
-/// The sum of a view's tags. Views that grow have growing sums.
-fn size(view: &View) -> Tag {
-    view.iter().flatten().map(|shown| shown.0).sum()
+/// The sum of a view's tags, wide enough for tags near their limit. Views that grow have growing sums.
+fn size(view: &View) -> u128 {
+    view.iter().flatten().map(|shown| u128::from(shown.0)).sum()
 }
 
 /// The single line, as places in the list of operations. Scans stand by the size of their views, equal ones by their

@@ -112,32 +112,25 @@ impl Maker {
         match self.dice.below(10) {
             0 => 0,
             1 => self.dice.below(3) as Report,
-            _ => self.dice.next(),
+            _ => self.dice.number(),
         }
     }
 
     /// A channel on which something waits, as the weather has it.
     fn waiting_channel(&mut self) -> Option<(NodeId, NodeId)> {
-        let mut tickets = vec![];
-        for (from, to) in self.waiting() {
+        let waiting = self.waiting();
+        let mut weights = vec![];
+        for &(from, to) in &waiting {
             let spared = self.habits.victim == Some(to) && self.would_end_by_a_round(from, to);
-            tickets.push((if spared { 0 } else { self.weather.weight(from, to) }, (from, to)));
+            weights.push(if spared { 0 } else { self.weather.weight(from, to) });
         }
-        let total: usize = tickets.iter().map(|ticket| ticket.0).sum();
-        if total == 0 {
-            // Only starved channels have messages. Let them starve while there is something else to do, not for ever.
-            let busy = !self.calm && !self.idle().is_empty();
-            let starve = tickets.is_empty() || (busy && self.dice.chance(700));
-            return if starve { None } else { Some(self.dice.pick(&tickets).1) };
+        if let Some(place) = self.dice.place(&weights) {
+            return Some(waiting[place]);
         }
-        let mut left = self.dice.below(total);
-        for (weight, channel) in tickets {
-            if left < weight {
-                return Some(channel);
-            }
-            left -= weight;
-        }
-        None
+        // Only starved channels have messages. Let them starve while there is something else to do, not for ever.
+        let busy = !self.calm && !self.idle().is_empty();
+        let starve = waiting.is_empty() || (busy && self.dice.chance(700));
+        (!starve).then(|| self.dice.pick(&waiting))
     }
 
     /// The channels on which something waits.

@@ -1,0 +1,220 @@
+//! One call with all that is lent to it, made on both sides: by the proved code, and by the oracle's record.
+
+use crate::chance::noise;
+use crate::stored;
+use oracle::cluster::Refusal;
+use oracle::dice::Dice;
+use oracle::node::{Ending, Operation, Rule, Step, To};
+use oracle::record::{Fault, Record, BAD_LENGTH, BAD_NUMBER, LEAST_OUTPUT, NODES, NOT_OF_THE_LAYOUT, UNUSABLE};
+use oracle::wire;
+use snapshot::{lent, VIEW};
+use std::fmt::Write;
+
+/// A begin or a message at a node.
+#[derive(Clone, Debug)]
+pub enum Call {
+    Begin(Operation),
+    Message { sender: usize, bytes: Vec<u8> },
+}
+
+/// A call on a record, with so many bytes for its output.
+pub struct Case {
+    pub record: Vec<u8>,
+    pub call: Call,
+    pub output: usize,
+}
+
+/// The code of a call, and what it left of everything lent.
+#[derive(Clone, PartialEq, Eq)]
+struct Left {
+    code: u8,
+    record: Vec<u8>,
+    out: Vec<u8>,
+    length: usize,
+    view: [u8; VIEW],
+}
+
+/// What both sides gave.
+pub struct Agreed {
+    pub code: u8,
+    pub record: Vec<u8>,
+    /// The oracle's step, where the call was not refused.
+    pub step: Option<Step>,
+    /// The record before, where its bytes are one, and the clauses by which it is unusable.
+    pub before: Option<(Record, Vec<Fault>)>,
+}
+
+impl Case {
+    /// Makes the call on both sides, with anything in what is lent to be written, and compares all that is left.
+    pub fn compare(&self, dice: &mut Dice) -> Result<Agreed, String> {
+        let record = self.record.clone();
+        let mut view = [0; VIEW];
+        view.copy_from_slice(&noise(dice, VIEW));
+        let lent = Left { code: 0, record, out: noise(dice, self.output), length: dice.number() as usize, view };
+        let proved = self.proved(lent.clone());
+        let before = stored::words(&self.record).and_then(|words| stored::read(&words));
+        let (expected, step) = self.expected(lent, before.clone());
+        if proved != expected {
+            return Err(self.difference(&proved, &expected));
+        }
+        if let (Some(step), Some(record)) = (&step, &before) {
+            self.walk(record.n, step, &proved.out[..proved.length])?;
+        }
+        let before = before.map(|record| {
+            let faults = record.faults();
+            (record, faults)
+        });
+        Ok(Agreed { code: proved.code, record: proved.record, step, before })
+    }
+
+    fn proved(&self, mut lent: Left) -> Left {
+        let Left { code, record, out, length, view } = &mut lent;
+        *code = match &self.call {
+            Call::Begin(Operation::Update(report)) => {
+                lent::node_begin_update(record, &report.to_be_bytes(), out, length)
+            }
+            Call::Begin(Operation::Scan) => lent::node_begin_scan(record, out, length),
+            Call::Message { sender, bytes } => lent::node_message(record, *sender, bytes, out, length, view),
+        };
+        lent
+    }
+
+    /// The same by the oracle. A refusal changes nothing.
+    fn expected(&self, mut lent: Left, before: Option<Record>) -> (Left, Option<Step>) {
+        match self.oracle(before) {
+            Err(Refusal(number)) => {
+                lent.code = number;
+                (lent, None)
+            }
+            Ok((after, step)) => {
+                lent.code = code(&step.ending);
+                lent.record = stored::bytes(&stored::write(&after));
+                let sent: Vec<u8> = step.sent.iter().flat_map(|(_, message)| wire::write(message)).collect();
+                lent.out[..sent.len()].copy_from_slice(&sent);
+                lent.length = sent.len();
+                if let Some(Ending::Scan(_, view)) = &step.ending {
+                    let shown = wire::view_bytes(view);
+                    lent.view = [0; VIEW];
+                    lent.view[..shown.len()].copy_from_slice(&shown);
+                }
+                (lent, Some(step))
+            }
+        }
+    }
+
+    fn oracle(&self, before: Option<Record>) -> Result<(Record, Step), Refusal> {
+        if self.record.len() != stored::SIZE || self.output < LEAST_OUTPUT {
+            return Err(BAD_LENGTH);
+        }
+        let mut record = before.ok_or(UNUSABLE)?;
+        let step = match &self.call {
+            Call::Begin(operation) => record.begin(*operation, self.output)?,
+            Call::Message { sender, bytes } => record.message(*sender, bytes, self.output)?,
+        };
+        Ok((record, step))
+    }
+
+    /// The output is walked message by message: each is found with its length and with who gets it.
+    fn walk(&self, n: usize, step: &Step, mut rest: &[u8]) -> Result<(), String> {
+        for (to, message) in &step.sent {
+            let (mut length, mut route) = (0, 0);
+            let code = lent::next(n, rest, &mut length, &mut route);
+            let expected = (0, wire::write(message).len(), u8::from(*to != To::All));
+            if (code, length, route) != expected {
+                return Err(format!("walking an output: {:?}, not {expected:?}", (code, length, route)));
+            }
+            if let (To::One(receiver), Call::Message { sender, .. }) = (to, &self.call) {
+                assert_eq!(receiver, sender, "an answer goes to the sender of the message handled");
+            }
+            rest = &rest[length..];
+        }
+        if rest.is_empty() {
+            Ok(())
+        } else {
+            Err("walking an output: bytes are left over".to_string())
+        }
+    }
+
+    /// Tells of a case on which the two sides differ all that is needed to look into it.
+    fn difference(&self, proved: &Left, expected: &Left) -> String {
+        let mut text = format!("code {}, expected {}\n", proved.code, expected.code);
+        let mut tell = |name: &str, proved: &[u8], expected: &[u8]| {
+            if let Some(place) = (0..proved.len()).find(|&place| proved[place] != expected[place]) {
+                let (got, due) = (&proved[place & !7..], &expected[place & !7..]);
+                let first = |bytes: &[u8]| bytes[..bytes.len().min(8)].to_vec();
+                _ = writeln!(text, "{name}: at byte {place} {:02x?}, expected {:02x?}", first(got), first(due));
+            }
+        };
+        tell("record", &proved.record, &expected.record);
+        tell("out", &proved.out, &expected.out);
+        tell("view", &proved.view, &expected.view);
+        if proved.length != expected.length {
+            _ = writeln!(text, "length: {}, expected {}", proved.length, expected.length);
+        }
+        _ = writeln!(
+            text,
+            "call: {:?}, {} bytes for the record, {} for output",
+            self.call,
+            self.record.len(),
+            self.output
+        );
+        if let Some(words) = stored::words(&self.record) {
+            _ = writeln!(
+                text,
+                "head before: {:x?}\nrecord before: {:x?}",
+                &words[..=stored::REPORT],
+                stored::read(&words)
+            );
+        }
+        text
+    }
+}
+
+/// The code of a call at a node that was not refused.
+fn code(ending: &Option<Ending>) -> u8 {
+    let rule_code = |rule: &Rule| match rule {
+        Rule::Borrowed => 0,
+        Rule::Round(round) => *round,
+    };
+    match ending {
+        None => 0,
+        Some(Ending::Spent) => 13,
+        Some(Ending::Done(rule, _)) => 100 + rule_code(rule),
+        Some(Ending::Scan(rule, _)) => 110 + rule_code(rule),
+    }
+}
+
+/// A fresh record in so many bytes that hold anything before. Gives the code and what is left.
+pub fn compare_fresh(dice: &mut Dice, n: usize, own: usize, size: usize) -> Result<(u8, Vec<u8>), String> {
+    let mut record = noise(dice, size);
+    let expected = match Record::fresh(n, own) {
+        Err(Refusal(number)) => (number, record.clone()),
+        Ok(_) if size != stored::SIZE => (BAD_LENGTH.0, record.clone()),
+        Ok(fresh) => (0, stored::bytes(&stored::write(&fresh))),
+    };
+    let proved = (lent::node_fresh(n, own, &mut record), record);
+    if proved == expected {
+        Ok(proved)
+    } else {
+        Err(format!("fresh {n} {own} in {size} bytes: code {}, expected {}", proved.0, expected.0))
+    }
+}
+
+/// The message at the front of any bytes. Gives the code.
+pub fn compare_next(dice: &mut Dice, n: usize, bytes: &[u8]) -> Result<u8, String> {
+    let (mut length, mut route) = (dice.number() as usize, dice.number() as u8);
+    let expected = if !(1..=NODES).contains(&n) {
+        (BAD_NUMBER.0, length, route)
+    } else {
+        match wire::front(n, bytes) {
+            None => (NOT_OF_THE_LAYOUT.0, length, route),
+            Some((message, length)) => (0, length, u8::from(message.is_answer())),
+        }
+    };
+    let code = lent::next(n, bytes, &mut length, &mut route);
+    if (code, length, route) == expected {
+        Ok(code)
+    } else {
+        Err(format!("next {n} {bytes:02x?}: {:?}, expected {expected:?}", (code, length, route)))
+    }
+}
