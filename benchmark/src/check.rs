@@ -10,7 +10,7 @@ fn odd_number(dice: &mut Dice) -> u64 {
     const TOP: u64 = i64::MAX as u64;
     let near = [0, 1, 2, 3, 4, 5, 16, 17, 255, 256, TOP - 5, TOP - 4, TOP - 1, TOP, TOP + 1, u64::MAX];
     match dice.below(3) {
-        0 => dice.next() >> dice.below(64),
+        0 => dice.number() >> dice.below(64),
         _ => near[dice.below(near.len())],
     }
 }
@@ -29,7 +29,7 @@ fn some_event(dice: &mut Dice, n: usize, habits: &Habits, b: &[u8]) -> Event {
     let cut = dice.chance(habits.stops).then(|| if odd { odd_number(dice) as usize } else { dice.below(40) });
     if dice.chance(habits.begins) {
         return match dice.below(2) {
-            0 => Event::Update { node: node(dice), report: (dice.next() >> dice.below(64)).to_be_bytes(), cut },
+            0 => Event::Update { node: node(dice), report: (dice.number() >> dice.below(64)).to_be_bytes(), cut },
             _ => Event::Scan { node: node(dice), cut },
         };
     }
@@ -68,9 +68,9 @@ fn damage_record(dice: &mut Dice, n: usize, record: &mut [u8]) {
             // A report past n, often one that refusal 2 lets pass: no view may show it.
             let entry = 2144 + 256 * dice.below(4) + 16 * (n + dice.below(16 - n));
             put_word(record, entry, dice.below(3) as u64);
-            put_word(record, entry + 8, dice.next());
+            put_word(record, entry + 8, dice.number());
         }
-        _ => record[dice.below(3168)] = dice.next() as u8,
+        _ => record[dice.below(3168)] = dice.number() as u8,
     }
 }
 
@@ -82,14 +82,14 @@ fn damage(dice: &mut Dice, n: usize, b: &mut [u8]) {
         0..=7 => damage_record(dice, n, &mut b[block + 1..block + 3169]),
         8 => b[block] = dice.below(3) as u8,
         9 => b[channel] = dice.below(18) as u8,
-        10 => b[channel + 1] = dice.next() as u8,
+        10 => b[channel + 1] = dice.number() as u8,
         11 => {
             let slot = channel + 2 + 274 * (b[channel + 1] as usize % 16);
             b[slot + dice.below(34)] = dice.below(9) as u8;
         }
         _ => {
             let at = dice.below(b.len());
-            b[at] = dice.next() as u8;
+            b[at] = dice.number() as u8;
         }
     }
 }
@@ -155,7 +155,7 @@ fn session(n: usize, seed: u64, events: usize, damaged: bool, tally: &mut Tally)
         begins: 20 + dice.below(200),
         stops: dice.below(3),
     };
-    let mut pair = Pair::new((0..Proved::size(n)).map(|_| dice.next() as u8).collect());
+    let mut pair = Pair::new((0..Proved::size(n)).map(|_| dice.number() as u8).collect());
     tally[pair.fresh(n) as usize] += 1;
     if dice.chance(250) {
         for block in (0..n).map(|i| 1 + 73345 * i) {
@@ -187,7 +187,7 @@ fn strange_bytes(seed: u64, tally: &mut Tally) {
     let habits = Habits { sender: 0, receiver: 0, begins: 300, stops: 100 };
     for n in 0..=18 {
         for len in [0, 1, 2, 100, 73345, 73346, 73347, Proved::size(n)] {
-            let mut pair = Pair::new((0..len).map(|_| dice.next() as u8).collect());
+            let mut pair = Pair::new((0..len).map(|_| dice.number() as u8).collect());
             if len > 0 {
                 pair.proved[0] = n as u8;
                 pair.plain[0] = n as u8;
@@ -206,11 +206,11 @@ fn some_view(dice: &mut Dice, n: usize) -> Vec<u8> {
         let tag = if dice.chance(300) {
             0
         } else if dice.chance(900) {
-            dice.next() >> 20
+            dice.number() >> 20
         } else {
             odd_number(dice)
         };
-        let report = if tag == 0 && dice.chance(970) { 0 } else { dice.next() };
+        let report = if tag == 0 && dice.chance(970) { 0 } else { dice.number() };
         view.extend(tag.to_be_bytes());
         view.extend(report.to_be_bytes());
     }
@@ -227,10 +227,10 @@ fn codec(seed: u64, rounds: usize, tally: &mut Tally) {
         let n = if dice.chance(950) { dice.below(16) + 1 } else { odd_number(&mut dice) as usize };
         let view = some_view(&mut dice, n.min(18));
         let kind = if dice.chance(950) { dice.below(7) as u64 + 1 } else { odd_number(&mut dice) };
-        let number = |dice: &mut Dice| if dice.chance(800) { dice.next() >> 2 } else { odd_number(dice) };
+        let number = |dice: &mut Dice| if dice.chance(800) { dice.number() >> 2 } else { odd_number(dice) };
         let writer = if dice.chance(900) { dice.below(17) as u64 } else { odd_number(&mut dice) };
         let numbers: Numbers = [kind, number(&mut dice), writer, number(&mut dice)];
-        let report = dice.next().to_be_bytes();
+        let report = dice.number().to_be_bytes();
         let room = if dice.chance(900) { 274 } else { dice.below(300) };
         let (mut one, mut two) = (vec![9; room], vec![9; room]);
         let mut sizes = (300, 300);
@@ -245,7 +245,7 @@ fn codec(seed: u64, rounds: usize, tally: &mut Tally) {
         bytes.truncate(if told.0 == 0 && dice.chance(900) { sizes.0 } else { dice.below(300) });
         if dice.chance(300) && !bytes.is_empty() {
             let at = dice.below(bytes.len());
-            bytes[at] = dice.next() as u8;
+            bytes[at] = dice.number() as u8;
         }
         let (mut one, mut two) = (([5; 4], [5; 8]), ([5; 4], [5; 8]));
         let told = (Proved::read(n, &bytes, &mut one.0, &mut one.1), Plain::read(n, &bytes, &mut two.0, &mut two.1));
@@ -271,7 +271,7 @@ fn give_both(input: &Input, record: &mut [u8], lent: &mut Lent) -> u8 {
 /// A network of nodes from fresh; some are made old at once. Where `damaged`, some calls come upon a copy of a record.
 fn network(n: usize, seed: u64, calls: usize, damaged: bool, tally: &mut Tally) {
     let mut dice = Dice::new(seed);
-    let mut network = Network::new(n, dice.next());
+    let mut network = Network::new(n, dice.number());
     if dice.chance(250) {
         network.records.iter_mut().for_each(|record| age(&mut dice, record));
     }
@@ -304,7 +304,7 @@ fn strange_calls(dice: &mut Dice, n: usize, input: &Input, record: &[u8], tally:
         let mut lent = Lent::new(if dice.chance(50) { dice.below(600) } else { 512 });
         let input = match dice.below(8) {
             0 => Input::Begin(Operation::Scan),
-            1 => Input::Begin(Operation::Update(dice.next().to_be_bytes())),
+            1 => Input::Begin(Operation::Update(dice.number().to_be_bytes())),
             2 | 3 => input.clone(),
             _ => {
                 let sender = if dice.chance(30) { odd_number(dice) as usize } else { dice.below(n) + 1 };
@@ -324,7 +324,7 @@ fn made_up(dice: &mut Dice, n: usize, record: &[u8]) -> Vec<u8> {
     // The request number; the top tag, the round's tag, or a last tag.
     let at = [16, 64, 2144 + 16 * dice.below(n)][dice.below(3)];
     let numbers = [dice.below(7) as u64 + 1, near(dice, 24), dice.below(n) as u64 + 1, near(dice, at)];
-    let report = dice.next().to_be_bytes();
+    let report = dice.number().to_be_bytes();
     let view = record.get(2144..2144 + 16 * n).unwrap_or(&[]);
     let (mut bytes, mut length) = (vec![0; 274], 0);
     if Plain::write(n, &numbers, &report, view, &mut bytes, &mut length) != 0 {
@@ -369,7 +369,7 @@ fn strange_nodes(seed: u64, tally: &mut Tally) {
         assert!(one == two, "the bytes of a fresh node {own} of {n}");
         tally[told.0 as usize] += 1;
         let mut bytes = made_up(&mut dice, n.clamp(1, 16), &one);
-        bytes.resize(dice.below(300), dice.next() as u8);
+        bytes.resize(dice.below(300), dice.number() as u8);
         next_both(n, &bytes, tally);
     }
 }

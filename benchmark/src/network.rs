@@ -74,7 +74,7 @@ impl Network {
         let n = self.n;
         let most = self.links.iter().map(VecDeque::len).max().unwrap_or(0);
         if most == 0 || most <= CALM && self.dice.chance(150) {
-            let report = self.dice.next().to_be_bytes();
+            let report = self.dice.number().to_be_bytes();
             let operation = if self.dice.chance(500) { Operation::Update(report) } else { Operation::Scan };
             return (self.dice.below(n) + 1, Input::Begin(operation));
         }

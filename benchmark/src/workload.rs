@@ -61,7 +61,7 @@ impl Workload {
         if most == 0 || most <= CALM && self.dice.chance(150) {
             let node = self.dice.below(n) + 1;
             return Some(if self.dice.chance(500) {
-                Event::Update { node, report: self.dice.next().to_be_bytes(), cut: None }
+                Event::Update { node, report: self.dice.number().to_be_bytes(), cut: None }
             } else {
                 Event::Scan { node, cut: None }
             });

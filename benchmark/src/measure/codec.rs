@@ -20,13 +20,13 @@ struct Case {
 
 /// A view whose tags are at most `top`.
 fn some_view(dice: &mut Dice, n: usize, top: u64) -> Vec<u8> {
-    (0..n).flat_map(|_| [dice.next() % top + 1, dice.next()]).flat_map(u64::to_be_bytes).collect()
+    (0..n).flat_map(|_| [dice.number() % top + 1, dice.number()]).flat_map(u64::to_be_bytes).collect()
 }
 
 fn some_message(dice: &mut Dice, kind: u64) -> Case {
-    let tag = dice.next() >> 2 | 1 << 62;
-    let numbers = [kind, dice.next() >> 2 | 1, dice.next() % 16 + 1, tag];
-    let report = dice.next().to_be_bytes();
+    let tag = dice.number() >> 2 | 1 << 62;
+    let numbers = [kind, dice.number() >> 2 | 1, dice.number() % 16 + 1, tag];
+    let report = dice.number().to_be_bytes();
     let view = some_view(dice, NODES, tag);
     let mut bytes = vec![0; 274];
     let mut size = 0;

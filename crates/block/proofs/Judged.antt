@@ -5,6 +5,7 @@ use mathlib.Core.Bool.{Bool, true, false}
 use mathlib.Core.List.{List}
 use native.Mathlib.Nat.{lt-of-not-le}
 use native.Mathlib.Decide.{ℕ-discrete, decLe}
+use native.Mathlib.Numerals.{add-one}
 use native.Mathlib.Omega.{arith}
 use lib.ListN.{length, getD}
 use lib.Dec.{leb, ltb, eqb}
@@ -13,6 +14,7 @@ use Rattle.octets.specs.Test.{pick, both}
 use Rattle.octets.specs.Bytes.{Bytes, num, part}
 use Rattle.octets.specs.Loop.{allTo}
 use Rattle.octets.specs.Word.{word, words, wordSize}
+use Rattle.octets.proofs.Loop.{allTo-at, allTo-all}
 use Rattle.octets.proofs.Test.{both-left, both-right, not-true-false}
 use Rattle.octets.proofs.Number.{num-eight}
 use Rattle.octets.proofs.Put.{part-bytes, length-part, getD-part}
@@ -27,7 +29,9 @@ use Rattle.table.specs.Table.{at, tagOf, reportOf as reportIn, entryOk, entryWi
 use Rattle.record.specs.Usable.{roundTag, numbersWithin, numbersOk, tablesOk, usable}
 use Rattle.region.specs.Record.{heardPlace, viewIn, waitIn, recordOf, codesKnown, nPlace, ownPlace, maxtagPlace, lastIn}
 use Rattle.region.specs.Record.{requestPlace, keptPlace, atmaxIn, atroundIn, keptIn}
+use Rattle.table.proofs.Laws.{all-at, all-all}
 use Rattle.block.specs.Block.{recordSound}
+use Rattle.block.specs.Judge.{group, cellWithin}
 
 -- ---- a word within the limit
 
@@ -128,3 +132,33 @@ module _ (n c : ℕ) (r : List ℕ) where
       only : (t : Bool) → both t true ≡ t
       only true = refl
       only false = refl
+
+-- ---- the cells of the table of tags heard, judged in groups
+
+abbrev Within : List ℕ → ℕ → Bool
+Within r k = leb (at (words cells r heardPlace) k) limit
+
+pub group-more : (k : ℕ) (p : ℕ → Bool) → allTo (k + 1) p ≡ both (p k) (allTo k p)
+unfolding allTo
+group-more k p = rw (add-one k)
+
+-- the cells before a group keep the limit, and so do those of the group
+pub groups-more : (r : List ℕ) (i : ℕ) → all (group * i) (Within r) ≡ true
+    → allTo group (λ j. cellWithin r (group * i + j)) ≡ true → all (group * (i + 1)) (Within r) ≡ true
+groups-more r i h g = all-all (group * (i + 1)) (Within r) (λ w lo hi. elim (decLe w (group * i)) [
+  | yes l ↦ all-at (group * i) (Within r) w h lo l
+  | no l ↦
+      let m = lt-of-not-le l in
+      let j = w - 1 - group * i in
+      let e : group * i + j + 1 ≡ w = omega arith in
+      ap (Within r) (sym e) ∙ allTo-at group (λ j. cellWithin r (group * i + j)) j g (omega arith)
+])
+
+-- a group in which one does not is part of a table in which one does not
+pub group-fails : (r : List ℕ) (i : ℕ) → group * i + group ≤ cells
+    → allTo group (λ j. cellWithin r (group * i + j)) ≡ false → all cells (Within r) ≡ false
+group-fails r i l g = not-true-false (all cells (Within r)) (λ h.
+    let t : allTo group (λ j. cellWithin r (group * i + j)) ≡ true =
+    allTo-all group (λ j. cellWithin r (group * i + j)) (λ j m. all-at cells (Within r) (group * i + j + 1) h
+    (omega arith) (omega arith)) in
+    let z : _≡_ {A = Bool} true false = sym t ∙ g in let n : _≡_ {A = ℕ} 0 1 = cc in omega arith)

@@ -23,30 +23,51 @@ use view::NODES;
 use view::VIEW;
 use view::view_ok;
 ghost use mathlib.Core.Path.{_≡_};
-ghost use Prim.Native.Nat.{_<_, _≤_};
+ghost use Prim.Native.Nat.{_+_, _<_, _≤_};
 ghost use lib.ListN.{length};
+ghost use Rattle.octets.specs.Loop.{allTo};
 ghost use Rattle.octets.specs.Test.{both};
 ghost use Rattle.octets.specs.Word.{words};
 ghost use Rattle.view.specs.Size.{limit, nodes};
 ghost use Rattle.table.specs.Table.{viewWithin, heardWithin, cells};
 ghost use Rattle.region.specs.Record.{recordSize, heardPlace, viewIn, lastIn, atmaxIn, atroundIn, keptIn, views};
 ghost use Rattle.block.specs.Block.{recordSound};
+ghost use Rattle.block.specs.Judge.{group, cellWithin};
 
-// A word before the table of tags heard: that of cell k of 1 to `CELLS` stands k words further.
-const BEFORE_HEARD: usize = HEARD_PLACE - WORD;
+// The cells that are judged at a time: as many as make one test of the machine.
+const GROUP: usize = 8;
 
-// Whether no tag heard is above the limit, 2^63 - 1: the first byte of such a tag is below 128.
+const GROUPS: usize = CELLS / GROUP;
+
+// Whether no tag heard is above the limit, 2^63 - 1, in the group of cells from cell k on: the first byte of such a tag
+// is below 128.
+fn group_sound(r: &[u8], k: usize) -> bool
+    requires { ⌜ (length (now r) ≡ recordSize) × (k + group ≤ cells) ⌝ }
+    ensures { λ t. ⌜ t ≡ allTo group (λ j. cellWithin (now (r .entry)) (k + j)) ⌝ }
+{
+    let mut ok = true;
+    let mut j = 0;
+    while j < GROUP {
+        ok = and(r[HEARD_PLACE + WORD * (k + j)] < 128, ok);
+        j += 1;
+    }
+    ok
+}
+
+// Whether no tag heard is above the limit.
 fn heard_sound(r: &[u8]) -> bool
     requires { ⌜ length (now r) ≡ recordSize ⌝ }
     ensures { λ t. ⌜ t ≡ heardWithin (words cells (now (r .entry)) heardPlace) ⌝ }
 {
-    let mut ok = true;
-    let mut k = 0;
-    while k < CELLS {
-        k += 1;
-        ok = and(r[BEFORE_HEARD + WORD * k] < 128, ok);
+    let mut i = 0;
+    while i < GROUPS {
+        if group_sound(r, GROUP * i) {
+            i += 1;
+        } else {
+            return false;
+        }
     }
-    ok
+    true
 }
 
 // Whether view i has no tag above `top` and no report beside tag 0.

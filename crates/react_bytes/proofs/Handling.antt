@@ -2,13 +2,15 @@
 use Prim.Native.Nat.{ℕ, _+_, _-_, _*_, _≤_}
 use mathlib.Core.Path.{_≡_, refl, sym, ap, ap₂, _∙_}
 use mathlib.Core.Bool.{Bool, true, false}
-use mathlib.Core.List.{List, [], _∷_}
+use mathlib.Core.List.{List, [], _∷_, _++_}
 use native.Mathlib.Omega.{arith}
-use lib.ListN.{length, length-set}
+use lib.ListN.{length, take, drop, length-set, take-append-drop}
 use lib.Dec.{ltb, leb}
 use Rattle.octets.specs.Test.{pick, both}
 use Rattle.octets.specs.Bytes.{Bytes, part, put}
-use Rattle.octets.specs.Word.{word, words, wordSize}
+use Rattle.octets.specs.Loop.{tab, join}
+use Rattle.octets.specs.Word.{word, words, wordSize, wordBytes}
+use Rattle.octets.proofs.Put.{put-after}
 use Rattle.octets.proofs.Table.{length-tab}
 use Rattle.view.specs.Size.{nodes, viewSize}
 use Rattle.view.specs.View.{viewBytes}
@@ -27,20 +29,36 @@ use Rattle.step.specs.declared.Sent.{Sent}
 use Rattle.step.proofs.Lawful.{react-started}
 use Rattle.region.specs.Record.{recordSize, heardPlace, viewPlace, viewIn, waitIn, recordOf, recordBytes, nPlace}
 use Rattle.region.specs.Record.{maxtagPlace, keptPlace, lastIn, atmaxIn, atroundIn, keptIn}
+use Rattle.octets.proofs.Word.{length-wordBytes}
 use Rattle.region.specs.Record.{headOf, headBytes, withMaxtag, withKept, withWait as headWithWait}
+use Rattle.region.specs.Record.{codePlace, waitBytes, numbers}
 use Rattle.region.proofs.Back.{Sized, SizedNode, sized-view, sized-of, record-back}
 use Rattle.react_bytes.specs.Handled.{entered}
-use Rattle.react_bytes.proofs.Sections.{Tables, tables-of, heard-put, view-put, view-entry, assembled}
+use Rattle.react_bytes.proofs.Sections.{Tables, words-there, tables-of, heard-put, view-put, view-entry, assembled}
 
 module _ (r : List ℕ) (h : Bytes r) (l : length r ≡ recordSize) where
   T : Tables r (words cells r heardPlace)
       (viewIn r lastIn ∷ viewIn r atmaxIn ∷ viewIn r atroundIn ∷ viewIn r keptIn ∷ [])
   T = tables-of r h l
 
-  pub withWait-bytes : (w : Wait) → put r nPlace (headBytes (headWithWait (headOf r) w))
+  withWait-bytes : (w : Wait) → put r nPlace (headBytes (headWithWait (headOf r) w))
       ≡ recordBytes (withWait (recordOf r) w)
   unfolding recordOf
   withWait-bytes w = assembled (withWait (recordOf r) w) T
+
+  -- the numbers before the wait stand as they are
+  numbers-there : put r nPlace (wordBytes (numbers (headOf r))) ≡ r
+  unfolding put tab part join
+  numbers-there =
+      ap (λ (t : List ℕ). take nPlace r ++ t ++ drop (nPlace + codePlace) r)
+      (words-there r h 5 nPlace (omega arith)) ∙ take-append-drop codePlace r
+
+  -- so that another wait is written alone
+  pub wait-bytes : (w : Wait) → put r codePlace (waitBytes w) ≡ recordBytes (withWait (recordOf r) w)
+  wait-bytes w =
+      ap (λ (t : List ℕ). put t codePlace (waitBytes w)) (sym numbers-there)
+      ∙ put-after r nPlace (wordBytes (numbers (headOf r))) (waitBytes w) codePlace (omega arith)
+      (omega (arith, length-wordBytes (numbers (headOf r)))) ∙ withWait-bytes w
 
   pub raised-bytes : (t : ℕ) (b : Bool) → ltb (word r maxtagPlace) t ≡ b
       → put (pick b (put r (viewPlace atmaxIn) (viewBytes nodes (newest t (viewIn r lastIn) (viewIn r atmaxIn)))) r)

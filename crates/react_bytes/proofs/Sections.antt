@@ -58,6 +58,19 @@ view-there r h at m =
     sym (view-bytes-back nodes (part r at (viewSize nodes)) (part-bytes r at (viewSize nodes) h) (omega arith)
     ∙ whole (part r at (viewSize nodes)) (viewSize nodes) e)
 
+-- words where they stand
+pub words-there : (r : List ℕ) → Bytes r → (k at : ℕ) → at + wordSize * k ≤ length r
+    → wordBytes (words k r at) ≡ part r at (wordSize * k)
+words-there r h k at m =
+    let f : ℕ → ℕ = λ i. word r (at + wordSize * i) in
+    ap (λ (n : ℕ). join n (λ i. be wordSize (getD (words k r at) i 0))) (length-tab k f)
+    ∙ join-ext k (λ i. be wordSize (getD (words k r at) i 0))
+    (λ i. part (part r at (wordSize * k)) (wordSize * i) wordSize)
+    (λ i l. ap (be wordSize) (getD-tab k f i 0 l) ∙ be-part r (at + wordSize * i) wordSize h (omega arith)
+    ∙ sym (part-part r at (wordSize * k) (wordSize * i) wordSize (omega arith)))
+    ∙ join-parts k wordSize (part r at (wordSize * k))
+    ∙ whole (part r at (wordSize * k)) (wordSize * k) (length-part r at (wordSize * k) m)
+
 -- as they stand
 pub tables-of : (r : List ℕ) → Bytes r → length r ≡ recordSize
     → Tables r (words cells r heardPlace)
@@ -67,15 +80,7 @@ tables-of r h l =
     record {
       size = l;
       count = refl;
-      ofHeard = sym (ap (λ (n : ℕ). join n (λ i. be wordSize (getD (words cells r heardPlace) i 0)))
-          (length-tab cells (λ i. word r (heardPlace + wordSize * i)))
-          ∙ join-ext cells (λ i. be wordSize (getD (words cells r heardPlace) i 0))
-          (λ i. part (part r heardPlace heardSize) (wordSize * i) wordSize)
-          (λ i m. ap (be wordSize) (getD-tab cells (λ i. word r (heardPlace + wordSize * i)) i 0 m)
-          ∙ be-part r (heardPlace + wordSize * i) wordSize h (omega arith)
-          ∙ sym (part-part r heardPlace heardSize (wordSize * i) wordSize (omega arith)))
-          ∙ join-parts cells wordSize (part r heardPlace heardSize) ∙ whole (part r heardPlace heardSize) heardSize
-          (length-part r heardPlace heardSize (omega arith)));
+      ofHeard = sym (words-there r h cells heardPlace (omega arith));
       ofView = λ i b. view-there r h (viewPlace i) (omega arith)
           ∙ ap (viewBytes nodes) (sym (getD-tab views (viewIn r) i noView b));
     }

@@ -17,9 +17,9 @@ use record::usable::is_stale_tag;
 use region::head::head_of;
 use region::head::load_wait;
 use region::head::save_head;
+use region::head::save_wait;
 use region::head::with_kept;
 use region::head::with_maxtag;
-use region::head::with_wait;
 use region::places::ATMAX_IN;
 use region::places::ATMAX_PLACE;
 use region::places::ATROUND_IN;
@@ -57,8 +57,7 @@ pub fn waiting_in(r: &mut [u8], w: Wait)
     requires { ⌜ length (now r) ≡ recordSize ⌝ }
     ensures { λ _. ⌜ now (r .exit) ≡ recordBytes (withWait (recordOf (now (r .entry))) w) ⌝ }
 {
-    let h = head_of(r);
-    save_head(r, with_wait(h, w));
+    save_wait(r, w);
 }
 
 // A tag above `maxtag` raises it, and with it the reports held for it; whether it does.

@@ -254,7 +254,8 @@ fn wait_report(w: Wait) -> Report
     }
 }
 
-fn save_wait(b: &mut [u8], w: Wait)
+// Writes the wait of the record.
+pub fn save_wait(b: &mut [u8], w: Wait)
     requires { ⌜ length (now b) ≡ recordSize ⌝ }
     ensures { λ _. ⌜ now (b .exit) ≡ put (now (b .entry)) codePlace (waitBytes w) ⌝ }
 {
