@@ -1,3 +1,4 @@
 pub mod Claims
 pub mod Entry
+pub mod Shown
 pub mod Walk

@@ -16,7 +16,7 @@ use Rattle.step.specs.Told.{told}
 use Rattle.layout.specs.Layout.{stated}
 use Rattle.events.specs.Event.{deliver}
 use Rattle.events.proofs.Shown.{deliver-absent}
-use Rattle.codes.specs.Code.{eventView}
+use Rattle.calls_bytes.specs.Shown.{eventView}
 use Rattle.codes.specs.Shown as claim
 
 pub zero-past : claim.ZeroPast

@@ -7,10 +7,8 @@ use lib.Dec.{eqb}
 use lib.ListN.{length, getD, replicate}
 use Rattle.octets.specs.Answer.{Answer, result, refused}
 use Rattle.octets.specs.Test.{pick}
-use Rattle.octets.specs.Bytes.{put}
-use Rattle.view.specs.Size.{nodes, reportSize}
+use Rattle.view.specs.Size.{reportSize}
 use Rattle.view.specs.Report.{reportBytes, reportOf}
-use Rattle.view.specs.View.{viewBytes}
 use Rattle.view.specs.declared.Report.{Report}
 use Rattle.wire.specs.Layout.{encode}
 use Rattle.wire.specs.Codec.{answer, after}
@@ -68,14 +66,6 @@ ruleIn (result Spent) = 0
 
 abbrev pub codeOf : Result → ℕ
 codeOf e = eventCode (toldOf e) (ruleIn (e .answer))
-
--- The lent view after an event: an entry for each of sixteen nodes where a scan ended, and else as it was.
-abbrev pub eventView : Told → List ℕ → List ℕ
-eventView (refusal k) out = out
-eventView nothing out = out
-eventView done out = out
-eventView (scan v) out = put out 0 (viewBytes nodes v)
-eventView (spent k) out = out
 
 -- The four numbers of a message: its kind, request number, writer and tag, 0 where the kind has none.
 abbrev pub numbers : Message → List ℕ

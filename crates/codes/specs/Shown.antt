@@ -12,7 +12,7 @@ use Rattle.layout.specs.Layout.{stated}
 use Rattle.outgoing.specs.declared.Extent.{Extent}
 use Rattle.events.specs.Event.{deliver}
 use Rattle.events.specs.Outcome.{toldOf}
-use Rattle.codes.specs.Code.{eventView}
+use Rattle.calls_bytes.specs.Shown.{eventView}
 
 abbrev pub ZeroPast : Type 0
 ZeroPast = (a c : ℕ) (x : Extent) (b view : List ℕ) (r : Rule) → length view ≡ entrySize * nodes

@@ -1,5 +1,6 @@
 // The numbers that stand for enums at the border to C: codes of answers, the numbers and the report of a message, the
 // extent of a cut; and the view of a scan that ended, written into lent memory.
+use calls_bytes::show_view;
 use events::Outcome;
 use events::Reply;
 use outgoing::Extent;
@@ -7,7 +8,6 @@ use outgoing::entries::is_answer;
 use step::Ending;
 use step::Rule;
 use step::SPENT;
-use view::NODES;
 use view::REPORT;
 use view::Report;
 use view::VIEW;
@@ -18,8 +18,9 @@ ghost use Rattle.octets.specs.Answer.{result};
 ghost use Rattle.view.specs.declared.View.{View};
 ghost use Rattle.step.specs.Told.{told};
 ghost use Rattle.events.specs.Outcome.{answerOf, toldBy};
+ghost use Rattle.calls_bytes.specs.Shown.{eventView};
 ghost use Rattle.codes.specs.Code.{numbers, reportIn, messageOf};
-ghost use Rattle.codes.specs.Code.{extentOf, ruleCode, ruleIn, eventCode, eventView, accepted, routeOf};
+ghost use Rattle.codes.specs.Code.{extentOf, ruleCode, ruleIn, eventCode, accepted, routeOf};
 
 // The first code of an update done and of a scan ended, to which the rule is added. Below them stand 0, where nothing
 // ended, the refusals and spent.
@@ -58,22 +59,28 @@ fn ending_code(e: Ending) -> u8
     }
 }
 
-// The code of an event's answer.
-pub fn event_code(r: Reply) -> u8
-    ensures { λ k. ⌜ k ≡ eventCode (toldBy r) (ruleIn (answerOf (r .outcome))) ⌝ }
+// The code of an answer, whatever view stands beside it.
+pub fn outcome_code(outcome: Outcome) -> u8
+    ensures { λ k. ⌜ ((v : View) → k ≡ eventCode (told (answerOf outcome) v) (ruleIn (answerOf outcome))) ⌝ }
 {
-    let outcome = r.outcome;
     match outcome {
         Outcome::Refused(k) => k,
         Outcome::Accepted(e) => ending_code(e),
     }
 }
 
-// Whether an answer is no refusal.
-pub fn is_accepted(r: Reply) -> bool
-    ensures { λ t. ⌜ t ≡ accepted (answerOf (r .outcome)) ⌝ }
+// The code of an event's answer.
+pub fn event_code(r: Reply) -> u8
+    ensures { λ k. ⌜ k ≡ eventCode (toldBy r) (ruleIn (answerOf (r .outcome))) ⌝ }
 {
     let outcome = r.outcome;
+    outcome_code(outcome)
+}
+
+// Whether an answer is no refusal.
+pub fn is_accepted(outcome: Outcome) -> bool
+    ensures { λ t. ⌜ t ≡ accepted (answerOf outcome) ⌝ }
+{
     match outcome {
         Outcome::Refused(_) => false,
         Outcome::Accepted(_) => true,
@@ -87,12 +94,7 @@ pub fn show(r: Reply, out: &mut [u8; VIEW])
     let outcome = r.outcome;
     match outcome {
         Outcome::Refused(_) => {}
-        Outcome::Accepted(e) => match e {
-            Ending::None => {}
-            Ending::Done(_) => {}
-            Ending::Scan(_) => view::write_view(NODES, r.view, out),
-            Ending::Spent => {}
-        },
+        Outcome::Accepted(e) => show_view(e, r.view, out),
     }
 }
 

@@ -1,11 +1,13 @@
 // Writing what a step sends into an output buffer: each message once, in order, from the buffer's start.
 use step::Outbox;
 use step::Sent;
+use table::or;
 use view::ENTRY;
 use view::VIEW;
 use view::write_view;
 use wire::Message;
 use wire::Written;
+use wire_parse::views::is_good;
 use wire_write::write;
 ghost use mathlib.Core.Path.{_≡_};
 ghost use mathlib.Core.Bool.{true};
@@ -18,6 +20,7 @@ ghost use Rattle.step.specs.Claims.{AllLawful, sizes};
 ghost use Rattle.step.specs.Step.{listed, messages};
 ghost use Rattle.calls.specs.Bytes.{run, outBytes};
 ghost use Rattle.emit.specs.Room.{Room};
+ghost use Rattle.emit.specs.Good.{anyGood};
 
 // Writes one message at a place, and answers the place after it.
 fn emit_one(n: usize, m: Message, v: &[u8], out: &mut [u8], at: usize) -> usize
@@ -63,8 +66,19 @@ fn emit_parts(n: usize, o: Outbox, v: &[u8], out: &mut [u8]) -> usize
     emit_sent(n, comparing, v, out, second)
 }
 
-// Writes what a whole step sends, and answers how many bytes it has.
-pub fn emit_all(n: usize, o: Outbox, out: &mut [u8]) -> usize
+// Whether a part of a step holds a good message.
+fn holds_good(m: Sent) -> bool
+    ensures { λ r. ⌜ r ≡ anyGood (listed m) ⌝ }
+{
+    match m {
+        Sent::Nothing => false,
+        Sent::One(a) => is_good(a),
+        Sent::Two(a, b) => or(is_good(a), is_good(b)),
+    }
+}
+
+// Writes what a step sends, with the bytes of its view.
+fn emit_held(n: usize, o: Outbox, out: &mut [u8]) -> usize
     requires { ⌜ (1 ≤ n) × (n ≤ nodes) × AllLawful n (o .view) (messages o)
         × (sizes n (messages o) ≤ length (now out)) ⌝ }
     ensures { λ r. ⌜ (r ≡ length (outBytes n o)) × (now (out .exit) ≡ put (now (out .entry)) 0 (outBytes n o)) ⌝ }
@@ -73,4 +87,24 @@ pub fn emit_all(n: usize, o: Outbox, out: &mut [u8]) -> usize
     let size = ENTRY * n;
     write_view(n, o.view, &mut view[..size]);
     emit_parts(n, o, &view[..size], out)
+}
+
+// Writes what a whole step sends, and answers how many bytes it has. The bytes of the view are made for a good message
+// alone.
+pub fn emit_all(n: usize, o: Outbox, out: &mut [u8]) -> usize
+    requires { ⌜ (1 ≤ n) × (n ≤ nodes) × AllLawful n (o .view) (messages o)
+        × (sizes n (messages o) ≤ length (now out)) ⌝ }
+    ensures { λ r. ⌜ (r ≡ length (outBytes n o)) × (now (out .exit) ≡ put (now (out .entry)) 0 (outBytes n o)) ⌝ }
+{
+    let handler = o.handler;
+    let reading = o.reading;
+    let comparing = o.comparing;
+    if or(
+        or(holds_good(handler), holds_good(reading)),
+        holds_good(comparing),
+    ) {
+        return emit_held(n, o, out);
+    }
+    let none = [0u8; 1];
+    emit_parts(n, o, &none[..0], out)
 }

@@ -3,6 +3,7 @@ use Prim.Native.Nat.{ℕ, _≤_}
 use mathlib.Core.Path.{_≡_, refl, sym, ap, ap₂, _∙_, subst}
 use mathlib.Core.List.{List}
 use lib.ListN.{length}
+use Rattle.octets.specs.Answer.{Answer, result}
 use Rattle.octets.specs.Bytes.{put}
 use Rattle.view.specs.Size.{nodes}
 use Rattle.view.specs.View.{viewOf}
@@ -15,12 +16,15 @@ use Rattle.record.specs.declared.Operation.{Operation}
 use Rattle.step.specs.Claims.{Long, AllLawful, sizes}
 use Rattle.step.specs.Move.{moveOn, messageStep, begun}
 use Rattle.step.specs.React.{react}
+use Rattle.step.specs.Told.{told, toldView}
+use Rattle.step.specs.declared.Ending.{Ending}
 use Rattle.step.specs.Step.{messages, started}
 use Rattle.step.specs.declared.Sent.{Sent}
 use Rattle.step.specs.declared.Step.{Step}
 use Rattle.calls.specs.Bytes.{outBytes}
 use Rattle.calls.specs.Entry.{letOut, beside}
 use Rattle.calls.proofs.Rooms.{Fit}
+use Rattle.reply.proofs.Tells.{told-toldView}
 use Rattle.region.specs.Record.{recordOf, recordBytes}
 use Rattle.region.proofs.Back.{sized-view, sized-of}
 use Rattle.react_bytes.proofs.Handling.{reacted-step}
@@ -28,19 +32,39 @@ use Rattle.step_bytes.specs.Moved.{effect, isStep}
 use Rattle.step_bytes.specs.declared.Effect.{Effect}
 use Rattle.calls_bytes.specs.Entry.{LentResult, inBytes}
 use Rattle.node_bytes.specs.declared.Called.{Called}
-use Rattle.node_bytes.specs.Called.{tells, lets}
+use Rattle.calls_bytes.specs.Shown.{eventView}
+use Rattle.node_bytes.specs.Called.{tells, shows, lets}
 
 pub becomes : (a : Called) (r out : List ℕ) {e f : LentResult} → e ≡ f → tells a r out f → tells a r out e
 becomes a r out p t = subst (tells a r out) (sym p) t
 
+pub becomes-shown : (a : Called) (r out view before : List ℕ) {e f : LentResult} → e ≡ f
+    → shows a r out view f before → shows a r out view e before
+becomes-shown a r out view before p t = subst (λ (x : LentResult). shows a r out view x before) (sym p) t
+
 -- r was the record before the step, r′ is the one after it
 pub stepped : (s : Step) (n : ℕ) (r r′ out out′ : List ℕ) (a : Called) {e : Effect} → isStep e r′ s → s .node .n ≡ n
-    → lets a out′ out n e → tells a r′ out′ (inBytes r (letOut s out))
+    → lets a out′ out n (e .outbox) (e .ending) → tells a r′ out′ (inBytes r (letOut s out))
 unfolding inBytes letOut
 stepped s n r r′ out out′ a {e} h k l =
-    let t : lets a out′ out (s .node .n) (effect s) =
-    subst (λ (x : Effect). lets a out′ out (s .node .n) x) (h .0) (subst (λ (j : ℕ). lets a out′ out j e) (sym k) l) in
-    (t .0, t .1, t .2, t .3, h .1, t .4)
+    let t : lets a out′ out (s .node .n) (s .outbox) (s .ending) =
+    subst (λ (x : Effect). lets a out′ out (s .node .n) (x .outbox) (x .ending)) (h .0)
+    (subst (λ (j : ℕ). lets a out′ out j (e .outbox) (e .ending)) (sym k) l) in (
+      ap (λ (x : Answer Ending). told x (toldView (told (result (s .ending)) (s .view)))) (t .0)
+          ∙ told-toldView (s .ending) (s .view),
+      t .0,
+      t .1,
+      h .1,
+      t .2,
+    )
+
+-- the view of the step is what is shown
+pub step-shows : (s : Step) (r r′ out view before : List ℕ) {e : Effect} → isStep e r′ s
+    → view ≡ eventView (told (result (e .ending)) (e .view)) before
+    → view ≡ eventView (inBytes r (letOut s out) .answer) before
+unfolding inBytes letOut
+step-shows s r r′ out view before h q =
+    q ∙ ap (λ (x : Effect). eventView (told (result (x .ending)) (x .view)) before) (h .0)
 
 pub begun-n : (c : Node) (o : Operation) → begun c o .node .n ≡ c .n
 unfolding begun

@@ -3,10 +3,9 @@
 // every byte as it was.
 use block::judge::record_sound;
 use calls::OUTPUT;
+use calls_bytes::show_view;
 use emit::emit_all;
 use events::Outcome;
-use events::Reply;
-use events::refused;
 use octets::and;
 use octets::fill;
 use octets::get_word;
@@ -19,16 +18,15 @@ use region::head::save_head;
 use region::places::N_PLACE;
 use region::places::OWN_PLACE;
 use region::places::RECORD;
-use reply::view_shown;
 use step::Ending;
-use step_bytes::Effect;
+use step::Outbox;
 use step_bytes::begin_in;
 use step_bytes::is_full_in;
 use step_bytes::is_open_in;
 use step_bytes::move_in;
 use table::quorum::most_faults;
 use view::NODES;
-use view::absent;
+use view::VIEW;
 use wire::Message;
 use wire::Parsed;
 use wire_parse::views::parsed_view;
@@ -48,11 +46,11 @@ ghost use Rattle.region.specs.Record.{recordSize, recordOf};
 ghost use Rattle.calls_bytes.specs.Entry.{refuse, inBytes, fresh as freshCall, begin as beginCall};
 ghost use Rattle.calls_bytes.specs.Entry.{message as messageCall};
 ghost use Rattle.node_bytes.specs.Admission.{usableIn, admission as admissionOf};
-ghost use Rattle.node_bytes.specs.Called.{tells, lets};
+ghost use Rattle.node_bytes.specs.Called.{tells, shows, lets};
 
-// What a call says, and how many bytes of messages stand at the start of the output buffer.
+// The answer of a call, and how many bytes of messages stand at the start of the output buffer.
 pub struct Called {
-    pub reply: Reply,
+    pub outcome: Outcome,
     pub length: usize,
 }
 
@@ -67,7 +65,7 @@ fn turned_away(k: u8) -> Called
     ensures { λ a. ⌜ ((r out : List ℕ) → tells a r out (refuse k r out)) ⌝ }
 {
     Called {
-        reply: refused(k),
+        outcome: Outcome::Refused(k),
         length: 0,
     }
 }
@@ -95,10 +93,7 @@ pub fn fresh(n: usize, own: usize, r: &mut [u8]) -> Called
         },
     );
     Called {
-        reply: Reply {
-            outcome: Outcome::Accepted(Ending::None),
-            view: absent(),
-        },
+        outcome: Outcome::Accepted(Ending::None),
         length: 0,
     }
 }
@@ -128,19 +123,15 @@ fn admission(r: &[u8], room: usize) -> u8
     0
 }
 
-// Writes what a step sends, and answers with the rest of it.
-fn let_out(n: usize, e: Effect, out: &mut [u8]) -> Called
-    requires { ⌜ (1 ≤ n) × (n ≤ nodes) × AllLawful n (e .outbox .view) (messages (e .outbox))
-        × (sizes n (messages (e .outbox)) ≤ length (now out)) ⌝ }
-    ensures { λ a. ⌜ lets a (now (out .exit)) (now (out .entry)) n e ⌝ }
+// Writes what a step sends, and answers with its ending.
+fn let_out(n: usize, o: Outbox, ending: Ending, out: &mut [u8]) -> Called
+    requires { ⌜ (1 ≤ n) × (n ≤ nodes) × AllLawful n (o .view) (messages o)
+        × (sizes n (messages o) ≤ length (now out)) ⌝ }
+    ensures { λ a. ⌜ lets a (now (out .exit)) (now (out .entry)) n o ending ⌝ }
 {
-    let written = emit_all(n, e.outbox, out);
-    let ending = e.ending;
+    let written = emit_all(n, o, out);
     Called {
-        reply: Reply {
-            outcome: Outcome::Accepted(ending),
-            view: view_shown(ending, e.view),
-        },
+        outcome: Outcome::Accepted(ending),
         length: written,
     }
 }
@@ -161,28 +152,40 @@ pub fn begin(r: &mut [u8], o: Operation, out: &mut [u8]) -> Called
     }
     let n = get_word(r, N_PLACE) as usize;
     let e = begin_in(r, o);
-    let_out(n, e, out)
+    let ending = e.ending;
+    let_out(n, e.outbox, ending, out)
 }
 
 // A message that was read is handled, v the bytes of its view, or refused with 9.
-fn take_message(r: &mut [u8], n: usize, s: usize, v: &[u8], m: Message, out: &mut [u8]) -> Called
+fn take_message(
+    r: &mut [u8],
+    n: usize,
+    s: usize,
+    v: &[u8],
+    m: Message,
+    out: &mut [u8],
+    view: &mut [u8; VIEW],
+) -> Called
     requires { ⌜ (length (now r) ≡ recordSize) × (usable (recordOf (now r)) ≡ true) × (recordOf (now r) .n ≡ n)
         × (1 ≤ s) × (s ≤ n) × (allowed n m (now v) ≡ true) × (leastOutput ≤ length (now out)) ⌝ }
-    ensures { λ a. ⌜ tells a (now (r .exit)) (now (out .exit)) (inBytes (now (r .entry))
-        (taken (recordOf (now (r .entry))) s (now (v .entry)) (now (out .entry)) (result m))) ⌝ }
+    ensures { λ a. ⌜ shows a (now (r .exit)) (now (out .exit)) (now (view .exit)) (inBytes (now (r .entry))
+        (taken (recordOf (now (r .entry))) s (now (v .entry)) (now (out .entry)) (result m))) (now (view .entry)) ⌝ }
 {
     if is_stale_in(r, s, m) {
         return turned_away(9);
     }
     let sent = react_in(r, n, s, m, v);
     let e = move_in(r, n, most_faults(n), s, sent);
-    let_out(n, e, out)
+    let ending = e.ending;
+    show_view(ending, e.view, view);
+    let_out(n, e.outbox, ending, out)
 }
 
-// Handles a message from node s; the messages that it gives rise to go to `out`. It refuses with 12, 2, 3, 7, 9.
-pub fn message(r: &mut [u8], s: usize, b: &[u8], out: &mut [u8]) -> Called
-    ensures { λ a. ⌜ tells a (now (r .exit)) (now (out .exit))
-        (messageCall (now (r .entry)) s (now (b .entry)) (now (out .entry))) ⌝ }
+// Handles a message from node s; the messages that it gives rise to go to `out`, the view of a scan that ends to
+// `view`. It refuses with 12, 2, 3, 7, 9.
+pub fn message(r: &mut [u8], s: usize, b: &[u8], out: &mut [u8], view: &mut [u8; VIEW]) -> Called
+    ensures { λ a. ⌜ shows a (now (r .exit)) (now (out .exit)) (now (view .exit))
+        (messageCall (now (r .entry)) s (now (b .entry)) (now (out .entry))) (now (view .entry)) ⌝ }
 {
     let k = admission(r, out.len());
     if k != 0 {
@@ -194,7 +197,7 @@ pub fn message(r: &mut [u8], s: usize, b: &[u8], out: &mut [u8]) -> Called
     }
     let p = wire_parse::parse(n, b);
     match p {
-        Parsed::Got(m) => take_message(r, n, s, parsed_view(b, p), m, out),
+        Parsed::Got(m) => take_message(r, n, s, parsed_view(b, p), m, out, view),
         Parsed::Refused(_) => turned_away(7),
     }
 }

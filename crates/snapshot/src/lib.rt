@@ -23,6 +23,7 @@ use codes::is_accepted;
 use codes::message_numbers;
 use codes::message_of;
 use codes::message_report;
+use codes::outcome_code;
 use codes::route_of;
 use codes::show;
 use figures::Summed;
@@ -49,7 +50,8 @@ ghost use Rattle.events.specs.Stop.{stop};
 ghost use Rattle.calls_bytes.specs.Entry.{LentResult, fresh as freshNode, begin as beginNode};
 ghost use Rattle.calls_bytes.specs.Entry.{message as messageNode};
 ghost use Rattle.node_bytes.specs.Called.{tells};
-ghost use Rattle.codes.specs.Code.{extentOf, eventView, leaves};
+ghost use Rattle.calls_bytes.specs.Shown.{eventView};
+ghost use Rattle.codes.specs.Code.{extentOf, leaves};
 ghost use Rattle.codes.specs.Code.{numbers as numbersOf, reportIn, messageIn, sums as sumsOf};
 ghost use Rattle.codes.specs.Code.{answerCode, lent, wrote, lentCode, leavesNode, routeOf};
 
@@ -149,7 +151,8 @@ pub extern "C" fn snapshot_node_fresh(n: usize, own: usize, state: &mut [u8]) ->
         × (now (state .exit) ≡ freshNode n own (now (state .entry)) .bytes) ⌝ }
 {
     let a = node_bytes::fresh(n, own, state);
-    event_code(a.reply)
+    let outcome = a.outcome;
+    outcome_code(outcome)
 }
 
 // The code of a call at a node. One that was accepted tells the length of its messages.
@@ -157,11 +160,12 @@ fn node_code(a: Called, length: &mut usize) -> u8
     ensures { λ r. ⌜ ((state out : List ℕ) (e : LentResult) → tells a state out e
         → leavesNode r state out (now (length .exit)) e (now (length .entry))) ⌝ }
 {
-    if is_accepted(a.reply) {
+    let outcome = a.outcome;
+    if is_accepted(outcome) {
         *length = a.length;
-        return event_code(a.reply);
+        return outcome_code(outcome);
     }
-    event_code(a.reply)
+    outcome_code(outcome)
 }
 
 // Begins an update with this report; the messages to send go to the front of `out`, and their length to `length`.
@@ -210,8 +214,7 @@ pub extern "C" fn snapshot_node_message(
         (messageNode (now (state .entry)) sender (now (bytes .entry)) (now (out .entry)) .answer)
         (now (view .entry))) ⌝ }
 {
-    let a = node_bytes::message(state, sender, bytes, out);
-    show(a.reply, view);
+    let a = node_bytes::message(state, sender, bytes, out, view);
     node_code(a, length)
 }
 

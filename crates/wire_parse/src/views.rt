@@ -15,7 +15,7 @@ ghost use Rattle.wire.specs.declared.Message.the-variants.{Good};
 ghost use Rattle.wire.specs.Outcome.{parsed, found};
 
 // Whether a message carries a view.
-fn is_good(m: Message) -> bool
+pub fn is_good(m: Message) -> bool
     ensures { λ r. ⌜ r ≡ isGood m ⌝ }
 {
     match m {

@@ -1,61 +1,54 @@
 -- `emit::emit_all` meets its contract. Assumes nothing.
 use borrow.Author.Needs.{needs}
-use mathlib.Core.Path.{refl, ap, _∙_}
-use mathlib.Core.List.{List}
+use mathlib.Core.Path.{refl, sym, ap, ap₂, _∙_}
+use mathlib.Core.List.{List, []}
 use Prim.Native.Nat.{ℕ}
-use native.Mathlib.Nat.{le-of-eq}
 use lib.ListN.{length}
 use Rattle.octets.specs.Bytes.{put}
+use Rattle.view.specs.View.{viewBytes}
+use Rattle.table.specs.Loop.{either}
 use Rattle.step.specs.Step.{messages}
-use Rattle.calls.specs.Bytes.{run}
-use Rattle.emit.proofs.Runs.{front-length, front-most, again-length, front-is, room-of}
+use Rattle.emit.proofs.Runs.{no-good, room-of, room-alike, runs-alike}
 use Rattle.emit.proofs.emit_all.Statement.{statement}
 use Rattle.emit.proofs.emit_all.Tie as tie
 
-slice-aggregate-write-view : tie.Need-slice-aggregate-write-view
-slice-aggregate-write-view c = front-length (c .before .before .args .n) _ refl (c .before .before .pre .1)
-
-write-view-requires : tie.Need-write-view-requires
-write-view-requires c κs =
-    let p = c .before .before .pre in
-    (p .1, le-of-eq (front-length (c .before .before .args .n) _ refl (p .1)))
-
-array-share-prefix-view : tie.Need-array-share-prefix-view
-array-share-prefix-view c =
-    let w = c .before .write-view in
-    front-most (c .before .before .before .before .args .n) _ refl (c .before .before .before .before .pre .1)
-    (w .last .1 .1 .0) (w .kept .1 .1 .0)
-
-slice-aggregate-emit-parts : tie.Need-slice-aggregate-emit-parts
-slice-aggregate-emit-parts c =
-    let c5 = c .before .before .before .before .before in
-    let w = c .before .before .write-view in
-    again-length (c5 .args .n) _ refl (c5 .pre .1) (w .last .1 .1 .0) (w .kept .1 .1 .0)
-
 emit-parts-requires : tie.Need-emit-parts-requires
 emit-parts-requires c κs =
-    let c6 = c .before .before .before .before .before .before in
-    let a = c6 .args in
-    let p = c6 .pre in
-    let w = c .before .before .before .write-view in
-    room-of (a .n) (a .o .view) _ (messages (a .o)) _
-    (front-is (a .n) _ refl (p .1) (w .last .1 .1 .0) (w .kept .1 .1 .0) (a .o .view) (w .ensures))
-    (p .0) (p .1) (p .2) (p .3)
+    let c2 = c .before .before in
+    let c3 = c2 .before in
+    let c4 = c3 .before in
+    let c5 = c4 .before in
+    let c6 = c5 .before in
+    let c7 = c6 .before in
+    let c9 = c7 .before .before in
+    let a = c9 .args in
+    let p = c9 .pre in
+    let none = no-good (a .o) (sym (c3 .or2 .ensures ∙ ap₂ either (c5 .or .ensures ∙ ap₂ either
+    (c7 .holds-good .ensures) (c6 .holds-good2 .ensures)) (c4 .holds-good3 .ensures)) ∙ c2 .if1 .left) in
+    room-alike (a .n) (viewBytes (a .n) (a .o .view)) [] (messages (a .o)) 0 _ none
+    (room-of (a .n) (a .o .view) _ (messages (a .o)) _ refl (p .0) (p .1) (p .2) (p .3))
 
-returns : tie.Need-returns
-returns c =
-    let c6 = c .before .before .before .before .before .before in
-    let a = c6 .before .before .before .args in
-    let p = c6 .before .before .before .pre in
-    let w = c6 .write-view in
-    let view = front-is (a .n) _ refl (p .1) (w .last .1 .1 .0) (w .kept .1 .1 .0) (a .o .view) (w .ensures) in (
-      c .before .before .emit-parts .ensures .0 ∙ ap (λ (v : List ℕ). length (run v (messages (a .o)))) view,
-      c .before .before .emit-parts .ensures .1 ∙ ap (λ (v : List ℕ). put (a .out .now) 0 (run v (messages (a .o))))
-          view,
+returns-2 : tie.Need-returns-2
+returns-2 c =
+    let c2 = c .before .before in
+    let c5 = c2 .before .before .before in
+    let c6 = c5 .before in
+    let c7 = c6 .before in
+    let c8 = c7 .before in
+    let c9 = c8 .before in
+    let c10 = c9 .before in
+    let c12 = c10 .before .before in
+    let a = c12 .args in
+    let none = no-good (a .o) (sym (c6 .or2 .ensures ∙ ap₂ either (c8 .or .ensures ∙ ap₂ either
+    (c10 .holds-good .ensures) (c9 .holds-good2 .ensures)) (c7 .holds-good3 .ensures)) ∙ c5 .if1 .left) in
+    let alike = runs-alike (a .n) [] (viewBytes (a .n) (a .o .view)) (messages (a .o)) none in (
+      c2 .emit-parts .ensures .0 ∙ ap (λ (x : List ℕ). length x) alike,
+      c2 .emit-parts .ensures .1 ∙ ap (λ (x : List ℕ). put (a .out .now) 0 x) alike,
     )
 
 pub emit-all-spec : {M : Type 1} → statement M
 emit-all-spec =
     tie.close
-    (tie.spec (λ c. search needs) (λ c. search needs) slice-aggregate-write-view write-view-requires
-    array-share-prefix-view slice-aggregate-emit-parts emit-parts-requires (λ c. search needs) returns)
+    (tie.spec (λ c κs. search needs) (λ c κs. search needs) (λ c κs. search needs) (λ c κs. search needs)
+    (λ c κs. search needs) (λ c κs. search needs) (λ c. search needs) (λ c. search needs) (λ c. search needs)
+    (λ c. search needs) emit-parts-requires (λ c. search needs) returns-2)

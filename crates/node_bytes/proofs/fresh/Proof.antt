@@ -1,15 +1,13 @@
 -- `node_bytes::fresh` meets its contract.
 use borrow.Author.Needs.{needs}
-use mathlib.Core.Path.{refl, sym, ap, ap₂, _∙_}
 use Prim.Native.Nat.{ℕ}
+use mathlib.Core.Path.{refl, sym, ap, ap₂, _∙_}
 use mathlib.Core.List.{List}
 use lib.ListN.{length}
 use borrow.Author.Tests.{not-true, not-false, ne-eqb, eq-eqb}
-use Rattle.octets.specs.Answer.{result}
 use Rattle.octets.specs.Bytes.{put}
 use Rattle.octets.specs.Test.{both}
 use Rattle.record.specs.Record.{blank}
-use Rattle.step.specs.Told.{told}
 use Rattle.step.specs.declared.Ending.the-variants.{None}
 use Rattle.region.specs.Record.{nPlace, headIn, headBytes}
 use Rattle.events.specs.declared.Outcome.the-variants.{Accepted}
@@ -25,9 +23,8 @@ returns c =
     let c4 = c3 .before in
     let c6 = c4 .before .before in
     let a = c6 .args in
-    becomes (c .turned-away .result) _ _ (none (a .n) (a .own) (a .r .now) (sym (c2 .and3 .ensures ∙ ap₂ both
-    (c4 .and .ensures) (c3 .and2 .ensures))
-    ∙ not-true _ (c .before .if1 .taken)))
+    becomes (c .turned-away .result) _ _ (none (a .n) (a .own) (a .r .now)
+    (sym (c2 .and3 .ensures ∙ ap₂ both (c4 .and .ensures) (c3 .and2 .ensures)) ∙ not-true _ (c .before .if1 .taken)))
     (c .turned-away .ensures _ _)
 
 returns-2 : tie.Need-returns-2
@@ -45,26 +42,25 @@ returns-2 c =
 
 returns-3 : tie.Need-returns-3
 returns-3 c =
-    let c3 = c .before .before .before in
-    let c7 = c3 .before .before .before .before in
-    let c9 = c7 .before .before in
+    let c2 = c .before .before in
+    let c6 = c2 .before .before .before .before in
+    let c8 = c6 .before .before in
+    let c9 = c8 .before in
     let c10 = c9 .before in
     let c11 = c10 .before in
     let c12 = c11 .before in
-    let c13 = c12 .before in
-    let c15 = c13 .before .before in
-    let a = c15 .args in
-    becomes (record { reply = record { outcome = Accepted None; view = c .absent .result }; length = 0 }) _ _
+    let c14 = c12 .before .before in
+    let a = c14 .args in
+    becomes (record { outcome = Accepted None; length = 0 }) _ _
     (made (a .n) (a .own) (a .r .now)
-    (sym (c11 .and3 .ensures ∙ ap₂ both (c13 .and .ensures) (c12 .and2 .ensures)) ∙ not-false _ (c10 .if1 .left))
-    (eq-eqb _ _ (c9 .if2 .left))) (
-      ap (told (result None)) (c .absent .ensures),
+    (sym (c10 .and3 .ensures ∙ ap₂ both (c12 .and .ensures) (c11 .and2 .ensures)) ∙ not-false _ (c9 .if1 .left))
+    (eq-eqb _ _ (c8 .if2 .left))) (
       refl,
-      c .absent .ensures,
       refl,
-      c3 .save-head .ensures
-          ∙ ap (λ (z : List ℕ). put z nPlace (headBytes (headIn (blank (a .n) (a .own))))) (c7 .fill .ensures)
-          ∙ blank-bytes (a .n) (a .own) (length (a .r .now)) (c9 .if2 .left),
+      refl,
+      c2 .save-head .ensures
+          ∙ ap (λ (z : List ℕ). put z nPlace (headBytes (headIn (blank (a .n) (a .own))))) (c6 .fill .ensures)
+          ∙ blank-bytes (a .n) (a .own) (length (a .r .now)) (c8 .if2 .left),
       refl,
     )
 
@@ -72,5 +68,4 @@ pub fresh-spec : {M : Type 1} → statement M
 fresh-spec =
     tie.close
     (tie.spec (λ c κs. search needs) (λ c κs. search needs) (λ c κs. search needs) (λ c κs. search needs) returns
-    (λ c κs. search needs) returns-2 (λ c κs. search needs) (λ c κs. search needs) (λ c κs. search needs)
-    (λ c. search needs) returns-3)
+    (λ c κs. search needs) returns-2 (λ c κs. search needs) (λ c κs. search needs) (λ c. search needs) returns-3)

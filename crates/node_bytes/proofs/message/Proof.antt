@@ -1,6 +1,6 @@
 -- `node_bytes::message` meets its contract.
 use borrow.Author.Needs.{needs}
-use mathlib.Core.Path.{sym, ap, _∙_}
+use mathlib.Core.Path.{refl, sym, ap, _∙_}
 use mathlib.Core.List.{List}
 use Prim.Native.Nat.{ℕ}
 use lib.Dec.{leb}
@@ -18,7 +18,7 @@ use Rattle.calls.proofs.Refusals.{message-2, message-3, message-7, message-read
 use Rattle.region.specs.Record.{recordOf}
 use Rattle.calls_bytes.specs.Entry.{inBytes}
 use Rattle.node_bytes.proofs.Admitted.{admitted, turned, at-admitted, refused-at, own-n}
-use Rattle.node_bytes.proofs.Stepped.{becomes}
+use Rattle.node_bytes.proofs.Stepped.{becomes-shown}
 use Rattle.node_bytes.proofs.message.Statement.{statement}
 use Rattle.node_bytes.proofs.message.Tie as tie
 
@@ -27,11 +27,11 @@ returns c =
     let c2 = c .before .before in
     let c7 = c2 .before .before .before .before .before in
     let a = c7 .args in
-    becomes (c .turned-away .result) _ _ (turned (a .r .now) (a .out .now) (λ d. N.message d (a .s) (a .b .now)
-    (a .out .now))
+    becomes-shown (c .turned-away .result) _ _ _ _ (turned (a .r .now) (a .out .now) (λ d. N.message d (a .s)
+    (a .b .now) (a .out .now))
     (λ l u. message-2 _ (a .s) (a .b .now) (a .out .now) (le-ltb _ _ l) u) (c2 .admission .ensures)
     (c .before .if1 .taken))
-    (c .turned-away .ensures _ _)
+    (c .turned-away .ensures _ _, refl)
 
 get-word-requires : tie.Need-get-word-requires
 get-word-requires c κs =
@@ -51,12 +51,12 @@ returns-2 c =
     let h = admitted (a .r .now) (a .out .now) (sym (c6 .admission .ensures) ∙ c5 .if1 .left) in
     let d = recordOf (a .r .now) in
     let e = own-n (a .r .now) (c3 .get-word .ensures) in
-    becomes (c .turned-away2 .result) _ _ (refused-at (a .r .now) (a .out .now) (λ d. N.message d (a .s) (a .b .now)
-    (a .out .now)) h
+    becomes-shown (c .turned-away2 .result) _ _ _ _ (refused-at (a .r .now) (a .out .now) (λ d. N.message d (a .s)
+    (a .b .now) (a .out .now)) h
     (message-3 d (a .s) (a .b .now) (a .out .now) (le-ltb _ _ (h .room)) (h .can-step)
     (sym (c2 .and .ensures ∙ ap (λ (j : ℕ). both (leb 1 (a .s)) (leb (a .s) j)) (sym e)) ∙ not-true _
     (c .before .if2 .taken))))
-    (c .turned-away2 .ensures _ _)
+    (c .turned-away2 .ensures _ _, refl)
 
 parsed-view-requires : tie.Need-parsed-view-requires
 parsed-view-requires c κs =
@@ -68,25 +68,26 @@ parsed-view-requires c κs =
 
 take-message-requires : tie.Need-take-message-requires
 take-message-requires c κs =
-    let c4 = c .before .before .before .before in
-    let c6 = c4 .before .before in
-    let c7 = c6 .before in
+    let c2 = c .before .before in
+    let c5 = c2 .before .before .before in
+    let c7 = c5 .before .before in
     let c8 = c7 .before in
     let c9 = c8 .before in
-    let c11 = c9 .before .before in
-    let c12 = c11 .before in
-    let c17 = c12 .before .before .before .before .before in
-    let a = c17 .args in
-    let h = admitted (a .r .now) (a .out .now) (sym (c12 .admission .ensures) ∙ c11 .if1 .left) in
+    let c10 = c9 .before in
+    let c12 = c10 .before .before in
+    let c13 = c12 .before in
+    let c18 = c13 .before .before .before .before .before in
+    let a = c18 .args in
+    let h = admitted (a .r .now) (a .out .now) (sym (c13 .admission .ensures) ∙ c12 .if1 .left) in
     let d = recordOf (a .r .now) in
-    let e = own-n (a .r .now) (c9 .get-word .ensures) in
-    let n = c9 .get-word .result in
-    let m = c4 .p .given .0 .0 in
-    let read = sym (c6 .parse .ensures) ∙ ap parsed (c4 .p .given .1) in
-    let view = c .before .parsed-view .ensures .0 ∙ read-view n (a .b .now) _ (sym read) in
+    let e = own-n (a .r .now) (c10 .get-word .ensures) in
+    let n = c10 .get-word .result in
+    let m = c5 .p .given .0 .0 in
+    let read = sym (c7 .parse .ensures) ∙ ap parsed (c5 .p .given .1) in
+    let view = c2 .parsed-view .ensures .0 ∙ read-view n (a .b .now) _ (sym read) in
     let low = leb 1 (a .s) in
     let high = leb (a .s) n in
-    let sender = sym (c8 .and .ensures) ∙ not-false _ (c7 .if2 .left) in (
+    let sender = sym (c9 .and .ensures) ∙ not-false _ (c8 .if2 .left) in (
       h .long,
       h .can-step,
       e,
@@ -99,27 +100,27 @@ take-message-requires c κs =
 returns-3 : tie.Need-returns-3
 returns-3 c =
     let c4 = c .before .before .before .before in
-    let c6 = c4 .before .before in
-    let c9 = c6 .before .before .before in
-    let c11 = c9 .before .before in
-    let c12 = c11 .before in
+    let c7 = c4 .before .before .before in
+    let c10 = c7 .before .before .before in
+    let c12 = c10 .before .before in
     let c13 = c12 .before in
     let c14 = c13 .before in
-    let c16 = c14 .before .before in
-    let c17 = c16 .before in
-    let c22 = c17 .before .before .before .before .before in
-    let a = c22 .args in
-    let h = admitted (a .r .now) (a .out .now) (sym (c17 .admission .ensures) ∙ c16 .if1 .left) in
+    let c15 = c14 .before in
+    let c17 = c15 .before .before in
+    let c18 = c17 .before in
+    let c23 = c18 .before .before .before .before .before in
+    let a = c23 .args in
+    let h = admitted (a .r .now) (a .out .now) (sym (c18 .admission .ensures) ∙ c17 .if1 .left) in
     let d = recordOf (a .r .now) in
-    let e = own-n (a .r .now) (c14 .get-word .ensures) in
-    let sender = sym (c13 .and .ensures ∙ ap (λ (j : ℕ). both (leb 1 (a .s)) (leb (a .s) j)) (sym e)) ∙ not-false _
-    (c12 .if2 .left) in
-    let n = c14 .get-word .result in
-    let m = c9 .p .given .0 .0 in
-    let read = sym (c11 .parse .ensures) ∙ ap parsed (c9 .p .given .1) in
-    let view = c6 .parsed-view .ensures .0 ∙ read-view n (a .b .now) _ (sym read) ∙ ap (λ (j : ℕ). viewPart j
+    let e = own-n (a .r .now) (c15 .get-word .ensures) in
+    let sender = sym (c14 .and .ensures ∙ ap (λ (j : ℕ). both (leb 1 (a .s)) (leb (a .s) j)) (sym e)) ∙ not-false _
+    (c13 .if2 .left) in
+    let n = c15 .get-word .result in
+    let m = c10 .p .given .0 .0 in
+    let read = sym (c12 .parse .ensures) ∙ ap parsed (c10 .p .given .1) in
+    let view = c7 .parsed-view .ensures .0 ∙ read-view n (a .b .now) _ (sym read) ∙ ap (λ (j : ℕ). viewPart j
     (a .b .now)) (sym e) in
-    becomes (c4 .take-message .result) _ _
+    becomes-shown (c4 .take-message .result) _ _ _ _
     (at-admitted (a .r .now) (a .out .now) (λ d. N.message d (a .s) (a .b .now) (a .out .now)) h
     ∙ ap (inBytes (a .r .now)) (message-read d (a .s) (a .b .now) (a .out .now) (le-ltb _ _ (h .room))
     (h .can-step) sender m
@@ -143,11 +144,11 @@ returns-4 c =
     let sender = sym (c5 .and .ensures ∙ ap (λ (j : ℕ). both (leb 1 (a .s)) (leb (a .s) j)) (sym e)) ∙ not-false _
     (c4 .if2 .left) in
     let read = sym (c3 .parse .ensures) ∙ ap parsed (c .before .enum-told .given .1) in
-    becomes (c .turned-away3 .result) _ _ (refused-at (a .r .now) (a .out .now) (λ d. N.message d (a .s) (a .b .now)
-    (a .out .now)) h
+    becomes-shown (c .turned-away3 .result) _ _ _ _ (refused-at (a .r .now) (a .out .now) (λ d. N.message d (a .s)
+    (a .b .now) (a .out .now)) h
     (message-7 d (a .s) (a .b .now) (a .out .now) (le-ltb _ _ (h .room)) (h .can-step) sender _
     (ap (λ (j : ℕ). decode j (a .b .now)) e ∙ read)))
-    (c .turned-away3 .ensures _ _)
+    (c .turned-away3 .ensures _ _, refl)
 
 pub message-spec : {M : Type 1} → statement M
 message-spec =

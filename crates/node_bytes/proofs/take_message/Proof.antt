@@ -26,7 +26,7 @@ use Rattle.react_bytes.proofs.Views.{allowed-there}
 use Rattle.step_bytes.specs.Moved.{isStep}
 use Rattle.calls_bytes.specs.Entry.{inBytes}
 use Rattle.node_bytes.proofs.Admitted.{in-refused, small-n}
-use Rattle.node_bytes.proofs.Stepped.{becomes, stepped, handled, can-write, long-of}
+use Rattle.node_bytes.proofs.Stepped.{becomes-shown, stepped, step-shows, handled, can-write, long-of}
 use Rattle.node_bytes.proofs.take_message.Statement.{statement}
 use Rattle.node_bytes.proofs.take_message.Tie as tie
 
@@ -42,9 +42,10 @@ returns c =
     let c2 = c .before .before in
     let c7 = c2 .before .before .before .before .before in
     let a = c7 .args in
-    becomes (c .turned-away .result) _ _ (ap (inBytes (a .r .now)) (taken-9 _ (a .s) (a .v .now) (a .out .now) (a .m)
+    becomes-shown (c .turned-away .result) _ _ _ _ (ap (inBytes (a .r .now)) (taken-9 _ (a .s) (a .v .now)
+    (a .out .now) (a .m)
     (sym (c2 .is-stale-in .ensures) ∙ c .before .if1 .taken)) ∙ in-refused 9 (a .r .now) (a .out .now))
-    (c .turned-away .ensures _ _)
+    (c .turned-away .ensures _ _, refl)
 
 react-in-requires : tie.Need-react-in-requires
 react-in-requires c κs =
@@ -83,50 +84,55 @@ move-in-requires c κs =
 
 let-out-requires : tie.Need-let-out-requires
 let-out-requires c κs =
-    let c3 = c .before .before .before in
-    let c4 = c3 .before in
-    let c8 = c4 .before .before .before .before in
-    let c16 = c8 .before .before .before .before .before .before .before .before in
-    let a = c16 .args in
-    let p = c16 .pre in
+    let c5 = c .before .before .before .before .before in
+    let c6 = c5 .before in
+    let c10 = c6 .before .before .before .before in
+    let c18 = c10 .before .before .before .before .before .before .before .before in
+    let a = c18 .args in
+    let p = c18 .pre in
     let r = a .r .now in
     let d = recordOf r in
     let v = beside (d .n) (a .v .now) (a .m) in
-    let whole = handled r (c8 .react-in .last .0) (a .n) (a .s) (c4 .most-faults .result) (a .m) (a .v .now) (p .2)
-    (small-n r (p .1) (p .2)) (c4 .most-faults .ensures) (c8 .react-in .ensures .0) (c8 .react-in .ensures .1) in
+    let whole = handled r (c10 .react-in .last .0) (a .n) (a .s) (c6 .most-faults .result) (a .m) (a .v .now) (p .2)
+    (small-n r (p .1) (p .2)) (c6 .most-faults .ensures) (c10 .react-in .ensures .0) (c10 .react-in .ensures .1) in
     let s = messageStep (faultsOf d) d (a .s) (a .m) v in
     can-write s (a .n) (length (a .out .now))
     (message-fit (faultsOf d) d (a .s) (a .m) v s (length (a .out .now)) refl refl (p .1)
     (read-lawful (d .n) (a .v .now) (a .m) (ap (λ (j : ℕ). allowed j (a .m) (a .v .now)) (p .2) ∙ p .5)) (long-of r)
     (p .3) (subst (λ (j : ℕ). a .s ≤ j) (sym (p .2)) (p .4)) (p .6))
-    (subst (λ (x : Step). isStep (c3 .move-in .result) (c3 .move-in .last .0) x) whole (c3 .move-in .ensures))
+    (subst (λ (x : Step). isStep (c5 .move-in .result) (c5 .move-in .last .0) x) whole (c5 .move-in .ensures))
     (message-n (faultsOf d) d (a .s) (a .m) v ∙ p .2)
 
 returns-2 : tie.Need-returns-2
 returns-2 c =
     let c2 = c .before .before in
-    let c6 = c2 .before .before .before .before in
-    let c7 = c6 .before in
-    let c11 = c7 .before .before .before .before in
-    let c13 = c11 .before .before in
-    let c14 = c13 .before in
-    let c19 = c14 .before .before .before .before .before in
-    let a = c19 .args in
-    let p = c19 .pre in
+    let c4 = c2 .before .before in
+    let c8 = c4 .before .before .before .before in
+    let c9 = c8 .before in
+    let c13 = c9 .before .before .before .before in
+    let c15 = c13 .before .before in
+    let c16 = c15 .before in
+    let c21 = c16 .before .before .before .before .before in
+    let a = c21 .args in
+    let p = c21 .pre in
     let r = a .r .now in
     let d = recordOf r in
     let v = beside (d .n) (a .v .now) (a .m) in
-    let whole = handled r (c11 .react-in .last .0) (a .n) (a .s) (c7 .most-faults .result) (a .m) (a .v .now) (p .2)
-    (small-n r (p .1) (p .2)) (c7 .most-faults .ensures) (c11 .react-in .ensures .0) (c11 .react-in .ensures .1) in
-    becomes (c2 .let-out .result) _ _ (ap (inBytes r) (taken-goes d (a .s) (a .v .now) (a .out .now) (a .m)
-    (sym (c14 .is-stale-in .ensures) ∙ c13 .if1 .left)))
-    (stepped (messageStep (faultsOf d) d (a .s) (a .m) v) (a .n) r (c6 .move-in .last .0) (a .out .now) _
-    (c2 .let-out .result)
-    (subst (λ (x : Step). isStep (c6 .move-in .result) (c6 .move-in .last .0) x) whole (c6 .move-in .ensures))
-    (message-n (faultsOf d) d (a .s) (a .m) v ∙ p .2) (c2 .let-out .ensures))
+    let whole = handled r (c13 .react-in .last .0) (a .n) (a .s) (c9 .most-faults .result) (a .m) (a .v .now) (p .2)
+    (small-n r (p .1) (p .2)) (c9 .most-faults .ensures) (c13 .react-in .ensures .0) (c13 .react-in .ensures .1) in
+    let s = messageStep (faultsOf d) d (a .s) (a .m) v in
+    let does = subst (λ (x : Step). isStep (c8 .move-in .result) (c8 .move-in .last .0) x) whole
+    (c8 .move-in .ensures) in
+    becomes-shown (c2 .let-out .result) _ _ _ _ (ap (inBytes r) (taken-goes d (a .s) (a .v .now) (a .out .now) (a .m)
+    (sym (c16 .is-stale-in .ensures) ∙ c15 .if1 .left))) (
+      stepped s (a .n) r (c8 .move-in .last .0) (a .out .now) _ (c2 .let-out .result) does
+          (message-n (faultsOf d) d (a .s) (a .m) v ∙ p .2) (c2 .let-out .ensures),
+      step-shows s r (c8 .move-in .last .0) (a .out .now) _ _ does (c4 .show-view .ensures),
+    )
 
 pub take-message-spec : {M : Type 1} → statement M
 take-message-spec =
     tie.close
     (tie.spec is-stale-in-requires (λ c κs. search needs) (λ c. search needs) returns react-in-requires
-    (λ c κs. search needs) move-in-requires let-out-requires (λ c. search needs) (λ c. search needs) returns-2)
+    (λ c κs. search needs) move-in-requires (λ c κs. search needs) let-out-requires (λ c. search needs)
+    (λ c. search needs) returns-2)

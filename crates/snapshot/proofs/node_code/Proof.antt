@@ -10,22 +10,22 @@ returns : tie.Need-returns
 returns c =
     let c2 = c .before .before in
     λ state out e t. (
-      c .event-code .ensures ∙ ap₂ eventCode (t .0) (ap ruleIn (t .1)),
+      c .outcome-code .ensures _ ∙ ap₂ eventCode (t .0) (ap ruleIn (t .1)),
+      t .3,
       t .4,
-      t .5,
-      t .3 ∙ lent-accepted (e .ending) (e .length) _ (ap accepted (sym (t .1)) ∙ sym (c2 .is-accepted .ensures)
-          ∙ c .before .if1 .taken),
+      t .2 ∙ lent-accepted (e .ending) (e .length) _ (ap accepted (sym (t .1)) ∙ sym (c2 .is-accepted .ensures)
+      ∙ c .before .if1 .taken),
     )
 
 returns-2 : tie.Need-returns-2
 returns-2 c =
     let c2 = c .before .before in
     λ state out e t. (
-      c .event-code2 .ensures ∙ ap₂ eventCode (t .0) (ap ruleIn (t .1)),
+      c .outcome-code2 .ensures _ ∙ ap₂ eventCode (t .0) (ap ruleIn (t .1)),
+      t .3,
       t .4,
-      t .5,
       lent-refused (e .ending) (e .length) _ (ap accepted (sym (t .1)) ∙ sym (c2 .is-accepted .ensures)
-          ∙ c .before .if1 .left),
+      ∙ c .before .if1 .left),
     )
 
 pub node-code-spec : {M : Type 1} → statement M

@@ -8,7 +8,7 @@ use Rattle.snapshot.proofs.snapshot_node_fresh.Tie as tie
 returns : tie.Need-returns
 returns c =
     let f = c .before .before .before .fresh .ensures in
-    (c .event-code .ensures ∙ ap₂ eventCode (f .0) (ap ruleIn (f .1)), f .4)
+    (c .outcome-code .ensures _ ∙ ap₂ eventCode (f .0) (ap ruleIn (f .1)), f .3)
 
 pub snapshot-node-fresh-spec : {M : Type 1} → statement M
 snapshot-node-fresh-spec =
