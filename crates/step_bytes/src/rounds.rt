@@ -75,19 +75,21 @@ fn effect_of(
     }
 }
 
-// The operation waits on.
+// The operation waits on. This is what most steps give, and so it is made in its place.
 pub fn rested(to: usize, sent: Sent) -> Effect
     ensures { λ e. ⌜ e ≡ effectOf to sent Nothing Nothing noView None noView ⌝ }
 {
-    effect_of(
-        to,
-        sent,
-        Sent::Nothing,
-        Sent::Nothing,
-        absent(),
-        Ending::None,
-        absent(),
-    )
+    Effect {
+        outbox: Outbox {
+            to: to,
+            handler: sent,
+            reading: Sent::Nothing,
+            comparing: Sent::Nothing,
+            view: absent(),
+        },
+        ending: Ending::None,
+        view: absent(),
+    }
 }
 
 // A round opens: the next request number, nobody counted, the newest reports not above t held for it.
