@@ -23,7 +23,9 @@
  *      record, or that was interrupted in the middle of a call or of sending, has stopped and does not come back.
  *   6. All nodes have the same n, each its own number, and each starts from snapshot_node_fresh.
  * Fewer than half of the nodes may stop: f of n, where f is the largest whole number with 2f < n. While no more have,
- * each operation at a standing node ends, once all messages to standing nodes are handed over.
+ * each operation at a standing node is to end, once all messages to standing nodes are handed over. Both are proved of
+ * the algorithm on links with room for anything, and of each call here that it does the algorithm's step; that a whole
+ * house of such calls does the algorithm's run is proved of the cluster below, and not yet of links of your own.
  *
  * WHAT THE CALLER OWES, of every call, since no call can test it:
  *   - A pointer is never null, not even beside length 0, where nothing is read or written through it. It points to as
@@ -152,6 +154,8 @@ extern "C" {
 
 /* ---- One node ----
  *
+ * `state` is its record, in SNAPSHOT_RECORD bytes that you lend.
+ *
  * A record is unusable (refusal 2) where its n is not 1 to 16, its own number not 1 to n, its round not 0 to 3, or a
  * number above its limit; where a report that is held for maxtag (the top tag, by writes and echoes), for the open
  * round's tag, or in the kept view has a tag above that one; where bytes that are not zero stand beside tag 0; or where
@@ -163,26 +167,26 @@ size_t snapshot_node_size(void);
 
 /* Makes the record that of node `own` of n, which has heard nothing and has no open operation.
  *   1   n is not 1 to 16, or own is not 1 to n
- *   12  record_len is not SNAPSHOT_RECORD
+ *   12  state_len is not SNAPSHOT_RECORD
  * Answers 0. Writes the whole record. */
-uint8_t snapshot_node_fresh(size_t n, size_t own, uint8_t *record, size_t record_len);
+uint8_t snapshot_node_fresh(size_t n, size_t own, uint8_t *state, size_t state_len);
 
 /* Begins an update with this report. The messages to send stand in out[0] to out[*length - 1]: walk them with
  * snapshot_next. The update ends in a later snapshot_node_message.
- *   12  record_len is not SNAPSHOT_RECORD, or out_len is below SNAPSHOT_OUTPUT
+ *   12  state_len is not SNAPSHOT_RECORD, or out_len is below SNAPSHOT_OUTPUT
  *   2   the record is unusable
  *   5   an operation is open
  *   6   fewer than five request numbers are left
  * Answers 0. Writes the record, the first *length bytes of out, and *length. */
-uint8_t snapshot_node_begin_update(uint8_t *record, size_t record_len, const uint8_t report[SNAPSHOT_REPORT],
+uint8_t snapshot_node_begin_update(uint8_t *state, size_t state_len, const uint8_t report[SNAPSHOT_REPORT],
                                    uint8_t *out, size_t out_len, size_t *length);
 
 /* Begins a scan; all else is as for an update. */
-uint8_t snapshot_node_begin_scan(uint8_t *record, size_t record_len, uint8_t *out, size_t out_len, size_t *length);
+uint8_t snapshot_node_begin_scan(uint8_t *state, size_t state_len, uint8_t *out, size_t out_len, size_t *length);
 
 /* Hands over one message that node `sender` has sent to this one. It may give rise to messages, which stand in
  * out[0] to out[*length - 1], and it may end the open operation.
- *   12  record_len is not SNAPSHOT_RECORD, or out_len is below SNAPSHOT_OUTPUT
+ *   12  state_len is not SNAPSHOT_RECORD, or out_len is below SNAPSHOT_OUTPUT
  *   2   the record is unusable
  *   3   sender is not 1 to n
  *   7   the bytes are not one message of the layout
@@ -193,7 +197,7 @@ uint8_t snapshot_node_begin_scan(uint8_t *record, size_t record_len, uint8_t *ou
  * Answers 0, SNAPSHOT_SPENT, or 100 to 103, an update done, or 110 to 113, a scan ended. Writes the record, the first
  * *length bytes of out, *length (0 where nothing is to be sent), and, only where a scan ended, the view: n entries,
  * then zeros. */
-uint8_t snapshot_node_message(uint8_t *record, size_t record_len, size_t sender, const uint8_t *bytes, size_t bytes_len,
+uint8_t snapshot_node_message(uint8_t *state, size_t state_len, size_t sender, const uint8_t *bytes, size_t bytes_len,
                               uint8_t *out, size_t out_len, size_t *length, uint8_t view[SNAPSHOT_VIEW]);
 
 /* The message at the front of the bytes: how long it is, and where it goes (enum snapshot_route). An output of *length
@@ -206,13 +210,14 @@ uint8_t snapshot_next(size_t n, const uint8_t *bytes, size_t bytes_len, size_t *
 
 /* ---- A cluster in lent bytes ----
  *
- * b is the whole cluster, b_len what snapshot_size answers for its n. Refusals 12 and 2 are the same for all calls but
- * snapshot_fresh:
- *   12  b_len is 0, or byte 0 states an n from 1 to 16 and b_len is not the length for it
+ * `cluster` is the whole of it, cluster_len what snapshot_size answers for its n. Refusals 12 and 2 are the same for
+ * all calls but snapshot_fresh:
+ *   12  cluster_len is 0, or byte 0 states an n from 1 to 16 and cluster_len is not the length for it
  *   2   byte 0 states another n; a record is unusable, or that of another n or node; a channel counts above 16; or more
  *       than f nodes are stopped
- * An event that is cut (cut is true) lets out only the first m of its messages, one for each receiver counted, or all
- * where there are fewer; then its node has stopped, and its ending is not given. Where cut is false m is not looked at.
+ * An event that is cut (cut is true) lets out only its first messages, as many as `entries` says, one for each receiver
+ * counted, or all where there are fewer; then its node has stopped, and its ending is not given. Where cut is false
+ * entries is not looked at.
  */
 
 /* The bytes to lend for a cluster of n nodes; 0 where n is not 1 to 16. Refuses nothing, writes nothing. */
@@ -220,29 +225,29 @@ size_t snapshot_size(size_t n);
 
 /* Makes the bytes a fresh cluster of n nodes.
  *   1   n is not 1 to 16
- *   12  b_len is not snapshot_size(n)
+ *   12  cluster_len is not snapshot_size(n)
  * Answers 0. Writes the whole cluster. */
-uint8_t snapshot_fresh(size_t n, uint8_t *b, size_t b_len);
+uint8_t snapshot_fresh(size_t n, uint8_t *cluster, size_t cluster_len);
 
-/* Begins an update with this report at node c.
+/* Begins an update with this report at a node.
  *   12, 2  above
- *   3   c is not 1 to n
- *   4   c has stopped
- *   5   an operation is open at c
- *   6   fewer than five request numbers are left at c
+ *   3   node is not 1 to n
+ *   4   the node has stopped
+ *   5   an operation is open at it
+ *   6   fewer than five request numbers are left at it
  *   10  the event is cut and f nodes are stopped
  *   11  a channel would hold more than 16 messages
  * Answers 0. Writes the cluster. */
-uint8_t snapshot_begin_update(uint8_t *b, size_t b_len, size_t c, const uint8_t report[SNAPSHOT_REPORT], bool cut,
-                              size_t m);
+uint8_t snapshot_begin_update(uint8_t *cluster, size_t cluster_len, size_t node, const uint8_t report[SNAPSHOT_REPORT],
+                              bool cut, size_t entries);
 
-/* Begins a scan at node c; all else is as for an update. */
-uint8_t snapshot_begin_scan(uint8_t *b, size_t b_len, size_t c, bool cut, size_t m);
+/* Begins a scan at a node; all else is as for an update. */
+uint8_t snapshot_begin_scan(uint8_t *cluster, size_t cluster_len, size_t node, bool cut, size_t entries);
 
-/* Hands the message that has waited longest on the channel from a to c over to c.
+/* Hands the message that has waited longest on the channel between two nodes over to the second.
  *   12, 2  above
- *   3   a or c is not 1 to n
- *   4   c has stopped
+ *   3   from or to is not 1 to n
+ *   4   `to` has stopped
  *   8   nothing waits on that channel
  *   7   what waits is not a message of the layout
  *   9   a value that cannot come now, as for one node
@@ -250,15 +255,16 @@ uint8_t snapshot_begin_scan(uint8_t *b, size_t b_len, size_t c, bool cut, size_t
  *   11  a channel would hold more than 16 messages
  * Answers 0, SNAPSHOT_SPENT, or 100 to 103, an update done, or 110 to 113, a scan ended. Writes the cluster and, only
  * where a scan ended, the view: n entries, then zeros. */
-uint8_t snapshot_deliver(uint8_t *b, size_t b_len, size_t a, size_t c, bool cut, size_t m, uint8_t view[SNAPSHOT_VIEW]);
+uint8_t snapshot_deliver(uint8_t *cluster, size_t cluster_len, size_t from, size_t to, bool cut, size_t entries,
+                         uint8_t view[SNAPSHOT_VIEW]);
 
-/* Stops node c.
+/* Stops a node.
  *   12, 2  above
- *   3   c is not 1 to n
- *   4   c has stopped
+ *   3   node is not 1 to n
+ *   4   it has stopped
  *   10  f nodes are stopped
  * Answers 0. Writes the cluster. */
-uint8_t snapshot_stop(uint8_t *b, size_t b_len, size_t c);
+uint8_t snapshot_stop(uint8_t *cluster, size_t cluster_len, size_t node);
 
 /* ---- Messages and views ----
  *
@@ -273,7 +279,8 @@ uint8_t snapshot_stop(uint8_t *b, size_t b_len, size_t c);
  *   7   the bytes are not one message of the layout
  * Answers 0. Writes the numbers, 0 where the kind has none, and the report, zeros where it has none. The view of a good
  * message is the bytes from 18 on. */
-uint8_t snapshot_read(size_t n, const uint8_t *b, size_t b_len, uint64_t numbers[4], uint8_t report[SNAPSHOT_REPORT]);
+uint8_t snapshot_read(size_t n, const uint8_t *bytes, size_t bytes_len, uint64_t numbers[4],
+                      uint8_t report[SNAPSHOT_REPORT]);
 
 /* Writes the message of these numbers at the front of out. The report is looked at only for a value, the view only for
  * a good message, and of the numbers those that the kind has.

@@ -4,28 +4,33 @@ use crate::{REPORT, VIEW};
 
 extern "C" {
     pub fn snapshot_size(n: usize) -> usize;
-    pub fn snapshot_fresh(n: usize, b: *mut u8, b_len: usize) -> u8;
+    pub fn snapshot_fresh(n: usize, cluster: *mut u8, cluster_len: usize) -> u8;
     pub fn snapshot_begin_update(
-        b: *mut u8,
-        b_len: usize,
-        c: usize,
+        cluster: *mut u8,
+        cluster_len: usize,
+        node: usize,
         report: *const [u8; REPORT],
         cut: bool,
         m: usize,
     ) -> u8;
-    pub fn snapshot_begin_scan(b: *mut u8, b_len: usize, c: usize, cut: bool, m: usize) -> u8;
+    pub fn snapshot_begin_scan(cluster: *mut u8, cluster_len: usize, node: usize, cut: bool, entries: usize) -> u8;
     pub fn snapshot_deliver(
-        b: *mut u8,
-        b_len: usize,
-        a: usize,
-        c: usize,
+        cluster: *mut u8,
+        cluster_len: usize,
+        from: usize,
+        to: usize,
         cut: bool,
-        m: usize,
+        entries: usize,
         view: *mut [u8; VIEW],
     ) -> u8;
-    pub fn snapshot_stop(b: *mut u8, b_len: usize, c: usize) -> u8;
-    pub fn snapshot_read(n: usize, b: *const u8, b_len: usize, numbers: *mut [u64; 4], report: *mut [u8; REPORT])
-        -> u8;
+    pub fn snapshot_stop(cluster: *mut u8, cluster_len: usize, node: usize) -> u8;
+    pub fn snapshot_read(
+        n: usize,
+        bytes: *const u8,
+        bytes_len: usize,
+        numbers: *mut [u64; 4],
+        report: *mut [u8; REPORT],
+    ) -> u8;
     pub fn snapshot_write(
         n: usize,
         numbers: *const [u64; 4],
@@ -38,25 +43,25 @@ extern "C" {
     ) -> u8;
     pub fn snapshot_figures(n: usize, view: *const u8, view_len: usize, sums: *mut [u32; 4]) -> u8;
     pub fn snapshot_node_size() -> usize;
-    pub fn snapshot_node_fresh(n: usize, own: usize, record: *mut u8, record_len: usize) -> u8;
+    pub fn snapshot_node_fresh(n: usize, own: usize, state: *mut u8, state_len: usize) -> u8;
     pub fn snapshot_node_begin_update(
-        record: *mut u8,
-        record_len: usize,
+        state: *mut u8,
+        state_len: usize,
         report: *const [u8; REPORT],
         out: *mut u8,
         out_len: usize,
         length: *mut usize,
     ) -> u8;
     pub fn snapshot_node_begin_scan(
-        record: *mut u8,
-        record_len: usize,
+        state: *mut u8,
+        state_len: usize,
         out: *mut u8,
         out_len: usize,
         length: *mut usize,
     ) -> u8;
     pub fn snapshot_node_message(
-        record: *mut u8,
-        record_len: usize,
+        state: *mut u8,
+        state_len: usize,
         sender: usize,
         bytes: *const u8,
         bytes_len: usize,

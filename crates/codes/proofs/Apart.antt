@@ -180,9 +180,9 @@ proper (by-stop c b) = of-stop c b
 -- ---- the refusals of the calls at one node
 
 -- what such a call tells, and the same with its rule
-record Fitting (answer : Told) (ending : Answer Ending) : Type 0 where
-  number-is : Numbered ending
-  told-is : answer ≡ told ending (toldView answer)
+pub record Fitting (answer : Told) (ending : Answer Ending) : Type 0 where
+  pub number-is : Numbered ending
+  pub told-is : answer ≡ told ending (toldView answer)
 
 refuses : (k : ℕ) → both (leb 1 k) (leb k lastRefusal) ≡ true → Fitting (refusal k) (refused k)
 refuses k h = record { number-is = in-range k h; told-is = refl }
@@ -240,7 +240,7 @@ made-fits n own r =
     on-pick InBytes (L.isRefusal (N.fresh n own .ending)) _ _ (λ e. fresh-fits n own)
     (λ e. on-pick InBytes (eqb (length r) recordSize) _ _ (λ e. fresh-fits n own) (λ e. refuses 12 refl))
 
-fitting : {e : L.LentResult} → CalledNode e → InBytes e
+pub fitting : {e : L.LentResult} → CalledNode e → InBytes e
 fitting (by-fresh-node n own r) = made-fits n own r
 fitting (by-begin-node r o out) = at-fits r out (λ c. N.begin c o out) (begin-fits (recordOf r) o out)
 fitting (by-message r s b out) = at-fits r out (λ c. N.message c s b out) (message-fits (recordOf r) s b out)

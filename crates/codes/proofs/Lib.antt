@@ -1,3 +1,4 @@
 pub mod Accepted
 pub mod Apart
+pub mod Routes
 pub mod Shown

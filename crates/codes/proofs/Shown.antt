@@ -1,4 +1,4 @@
--- The lent view where a delivery ends a scan is zeros past the n stated: the claim of specs/Shown.
+-- The lent view where a scan ends is zeros past n: the claims of specs/Shown.
 use Prim.Native.Nat.{ℕ, _-_, _*_, _≤_}
 use mathlib.Core.Path.{_≡_, refl, sym, ap, _∙_}
 use mathlib.Core.List.{List}
@@ -6,30 +6,59 @@ use native.Mathlib.Decide.{decLe}
 use native.Mathlib.Omega.{arith}
 use lib.ListN.{length, drop, replicate, drop-of-length-le}
 use Rattle.octets.specs.Answer.{Answer, result}
+use Rattle.octets.specs.Bytes.{put}
 use Rattle.octets.proofs.Put.{put-over}
 use Rattle.view.specs.Size.{nodes, entrySize}
-use Rattle.view.specs.View.{viewBytes}
-use Rattle.view.proofs.First.{absent-bytes}
+use Rattle.view.specs.View.{viewBytes, AbsentPast}
+use Rattle.view.specs.declared.View.{View}
+use Rattle.view.proofs.First.{absent-bytes, none-absent}
 use Rattle.view.proofs.ViewBytes.{length-viewBytes}
 use Rattle.step.specs.declared.Ending.{Ending}
-use Rattle.step.specs.Told.{told}
+use Rattle.step.specs.Told.{Told, told, toldView}
+use Rattle.step.proofs.Numbers.{on-pick}
+use Rattle.calls.proofs.Shown.{message-absent}
+use Rattle.region.specs.Record.{recordOf, codesKnown}
 use Rattle.layout.specs.Layout.{stated}
 use Rattle.events.specs.Event.{deliver}
 use Rattle.events.proofs.Shown.{deliver-absent}
+use Rattle.calls_bytes.specs.Entry.{LentResult, fits, inBytes, atRecord, message}
 use Rattle.calls_bytes.specs.Shown.{eventView}
+use Rattle.codes.specs.Apart.{by-message}
+use Rattle.codes.proofs.Apart.{fitting}
 use Rattle.codes.specs.Shown as claim
 
-pub zero-past : claim.ZeroPast
-zero-past a c x b view r l e =
-    let v = deliver a c x b .view in
-    let n = stated b in
-    ap (drop (entrySize * n))
-    (ap (λ (t : Answer Ending). eventView (told t v) view) e
-    ∙ put-over view (viewBytes nodes v) (length-viewBytes nodes v ∙ sym l))
+-- a view that has nothing past n, in lent bytes
+zeros : (n : ℕ) (v : View) (view : List ℕ) → length view ≡ entrySize * nodes → (n ≤ nodes → AbsentPast n v)
+    → drop (entrySize * n) (put view 0 (viewBytes nodes v)) ≡ replicate (entrySize * (nodes - n)) 0
+zeros n v view l h =
+    ap (drop (entrySize * n)) (put-over view (viewBytes nodes v) (length-viewBytes nodes v ∙ sym l))
     ∙ elim (decLe n nodes) [
-      | yes h ↦ absent-bytes n v (deliver-absent a c x b h)
-      | no h ↦
+      | yes m ↦ absent-bytes n v (h m)
+      | no m ↦
           let z : nodes - n ≡ 0 = omega arith in
           drop-of-length-le (viewBytes nodes v) {i = entrySize * n} (rw (length-viewBytes nodes v) (omega arith))
           ∙ rw z refl
     ]
+
+pub zero-past : claim.ZeroPast
+zero-past a c x b view r l e =
+    let v = deliver a c x b .view in
+    ap (λ (t : Answer Ending). drop (entrySize * stated b) (eventView (told t v) view)) e
+    ∙ zeros (stated b) v view l (deliver-absent a c x b)
+
+-- what a message at a node shows has nothing past the record's n
+lent-absent : (r : List ℕ) (s : ℕ) (b out : List ℕ) → recordOf r .n ≤ nodes
+    → AbsentPast (recordOf r .n) (toldView (message r s b out .answer))
+unfolding atRecord inBytes
+lent-absent r s b out h =
+    let P : LentResult → Type 0 = λ e. AbsentPast (recordOf r .n) (toldView (e .answer)) in
+    let none = none-absent (recordOf r .n) h in
+    on-pick P (fits r out) _ _
+    (λ e. on-pick P (codesKnown r) _ _ (λ e. message-absent (recordOf r) s b out h) (λ e. none)) (λ e. none)
+
+pub node-zero-past : claim.NodeZeroPast
+node-zero-past r s b out view x l e =
+    let v = toldView (message r s b out .answer) in
+    let t = fitting (by-message r s b out) .told-is ∙ ap (λ (y : Answer Ending). told y v) e in
+    ap (λ (y : Told). drop (entrySize * recordOf r .n) (eventView y view)) t
+    ∙ zeros (recordOf r .n) v view l (lent-absent r s b out)

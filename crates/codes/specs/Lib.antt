@@ -1,3 +1,4 @@
 pub mod Apart
 pub mod Code
+pub mod Routes
 pub mod Shown

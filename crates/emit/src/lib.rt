@@ -11,6 +11,7 @@ use wire_parse::views::is_good;
 use wire_write::write;
 ghost use mathlib.Core.Path.{_≡_};
 ghost use mathlib.Core.Bool.{true};
+ghost use mathlib.Core.List.{_++_};
 ghost use Prim.Native.Nat.{_+_, _≤_};
 ghost use lib.ListN.{length};
 ghost use Rattle.octets.specs.Bytes.{put};
@@ -53,14 +54,19 @@ fn emit_sent(n: usize, m: Sent, v: &[u8], out: &mut [u8], at: usize) -> usize
 
 // Writes the three parts of a step, one after the other, and answers how many bytes they have; v is the bytes of its
 // view.
-fn emit_parts(n: usize, o: Outbox, v: &[u8], out: &mut [u8]) -> usize
-    requires { ⌜ Room n (now v) (messages o) 0 (length (now out)) ⌝ }
-    ensures { λ r. ⌜ (r ≡ length (run (now (v .entry)) (messages o)))
-        × (now (out .exit) ≡ put (now (out .entry)) 0 (run (now (v .entry)) (messages o))) ⌝ }
+fn emit_parts(
+    n: usize,
+    handler: Sent,
+    reading: Sent,
+    comparing: Sent,
+    v: &[u8],
+    out: &mut [u8],
+) -> usize
+    requires { ⌜ Room n (now v) (listed handler ++ listed reading ++ listed comparing) 0 (length (now out)) ⌝ }
+    ensures { λ r. ⌜ (r ≡ length (run (now (v .entry)) (listed handler ++ listed reading ++ listed comparing)))
+        × (now (out .exit)
+        ≡ put (now (out .entry)) 0 (run (now (v .entry)) (listed handler ++ listed reading ++ listed comparing))) ⌝ }
 {
-    let handler = o.handler;
-    let reading = o.reading;
-    let comparing = o.comparing;
     let first = emit_sent(n, handler, v, out, 0);
     let second = emit_sent(n, reading, v, out, first);
     emit_sent(n, comparing, v, out, second)
@@ -86,7 +92,10 @@ fn emit_held(n: usize, o: Outbox, out: &mut [u8]) -> usize
     let mut view = [0u8; VIEW];
     let size = ENTRY * n;
     write_view(n, o.view, &mut view[..size]);
-    emit_parts(n, o, &view[..size], out)
+    let handler = o.handler;
+    let reading = o.reading;
+    let comparing = o.comparing;
+    emit_parts(n, handler, reading, comparing, &view[..size], out)
 }
 
 // Writes what a whole step sends, and answers how many bytes it has. The bytes of the view are made for a good message
@@ -106,5 +115,5 @@ pub fn emit_all(n: usize, o: Outbox, out: &mut [u8]) -> usize
         return emit_held(n, o, out);
     }
     let none = [0u8; 1];
-    emit_parts(n, o, &none[..0], out)
+    emit_parts(n, handler, reading, comparing, &none[..0], out)
 }

@@ -109,13 +109,10 @@ fn entry_ok(top: u64, b: &[u8], at: usize) -> bool
     ensures { λ r. ⌜ r ≡ entryOk top (word (now (b .entry)) at) (word (now (b .entry)) (at + tagSize)) ⌝ }
 {
     let tag = octets::get_word(b, at);
-    if octets::and(1 <= tag, tag <= top) {
-        return true;
-    }
     if tag == 0 {
         return octets::get_word(b, at + TAG) == 0;
     }
-    false
+    tag <= top
 }
 
 // Whether each of n entries may stand in a view whose tags are at most `top`.

@@ -9,29 +9,26 @@ use Rattle.emit.proofs.emit_parts.Tie as tie
 emit-sent-requires : tie.Need-emit-sent-requires
 emit-sent-requires c κs =
     let a = c .before .before .before .args in
-    let o = a .o in
-    room-first (a .n) (a .v .now) (listed (o .handler)) (listed (o .reading)) (listed (o .comparing)) _
+    room-first (a .n) (a .v .now) (listed (a .handler)) (listed (a .reading)) (listed (a .comparing)) _
     (c .before .before .before .pre)
 
 emit-sent-requires-2 : tie.Need-emit-sent-requires-2
 emit-sent-requires-2 c κs =
     let c7 = c .before .before .before .before .before .before .before in
     let a = c7 .args in
-    let o = a .o in
     let first = c .before .before .before .emit-sent in
-    room-as (a .n) (a .v .now) (listed (o .reading)) _ (first .kept .1 .1 .1 .0)
-    (room-second (a .n) (a .v .now) (listed (o .handler)) (listed (o .reading)) (listed (o .comparing)) _ (c7 .pre) _
+    room-as (a .n) (a .v .now) (listed (a .reading)) _ (first .kept .1 .1 .1 .0)
+    (room-second (a .n) (a .v .now) (listed (a .handler)) (listed (a .reading)) (listed (a .comparing)) _ (c7 .pre) _
     (first .ensures .0))
 
 emit-sent-requires-3 : tie.Need-emit-sent-requires-3
 emit-sent-requires-3 c κs =
     let c7 = c .before .before .before .before .before .before .before in
     let a = c7 .before .before .before .before .args in
-    let o = a .o in
     let first = c7 .emit-sent in
     let second = c .before .before .before .emit-sent2 in
-    room-as (a .n) (a .v .now) (listed (o .comparing)) _ (second .kept .1 .1 .1 .0 ∙ first .kept .1 .1 .1 .0)
-    (room-third (a .n) (a .v .now) (listed (o .handler)) (listed (o .reading)) (listed (o .comparing)) _
+    room-as (a .n) (a .v .now) (listed (a .comparing)) _ (second .kept .1 .1 .1 .0 ∙ first .kept .1 .1 .1 .0)
+    (room-third (a .n) (a .v .now) (listed (a .handler)) (listed (a .reading)) (listed (a .comparing)) _
     (c7 .before .before .before .before .pre) _ (first .ensures .0) _ (second .ensures .0))
 
 returns : tie.Need-returns
@@ -39,14 +36,13 @@ returns c =
     let c6 = c .before .before .before .before .before .before in
     let c14 = c6 .before .before .before .before .before .before .before .before in
     let a = c14 .args in
-    let o = a .o in
     let p = c14 .pre in
     let first = c6 .before .before .before .before .emit-sent .ensures in
     let second = c6 .emit-sent2 .ensures in
     let third = c .before .before .emit-sent3 .ensures in (
-      three-long (a .n) (a .v .now) (listed (o .handler)) (listed (o .reading)) (listed (o .comparing)) _ p _ (first .0)
+      three-long (a .n) (a .v .now) (listed (a .handler)) (listed (a .reading)) (listed (a .comparing)) _ p _ (first .0)
           _ (second .0) _ (third .0),
-      three-put (a .n) (a .v .now) (listed (o .handler)) (listed (o .reading)) (listed (o .comparing)) _ p _ (first .0)
+      three-put (a .n) (a .v .now) (listed (a .handler)) (listed (a .reading)) (listed (a .comparing)) _ p _ (first .0)
           _ (second .0) (a .out .now) _ _ _ (first .1) (second .1) (third .1),
     )
 

@@ -14,7 +14,7 @@ returns c =
       t .3,
       t .4,
       t .2 ∙ lent-accepted (e .ending) (e .length) _ (ap accepted (sym (t .1)) ∙ sym (c2 .is-accepted .ensures)
-      ∙ c .before .if1 .taken),
+          ∙ c .before .if1 .taken),
     )
 
 returns-2 : tie.Need-returns-2
@@ -25,7 +25,7 @@ returns-2 c =
       t .3,
       t .4,
       lent-refused (e .ending) (e .length) _ (ap accepted (sym (t .1)) ∙ sym (c2 .is-accepted .ensures)
-      ∙ c .before .if1 .left),
+          ∙ c .before .if1 .left),
     )
 
 pub node-code-spec : {M : Type 1} → statement M
