@@ -19,6 +19,7 @@ use Rattle.step.specs.React.{react}
 use Rattle.step.specs.Told.{told, toldView}
 use Rattle.step.specs.declared.Ending.{Ending}
 use Rattle.step.specs.Step.{messages, started}
+use Rattle.step.specs.declared.Outbox.{Outbox}
 use Rattle.step.specs.declared.Sent.{Sent}
 use Rattle.step.specs.declared.Step.{Step}
 use Rattle.calls.specs.Bytes.{outBytes}
@@ -30,10 +31,11 @@ use Rattle.region.proofs.Back.{sized-view, sized-of}
 use Rattle.react_bytes.proofs.Handling.{reacted-step}
 use Rattle.step_bytes.specs.Moved.{effect, isStep}
 use Rattle.step_bytes.specs.declared.Effect.{Effect}
+use Rattle.events.specs.declared.Outcome.the-variants.{Accepted}
 use Rattle.calls_bytes.specs.Entry.{LentResult, inBytes}
 use Rattle.node_bytes.specs.declared.Called.{Called}
 use Rattle.calls_bytes.specs.Shown.{eventView}
-use Rattle.node_bytes.specs.Called.{tells, shows, lets}
+use Rattle.node_bytes.specs.Called.{tells, shows}
 
 pub becomes : (a : Called) (r out : List ℕ) {e f : LentResult} → e ≡ f → tells a r out f → tells a r out e
 becomes a r out p t = subst (tells a r out) (sym p) t
@@ -42,20 +44,29 @@ pub becomes-shown : (a : Called) (r out view before : List ℕ) {e f : LentResul
     → shows a r out view f before → shows a r out view e before
 becomes-shown a r out view before p t = subst (λ (x : LentResult). shows a r out view x before) (sym p) t
 
+-- the messages of an outbox for n nodes went to the start of `out`, which was `before`, and k is their length
+abbrev lets : ℕ → (out before : List ℕ) → ℕ → Outbox → Type 0
+lets k out before n o = (k ≡ length (outBytes n o)) × (out ≡ put before 0 (outBytes n o))
+
+-- what a call answers where its step has this ending
+abbrev pub called : Ending → ℕ → Called
+called ending k = record { outcome = Accepted ending; length = k }
+
 -- r was the record before the step, r′ is the one after it
-pub stepped : (s : Step) (n : ℕ) (r r′ out out′ : List ℕ) (a : Called) {e : Effect} → isStep e r′ s → s .node .n ≡ n
-    → lets a out′ out n (e .outbox) (e .ending) → tells a r′ out′ (inBytes r (letOut s out))
+pub stepped : (s : Step) (n : ℕ) (r r′ out out′ : List ℕ) (k : ℕ) {e : Effect} → isStep e r′ s → s .node .n ≡ n
+    → lets k out′ out n (e .outbox) → tells (called (e .ending) k) r′ out′ (inBytes r (letOut s out))
 unfolding inBytes letOut
-stepped s n r r′ out out′ a {e} h k l =
-    let t : lets a out′ out (s .node .n) (s .outbox) (s .ending) =
-    subst (λ (x : Effect). lets a out′ out (s .node .n) (x .outbox) (x .ending)) (h .0)
-    (subst (λ (j : ℕ). lets a out′ out j (e .outbox) (e .ending)) (sym k) l) in (
-      ap (λ (x : Answer Ending). told x (toldView (told (result (s .ending)) (s .view)))) (t .0)
+stepped s n r r′ out out′ k {e} h q l =
+    let t : lets k out′ out (s .node .n) (s .outbox) =
+    subst (λ (x : Effect). lets k out′ out (s .node .n) (x .outbox)) (h .0)
+    (subst (λ (j : ℕ). lets k out′ out j (e .outbox)) (sym q) l) in
+    let d : result (e .ending) ≡ result (s .ending) = ap (λ (x : Effect). result (x .ending)) (h .0) in (
+      ap (λ (x : Answer Ending). told x (toldView (told (result (s .ending)) (s .view)))) d
           ∙ told-toldView (s .ending) (s .view),
+      d,
       t .0,
-      t .1,
       h .1,
-      t .2,
+      t .1,
     )
 
 -- the view of the step is what is shown

@@ -2,13 +2,7 @@
 use Prim.Native.Nat.{ℕ}
 use mathlib.Core.Path.{_≡_}
 use mathlib.Core.List.{List}
-use lib.ListN.{length}
-use Rattle.octets.specs.Answer.{result}
-use Rattle.octets.specs.Bytes.{put}
-use Rattle.step.specs.declared.Ending.{Ending}
-use Rattle.step.specs.declared.Outbox.{Outbox}
 use Rattle.step.specs.Told.{told, toldView}
-use Rattle.calls.specs.Bytes.{outBytes}
 use Rattle.events.specs.Outcome.{answerOf}
 use Rattle.calls_bytes.specs.Entry.{LentResult}
 use Rattle.calls_bytes.specs.Shown.{eventView}
@@ -24,9 +18,3 @@ tells a r out e =
 -- The same with the lent view at exit, which was `before`.
 abbrev pub shows : Called → (r out view : List ℕ) → LentResult → (before : List ℕ) → Type 0
 shows a r out view e before = tells a r out e × (view ≡ eventView (e .answer) before)
-
--- Cited by inner contracts only: an answer tells of an ending, and the messages of an outbox for n nodes went to the
--- start of `out`, which was `before`.
-abbrev pub lets : Called → (out before : List ℕ) → ℕ → Outbox → Ending → Type 0
-lets a out before n o ending =
-    (answerOf (a .outcome) ≡ result ending) × (a .length ≡ length (outBytes n o)) × (out ≡ put before 0 (outBytes n o))

@@ -19,7 +19,6 @@ use region::places::N_PLACE;
 use region::places::OWN_PLACE;
 use region::places::RECORD;
 use step::Ending;
-use step::Outbox;
 use step_bytes::begin_in;
 use step_bytes::is_full_in;
 use step_bytes::is_open_in;
@@ -36,17 +35,14 @@ ghost use mathlib.Core.List.{List, []};
 ghost use Prim.Native.Nat.{ℕ, _≤_};
 ghost use lib.ListN.{length};
 ghost use Rattle.octets.specs.Answer.{result};
-ghost use Rattle.view.specs.Size.{nodes};
 ghost use Rattle.wire.specs.Layout.{allowed};
 ghost use Rattle.record.specs.Usable.{usable};
-ghost use Rattle.step.specs.Claims.{AllLawful, sizes};
-ghost use Rattle.step.specs.Step.{messages};
 ghost use Rattle.calls.specs.Entry.{leastOutput, taken};
 ghost use Rattle.region.specs.Record.{recordSize, recordOf};
 ghost use Rattle.calls_bytes.specs.Entry.{refuse, inBytes, fresh as freshCall, begin as beginCall};
 ghost use Rattle.calls_bytes.specs.Entry.{message as messageCall};
 ghost use Rattle.node_bytes.specs.Admission.{usableIn, admission as admissionOf};
-ghost use Rattle.node_bytes.specs.Called.{tells, shows, lets};
+ghost use Rattle.node_bytes.specs.Called.{tells, shows};
 
 // The answer of a call, and how many bytes of messages stand at the start of the output buffer.
 pub struct Called {
@@ -123,19 +119,6 @@ fn admission(r: &[u8], room: usize) -> u8
     0
 }
 
-// Writes what a step sends, and answers with its ending.
-fn let_out(n: usize, o: Outbox, ending: Ending, out: &mut [u8]) -> Called
-    requires { ⌜ (1 ≤ n) × (n ≤ nodes) × AllLawful n (o .view) (messages o)
-        × (sizes n (messages o) ≤ length (now out)) ⌝ }
-    ensures { λ a. ⌜ lets a (now (out .exit)) (now (out .entry)) n o ending ⌝ }
-{
-    let written = emit_all(n, o, out);
-    Called {
-        outcome: Outcome::Accepted(ending),
-        length: written,
-    }
-}
-
 // Begins an operation; the messages go to `out`. It refuses with 12, 2, 5, 6.
 pub fn begin(r: &mut [u8], o: Operation, out: &mut [u8]) -> Called
     ensures { λ a. ⌜ tells a (now (r .exit)) (now (out .exit)) (beginCall (now (r .entry)) o (now (out .entry))) ⌝ }
@@ -153,7 +136,11 @@ pub fn begin(r: &mut [u8], o: Operation, out: &mut [u8]) -> Called
     let n = get_word(r, N_PLACE) as usize;
     let e = begin_in(r, o);
     let ending = e.ending;
-    let_out(n, e.outbox, ending, out)
+    let written = emit_all(n, e.outbox, out);
+    Called {
+        outcome: Outcome::Accepted(ending),
+        length: written,
+    }
 }
 
 // A message that was read is handled, v the bytes of its view, or refused with 9.
@@ -178,7 +165,11 @@ fn take_message(
     let e = move_in(r, n, most_faults(n), s, sent);
     let ending = e.ending;
     show_view(ending, e.view, view);
-    let_out(n, e.outbox, ending, out)
+    let written = emit_all(n, e.outbox, out);
+    Called {
+        outcome: Outcome::Accepted(ending),
+        length: written,
+    }
 }
 
 // Handles a message from node s; the messages that it gives rise to go to `out`, the view of a scan that ends to

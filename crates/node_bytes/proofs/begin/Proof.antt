@@ -14,7 +14,7 @@ use Rattle.calls.proofs.Rooms.{faults-below, begin-fit}
 use Rattle.region.specs.Record.{recordOf}
 use Rattle.calls_bytes.specs.Entry.{inBytes}
 use Rattle.node_bytes.proofs.Admitted.{admitted, turned, at-admitted, refused-at, own-n}
-use Rattle.node_bytes.proofs.Stepped.{becomes, stepped, begun-n, can-write}
+use Rattle.node_bytes.proofs.Stepped.{called, becomes, stepped, begun-n, can-write}
 use Rattle.node_bytes.proofs.begin.Statement.{statement}
 use Rattle.node_bytes.proofs.begin.Tie as tie
 
@@ -84,8 +84,8 @@ begin-in-requires c κs =
     let h = admitted (c14 .args .r .now) (c14 .args .out .now) (sym (c10 .admission .ensures) ∙ c9 .if1 .left) in
     (h .long, parts _ (h .can-step) .request-high)
 
-let-out-requires : tie.Need-let-out-requires
-let-out-requires c κs =
+emit-all-requires : tie.Need-emit-all-requires
+emit-all-requires c κs =
     let c3 = c .before .before .before in
     let c5 = c3 .before .before in
     let c7 = c5 .before .before in
@@ -124,18 +124,18 @@ returns-4 c =
     let f = faultsOf d in
     let s = begun d (a .o) in
     let asks = begin-asks f d (a .o) (faults-below (d .n) (parts d (h .can-step) .n-low)) in
-    becomes (c2 .let-out .result) _ _
+    becomes (called (c6 .begin-in .result .ending) (c2 .emit-all .result)) _ _
     (at-admitted (a .r .now) (a .out .now) (λ d. N.begin d (a .o) (a .out .now)) h
     ∙ ap (inBytes (a .r .now)) (begin-goes d (a .o) (a .out .now) (le-ltb _ _ (h .room)) (h .can-step)
     (sym (c14 .is-open-in .ensures) ∙ c13 .if2 .left) (sym (c11 .is-full-in .ensures) ∙ c10 .if3 .left)
     ∙ ap (λ (x : Step). N.letOut x (a .out .now)) asks))
-    (stepped s (c8 .get-word .result) (a .r .now) (c6 .begin-in .last .0) (a .out .now) _ (c2 .let-out .result)
-    (c6 .begin-in .ensures) (begun-n d (a .o) ∙ own-n (a .r .now) (c8 .get-word .ensures)) (c2 .let-out .ensures))
+    (stepped s (c8 .get-word .result) (a .r .now) (c6 .begin-in .last .0) (a .out .now) _ (c2 .emit-all .result)
+    (c6 .begin-in .ensures) (begun-n d (a .o) ∙ own-n (a .r .now) (c8 .get-word .ensures)) (c2 .emit-all .ensures))
 
 pub begin-spec : {M : Type 1} → statement M
 begin-spec =
     tie.close
     (tie.spec (λ c κs. search needs) (λ c κs. search needs) (λ c. search needs) returns is-open-in-requires
     (λ c κs. search needs) (λ c. search needs) returns-2 is-full-in-requires (λ c κs. search needs)
-    (λ c. search needs) returns-3 get-word-requires begin-in-requires let-out-requires (λ c. search needs)
+    (λ c. search needs) returns-3 get-word-requires begin-in-requires emit-all-requires (λ c. search needs)
     (λ c. search needs) returns-4)

@@ -19,6 +19,7 @@ use Rattle.node_bytes.proofs.fresh.Tie as tie
 returns : tie.Need-returns
 returns c =
     let c2 = c .before .before in
+    let c2 = c2 in
     let c3 = c2 .before in
     let c4 = c3 .before in
     let c6 = c4 .before .before in

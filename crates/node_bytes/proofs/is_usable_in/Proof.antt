@@ -12,6 +12,7 @@ returns-2 : tie.Need-returns-2
 returns-2 c =
     let c3 = c .before .before .before in
     let c3 = c3 in
+    let c3 = c3 in
     let c5 = c3 .before .before in
     c .record-sound .ensures ∙ own-sound (c5 .args .r .now) (c3 .get-word .ensures) (c .before .get-word2 .ensures)
 

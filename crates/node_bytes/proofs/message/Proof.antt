@@ -43,6 +43,7 @@ get-word-requires c κs =
 returns-2 : tie.Need-returns-2
 returns-2 c =
     let c2 = c .before .before in
+    let c2 = c2 in
     let c3 = c2 .before in
     let c5 = c3 .before .before in
     let c6 = c5 .before in
@@ -61,6 +62,7 @@ returns-2 c =
 parsed-view-requires : tie.Need-parsed-view-requires
 parsed-view-requires c κs =
     let c2 = c .before .before in
+    let c2 = c2 in
     let c4 = c2 .before .before in
     let c7 = c4 .before .before .before in
     let c15 = c7 .before .before .before .before .before .before .before .before in
@@ -100,6 +102,7 @@ take-message-requires c κs =
 returns-3 : tie.Need-returns-3
 returns-3 c =
     let c4 = c .before .before .before .before in
+    let c4 = c4 in
     let c7 = c4 .before .before .before in
     let c10 = c7 .before .before .before in
     let c12 = c10 .before .before in
@@ -131,6 +134,7 @@ returns-3 c =
 returns-4 : tie.Need-returns-4
 returns-4 c =
     let c3 = c .before .before .before in
+    let c3 = c3 in
     let c4 = c3 .before in
     let c5 = c4 .before in
     let c6 = c5 .before in

@@ -26,7 +26,7 @@ use Rattle.react_bytes.proofs.Views.{allowed-there}
 use Rattle.step_bytes.specs.Moved.{isStep}
 use Rattle.calls_bytes.specs.Entry.{inBytes}
 use Rattle.node_bytes.proofs.Admitted.{in-refused, small-n}
-use Rattle.node_bytes.proofs.Stepped.{becomes-shown, stepped, step-shows, handled, can-write, long-of}
+use Rattle.node_bytes.proofs.Stepped.{called, becomes-shown, stepped, step-shows, handled, can-write, long-of}
 use Rattle.node_bytes.proofs.take_message.Statement.{statement}
 use Rattle.node_bytes.proofs.take_message.Tie as tie
 
@@ -82,8 +82,8 @@ move-in-requires c κs =
       reacted-bytes r r′ (a .s) (a .m) v z (c4 .react-in .ensures .1),
     )
 
-let-out-requires : tie.Need-let-out-requires
-let-out-requires c κs =
+emit-all-requires : tie.Need-emit-all-requires
+emit-all-requires c κs =
     let c5 = c .before .before .before .before .before in
     let c6 = c5 .before in
     let c10 = c6 .before .before .before .before in
@@ -123,16 +123,16 @@ returns-2 c =
     let s = messageStep (faultsOf d) d (a .s) (a .m) v in
     let does = subst (λ (x : Step). isStep (c8 .move-in .result) (c8 .move-in .last .0) x) whole
     (c8 .move-in .ensures) in
-    becomes-shown (c2 .let-out .result) _ _ _ _ (ap (inBytes r) (taken-goes d (a .s) (a .v .now) (a .out .now) (a .m)
-    (sym (c16 .is-stale-in .ensures) ∙ c15 .if1 .left))) (
-      stepped s (a .n) r (c8 .move-in .last .0) (a .out .now) _ (c2 .let-out .result) does
-          (message-n (faultsOf d) d (a .s) (a .m) v ∙ p .2) (c2 .let-out .ensures),
-      step-shows s r (c8 .move-in .last .0) (a .out .now) _ _ does (c4 .show-view .ensures),
-    )
+    becomes-shown (called (c8 .move-in .result .ending) (c2 .emit-all .result)) _ _ _ _ (ap (inBytes r)
+    (taken-goes d (a .s) (a .v .now) (a .out .now) (a .m)
+    (sym (c16 .is-stale-in .ensures) ∙ c15 .if1 .left)))
+    (stepped s (a .n) r (c8 .move-in .last .0) (a .out .now) _ (c2 .emit-all .result) does
+    (message-n (faultsOf d) d (a .s) (a .m) v ∙ p .2) (c2 .emit-all .ensures),
+    step-shows s r (c8 .move-in .last .0) (a .out .now) _ _ does (c4 .show-view .ensures))
 
 pub take-message-spec : {M : Type 1} → statement M
 take-message-spec =
     tie.close
     (tie.spec is-stale-in-requires (λ c κs. search needs) (λ c. search needs) returns react-in-requires
-    (λ c κs. search needs) move-in-requires (λ c κs. search needs) let-out-requires (λ c. search needs)
+    (λ c κs. search needs) move-in-requires (λ c κs. search needs) emit-all-requires (λ c. search needs)
     (λ c. search needs) returns-2)
