@@ -11,7 +11,7 @@ extern "C" {
         node: usize,
         report: *const [u8; REPORT],
         cut: bool,
-        m: usize,
+        entries: usize,
     ) -> u8;
     pub fn snapshot_begin_scan(cluster: *mut u8, cluster_len: usize, node: usize, cut: bool, entries: usize) -> u8;
     pub fn snapshot_deliver(
