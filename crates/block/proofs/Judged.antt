@@ -4,12 +4,12 @@ use mathlib.Core.Path.{_≡_, refl, sym, ap, ap₂, _∙_}
 use mathlib.Core.Bool.{Bool, true, false}
 use mathlib.Core.List.{List}
 use native.Mathlib.Nat.{lt-of-not-le}
-use native.Mathlib.Decide.{ℕ-discrete, decLe}
+use native.Mathlib.Decide.{decLe}
 use native.Mathlib.Numerals.{add-one}
 use native.Mathlib.Omega.{arith}
 use lib.ListN.{length, getD}
 use lib.Dec.{leb, ltb, eqb}
-use borrow.Author.Tests.{lt-ltb, le-ltb, le-leb, lt-leb, eq-eqb, ne-eqb, eqb-true}
+use borrow.Author.Tests.{lt-ltb, le-ltb, le-leb, lt-leb, ne-eqb, eqb-true}
 use Rattle.octets.specs.Test.{pick, both}
 use Rattle.octets.specs.Bytes.{Bytes, num, part}
 use Rattle.octets.specs.Loop.{allTo}
@@ -20,7 +20,7 @@ use Rattle.octets.proofs.Number.{num-eight}
 use Rattle.octets.proofs.Put.{part-bytes, length-part, getD-part}
 use Rattle.octets.proofs.Table.{getD-tab, getD-padded}
 use Rattle.view.specs.Size.{limit, nodes, tagSize, reportSize, entrySize, viewSize}
-use Rattle.view.specs.Report.{noReport, isNone, reportBytes, reportOf}
+use Rattle.view.specs.Report.{noReport, isNone}
 use Rattle.view.specs.View.{tagAt, reportAt, reportWord, viewOf, entryOkAt, viewOk}
 use Rattle.view.specs.declared.Report.{Report}
 use Rattle.view.proofs.ReportBytes.{none-zero}

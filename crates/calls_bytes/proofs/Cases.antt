@@ -1,22 +1,20 @@
 -- Which answer a call on lent bytes gives, case by case. Assumes nothing.
-use Prim.Native.Nat.{ℕ, _≤_}
-use mathlib.Core.Path.{_≡_, refl}
+use Prim.Native.Nat.{ℕ}
+use mathlib.Core.Path.{_≡_}
 use mathlib.Core.Bool.{true, false}
 use mathlib.Core.List.{List}
 use lib.ListN.{length}
-use Rattle.octets.specs.Test.{pick, both}
-use Rattle.octets.specs.Answer.{Answer, result, refused}
 use Rattle.record.specs.declared.Node.{Node}
 use Rattle.calls.specs.CallResult.{CallResult}
 use Rattle.region.specs.Record.{recordOf, codesKnown}
-use Rattle.calls_bytes.specs.Entry.{LentResult, fits, atRecord, inBytes, refuse}
+use Rattle.calls_bytes.specs.Entry.{fits, atRecord, inBytes, refuse}
 
 module _ (r out : List ℕ) (call : Node → CallResult) where
-  pub at-12 : fits r out ≡ false → atRecord r out call ≡ refuse 12 r out
+  pub at-12 : fits r (length out) ≡ false → atRecord r out call ≡ refuse 12 r out
   unfolding atRecord
   at-12 h = rw h
 
-  module _ (h : fits r out ≡ true) where
+  module _ (h : fits r (length out) ≡ true) where
     pub at-2 : codesKnown r ≡ false → atRecord r out call ≡ refuse 2 r out
     unfolding atRecord
     at-2 k = rw (h, k)

@@ -1,16 +1,15 @@
 -- The claims of specs/Claims. Assumes nothing.
-use Prim.Native.Nat.{ℕ, _≤_}
-use mathlib.Core.Path.{_≡_, refl, sym, ap, _∙_, subst}
-use mathlib.Core.Bool.{true}
+use Prim.Native.Nat.{ℕ}
+use mathlib.Core.Path.{_≡_, refl, sym, _∙_, subst}
 use mathlib.Core.List.{List, []}
 use native.Mathlib.Omega.{arith}
 use lib.Dec.{eqb, leb, ltb}
 use lib.ListN.{length, take}
-use borrow.Author.Tests.{le-leb, leb-true, ltb-false}
+use borrow.Author.Tests.{leb-true, ltb-false}
 use Rattle.octets.specs.Answer.{Answer, result, refused}
 use Rattle.octets.specs.Test.{both}
-use Rattle.octets.proofs.Test.{both-left, both-right, both-true}
-use Rattle.view.specs.Size.{nodes, isSize}
+use Rattle.octets.proofs.Test.{both-left, both-right}
+use Rattle.view.specs.Size.{isSize}
 use Rattle.view.specs.View.{viewBytes}
 use Rattle.wire.specs.Codec.{decode, viewPart}
 use Rattle.wire.specs.declared.Message.{Message}
@@ -21,13 +20,12 @@ use Rattle.record.specs.declared.Node.{Node}
 use Rattle.record.specs.declared.Operation.{Operation}
 use Rattle.step.specs.declared.Ending.{Ending}
 use Rattle.step.specs.declared.Step.{Step}
-use Rattle.step.specs.Claims.{Long}
+use Rattle.step.specs.Told.{refusal}
 use Rattle.step.specs.Move.{messageStep, beginStep}
 use Rattle.step.specs.Stale.{staleMessage}
 use Rattle.step.specs.Step.{messages}
 use Rattle.step.proofs.Numbers.{on-pick}
 use Rattle.step.proofs.Theorems.{message-n, begin-n}
-use Rattle.calls.specs.Bytes.{outBytes}
 use Rattle.calls.specs.CallResult.{CallResult}
 use Rattle.calls.specs.Entry as N
 use Rattle.calls.proofs.Rim.{read-lawful}
@@ -35,7 +33,7 @@ use Rattle.calls.proofs.Rooms.{Fit, begin-fit, message-fit}
 use Rattle.emit.proofs.Runs.{room-of}
 use Rattle.region.specs.Record.{recordSize, recordOf, codesKnown}
 use Rattle.region.proofs.Back.{sized-of}
-use Rattle.calls_bytes.specs.Entry.{LentResult, isRefusal, fits, inBytes, atRecord, fresh, begin, message}
+use Rattle.calls_bytes.specs.Entry.{LentResult, accepted, fits, inBytes, atRecord, fresh, begin, message}
 use Rattle.calls_bytes.specs.Walk.{Piece, walk, piecesOf}
 use Rattle.calls_bytes.specs.Claims as claim
 use Rattle.calls_bytes.proofs.Walk.{walked}
@@ -44,10 +42,14 @@ use Rattle.calls_bytes.proofs.Walk.{walked}
 never : {X : Type 0} {x : Ending} {k : ℕ} → _≡_ {A = Answer Ending} (result x) (refused k) → X
 never h = absurd (let z : _≡_ {A = ℕ} 0 1 = cc in omega arith)
 
+-- a refusal's number is told
+same : {j k : ℕ} → _≡_ {A = Answer Ending} (refused j) (refused k) → refusal j ≡ refusal k
+same h = cc
+
 -- ---- a refusal leaves every byte
 
 abbrev Leaves : List ℕ → CallResult → Type 0
-Leaves out e = (k : ℕ) → e .ending ≡ refused k → (e .out ≡ out) × (e .length ≡ 0)
+Leaves out e = (k : ℕ) → e .ending ≡ refused k → (e .answer ≡ refusal k) × (e .out ≡ out) × (e .length ≡ 0)
 
 let-out-leaves : (s : Step) (out : List ℕ) → Leaves out (N.letOut s out)
 unfolding N.letOut
@@ -56,51 +58,54 @@ let-out-leaves s out k e = never e
 begin-leaves : (c : Node) (o : Operation) (out : List ℕ) → Leaves out (N.begin c o out)
 unfolding N.begin
 begin-leaves c o out =
-    on-pick (Leaves out) (ltb (length out) N.leastOutput) _ _ (λ e k q. (refl, refl)) (λ e.
+    on-pick (Leaves out) (ltb (length out) N.leastOutput) _ _ (λ e k q. (same q, refl, refl)) (λ e.
     on-pick (Leaves out) (usable c) _ _ (λ e.
-    on-pick (Leaves out) (isOpen (c .wait)) _ _ (λ e k q. (refl, refl)) (λ e.
-    on-pick (Leaves out) (full c) _ _ (λ e k q. (refl, refl)) (λ e. let-out-leaves _ out))) (λ e k q. (refl, refl)))
+    on-pick (Leaves out) (isOpen (c .wait)) _ _ (λ e k q. (same q, refl, refl)) (λ e.
+    on-pick (Leaves out) (full c) _ _ (λ e k q. (same q, refl, refl)) (λ e. let-out-leaves _ out)))
+    (λ e k q. (same q, refl, refl)))
 
 taken-leaves : (c : Node) (s : ℕ) (v out : List ℕ) (a : Answer Message) → Leaves out (N.taken c s v out a)
 unfolding N.taken
-taken-leaves c s v out (refused j) = λ k q. (refl, refl)
+taken-leaves c s v out (refused j) = λ k q. (same q, refl, refl)
 taken-leaves c s v out (result m) =
-    on-pick (Leaves out) (staleMessage c s m) _ _ (λ e k q. (refl, refl)) (λ e. let-out-leaves _ out)
+    on-pick (Leaves out) (staleMessage c s m) _ _ (λ e k q. (same q, refl, refl)) (λ e. let-out-leaves _ out)
 
 message-leaves : (c : Node) (s : ℕ) (b out : List ℕ) → Leaves out (N.message c s b out)
 unfolding N.message
 message-leaves c s b out =
-    on-pick (Leaves out) (ltb (length out) N.leastOutput) _ _ (λ e k q. (refl, refl)) (λ e.
+    on-pick (Leaves out) (ltb (length out) N.leastOutput) _ _ (λ e k q. (same q, refl, refl)) (λ e.
     on-pick (Leaves out) (usable c) _ _ (λ e.
     on-pick (Leaves out) (both (leb 1 s) (leb s (c .n))) _ _
-    (λ e. taken-leaves c s (viewPart (c .n) b) out (decode (c .n) b)) (λ e k q. (refl, refl))) (λ e k q. (refl, refl)))
+    (λ e. taken-leaves c s (viewPart (c .n) b) out (decode (c .n) b)) (λ e k q. (same q, refl, refl)))
+    (λ e k q. (same q, refl, refl)))
 
 fresh-leaves : (n own : ℕ) → Leaves [] (N.fresh n own)
 unfolding N.fresh
 fresh-leaves n own =
     on-pick (Leaves []) (isSize n) _ _
-    (λ e. on-pick (Leaves []) (both (leb 1 own) (leb own n)) _ _ (λ e k q. (refl, refl)) (λ e k q. (refl, refl)))
-    (λ e k q. (refl, refl))
+    (λ e. on-pick (Leaves []) (both (leb 1 own) (leb own n)) _ _ (λ e k q. never q) (λ e k q. (same q, refl, refl)))
+    (λ e k q. (same q, refl, refl))
 
 module _ (r out : List ℕ) where
   in-bytes-keeps : (e : CallResult) → Leaves out e → claim.Keeps r out (inBytes r e)
   unfolding inBytes
-  in-bytes-keeps e h k q = (rw q refl, h k q .0, h k q .1)
+  in-bytes-keeps e h k q = (h k q .0, rw q refl, h k q .1, h k q .2)
 
   at-keeps : (call : Node → CallResult) → Leaves out (call (recordOf r)) → claim.Keeps r out (atRecord r out call)
   unfolding atRecord
   at-keeps call h =
-      on-pick (claim.Keeps r out) (fits r out) _ _
+      on-pick (claim.Keeps r out) (fits r (length out)) _ _
       (λ e. on-pick (claim.Keeps r out) (codesKnown r) _ _ (λ e. in-bytes-keeps (call (recordOf r)) h)
-      (λ e k q. (refl, refl, refl)))
-      (λ e k q. (refl, refl, refl))
+      (λ e k q. (same q, refl, refl, refl)))
+      (λ e k q. (same q, refl, refl, refl))
 
 fresh-keeps : (n own : ℕ) (r : List ℕ) → claim.Keeps r [] (fresh n own r)
 unfolding fresh
 fresh-keeps n own r =
     let kept = in-bytes-keeps r [] (N.fresh n own) (fresh-leaves n own) in
-    on-pick (claim.Keeps r []) (isRefusal (N.fresh n own .ending)) _ _ (λ e. kept)
-    (λ e. on-pick (claim.Keeps r []) (eqb (length r) recordSize) _ _ (λ e. kept) (λ e k q. (refl, refl, refl)))
+    on-pick (claim.Keeps r []) (accepted (N.fresh n own .ending)) _ _
+    (λ e. on-pick (claim.Keeps r []) (eqb (length r) recordSize) _ _ (λ e. kept) (λ e k q. (same q, refl, refl, refl)))
+    (λ e. kept)
 
 pub refusals-keep : claim.RefusalsKeep
 refusals-keep = record {
@@ -136,7 +141,7 @@ module _ (n : ℕ) (p : List Piece) where
   at-met : (r out : List ℕ) (call : Node → CallResult) → Met (call (recordOf r)) → MetIn (atRecord r out call)
   unfolding atRecord inBytes
   at-met r out call h =
-      on-pick MetIn (fits r out) _ _
+      on-pick MetIn (fits r (length out)) _ _
       (λ e. on-pick MetIn (codesKnown r) _ _ (λ e. h) (λ e x q. never (sym q)))
       (λ e x q. never (sym q))
 

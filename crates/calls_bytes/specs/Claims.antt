@@ -9,15 +9,17 @@ use Rattle.wire.specs.declared.Message.{Message}
 use Rattle.record.specs.Record.{faultsOf}
 use Rattle.record.specs.declared.Operation.{Operation}
 use Rattle.step.specs.declared.Ending.{Ending}
+use Rattle.step.specs.Told.{refusal}
 use Rattle.step.specs.Move.{messageStep, beginStep}
 use Rattle.calls.specs.Entry.{beside}
 use Rattle.region.specs.Record.{recordOf}
 use Rattle.calls_bytes.specs.Entry.{LentResult, fresh, begin, message}
 use Rattle.calls_bytes.specs.Walk.{walk, piecesOf}
 
--- A refusal changes no byte of the record and of the buffer.
+-- A refusal is told by its number, and changes no byte of the record and of the buffer.
 abbrev pub Keeps : (r out : List ℕ) → LentResult → Type 0
-Keeps r out e = (k : ℕ) → e .ending ≡ refused k → (e .bytes ≡ r) × (e .out ≡ out) × (e .length ≡ 0)
+Keeps r out e = (k : ℕ) → e .ending ≡ refused k
+    → (e .answer ≡ refusal k) × (e .bytes ≡ r) × (e .out ≡ out) × (e .length ≡ 0)
 
 pub record RefusalsKeep : Type 0 where
   pub fresh-keeps : (n own : ℕ) (r : List ℕ) → Keeps r [] (fresh n own r)

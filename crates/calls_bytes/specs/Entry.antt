@@ -1,5 +1,5 @@
--- The calls at one node (document 01: cabinet) on its record in lent bytes, each for every input: what the call by value
--- (crate calls) leaves of the record that the bytes are, with that record in bytes. A refusal leaves every byte.
+-- The calls at one node (document 01: cabinet) on its record in lent bytes, each for every input: what the call by
+-- value (crate calls) leaves of the record that the bytes are, with that record in bytes. A refusal leaves every byte.
 -- Assumes nothing.
 use Prim.Native.Nat.{ℕ}
 use mathlib.Core.Bool.{Bool, true, false}
@@ -45,14 +45,14 @@ inBytes r e =
     }
 
 -- the lengths that a call asks for: the record's, and at least that of an output buffer
-abbrev pub fits : (r out : List ℕ) → Bool
-fits r out = both (eqb (length r) recordSize) (leb N.leastOutput (length out))
+abbrev pub fits : List ℕ → (room : ℕ) → Bool
+fits r room = both (eqb (length r) recordSize) (leb N.leastOutput room)
 
 -- A call at the record that bytes are. 12: another length than the record's, or an output buffer too short. 2: codes of
 -- the wait that stand for nothing; then what the call refuses.
 unfoldable pub atRecord : (r out : List ℕ) → (Node → CallResult) → LentResult
 atRecord r out call =
-    pick (fits r out) (pick (codesKnown r) (inBytes r (call (recordOf r))) (refuse 2 r out)) (refuse 12 r out)
+    pick (fits r (length out)) (pick (codesKnown r) (inBytes r (call (recordOf r))) (refuse 2 r out)) (refuse 12 r out)
 
 -- 12, 2, 5, 6
 abbrev pub begin : List ℕ → Operation → List ℕ → LentResult
@@ -63,11 +63,12 @@ abbrev pub message : List ℕ → (sender : ℕ) → (bytes out : List ℕ) → 
 message r s b out = atRecord r out (λ c. N.message c s b out)
 
 -- Fresh node in lent bytes. 1: as by value. 12: another length than the record's.
-abbrev pub isRefusal : Answer Ending → Bool
-isRefusal (refused k) = true
-isRefusal (result e) = false
+abbrev pub accepted : {A : Type 0} → Answer A → Bool
+accepted (result x) = true
+accepted (refused k) = false
 
 unfoldable pub fresh : (n own : ℕ) → List ℕ → LentResult
 fresh n own r =
-    pick (isRefusal (N.fresh n own .ending)) (inBytes r (N.fresh n own))
+    pick (accepted (N.fresh n own .ending))
     (pick (eqb (length r) recordSize) (inBytes r (N.fresh n own)) (refuse 12 r []))
+    (inBytes r (N.fresh n own))

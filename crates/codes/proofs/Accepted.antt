@@ -1,9 +1,10 @@
 -- What is lent for a number, by whether the answer is a refusal.
 use Prim.Native.Nat.{ℕ}
-use mathlib.Core.Path.{_≡_, refl, sym}
+use mathlib.Core.Path.{_≡_, refl}
 use mathlib.Core.Bool.{true, false}
 use Rattle.octets.specs.Answer.{Answer, result, refused}
-use Rattle.codes.specs.Code.{accepted, lent}
+use Rattle.calls_bytes.specs.Entry.{accepted}
+use Rattle.codes.specs.Code.{lent}
 
 pub lent-accepted : {A : Type 0} (a : Answer A) (k before : ℕ) → accepted a ≡ true → k ≡ lent (λ x. k) a before
 lent-accepted (result x) k before h = refl

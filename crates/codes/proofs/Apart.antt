@@ -42,9 +42,9 @@ use Rattle.events.specs.Event.{Result, demand, admitted, settle, deliverMessage
 use Rattle.events.specs.Stop.{stop}
 use Rattle.events.proofs.Admitted.{admitted-is}
 use Rattle.calls_bytes.specs.Entry as L
-use Rattle.codes.specs.Code.{lastRefusal, doneFrom, scanFrom, ruleCode, eventCode, ruleIn, codeOf}
-use Rattle.codes.specs.Apart.{meant, ruleMeant, Called, by-fresh, by-begin, by-deliver, by-stop}
-use Rattle.codes.specs.Apart.{CalledNode, by-fresh-node, by-begin-node, by-message, Numbered, Apart}
+use Rattle.codes.specs.Code.{lastRefusal, doneFrom, scanFrom, ruleCode, eventCode, ruleIn}
+use Rattle.codes.specs.Apart.{meant, ruleMeant, EventCall, by-fresh, by-begin, by-deliver, by-stop}
+use Rattle.codes.specs.Apart.{NodeCall, by-fresh-node, by-begin-node, by-message, Numbered, Apart}
 
 -- ---- the codes
 
@@ -171,7 +171,7 @@ unfolding stop
 of-stop c b =
     of-admitted c c b (demanded b (mayStop (stated b) b) 10 refl (record { numbered = accepted }))
 
-proper : {e : Result} → Called e → Proper e
+proper : {e : Result} → EventCall e → Proper e
 proper (by-fresh n b) = of-fresh n b
 proper (by-begin c o x b) = of-begin c o x b
 proper (by-deliver a c x b) = of-deliver a c x b
@@ -231,16 +231,17 @@ InBytes e = Fitting (e .answer) (e .ending)
 at-fits : (r out : List ℕ) (call : Node → CallResult) → ByValue (call (recordOf r)) → InBytes (L.atRecord r out call)
 unfolding L.atRecord L.inBytes
 at-fits r out call h =
-    on-pick InBytes (L.fits r out) _ _
+    on-pick InBytes (L.fits r (length out)) _ _
     (λ e. on-pick InBytes (codesKnown r) _ _ (λ e. h) (λ e. refuses 2 refl)) (λ e. refuses 12 refl)
 
 made-fits : (n own : ℕ) (r : List ℕ) → InBytes (L.fresh n own r)
 unfolding L.fresh L.inBytes
 made-fits n own r =
-    on-pick InBytes (L.isRefusal (N.fresh n own .ending)) _ _ (λ e. fresh-fits n own)
+    on-pick InBytes (L.accepted (N.fresh n own .ending)) _ _
     (λ e. on-pick InBytes (eqb (length r) recordSize) _ _ (λ e. fresh-fits n own) (λ e. refuses 12 refl))
+    (λ e. fresh-fits n own)
 
-pub fitting : {e : L.LentResult} → CalledNode e → InBytes e
+pub fitting : {e : L.LentResult} → NodeCall e → InBytes e
 fitting (by-fresh-node n own r) = made-fits n own r
 fitting (by-begin-node r o out) = at-fits r out (λ c. N.begin c o out) (begin-fits (recordOf r) o out)
 fitting (by-message r s b out) = at-fits r out (λ c. N.message c s b out) (message-fits (recordOf r) s b out)

@@ -5,7 +5,7 @@ use mathlib.Core.List.{List}
 use native.Mathlib.Decide.{decLe}
 use native.Mathlib.Omega.{arith}
 use lib.ListN.{length, drop, replicate, drop-of-length-le}
-use Rattle.octets.specs.Answer.{Answer, result}
+use Rattle.octets.specs.Answer.{Answer}
 use Rattle.octets.specs.Bytes.{put}
 use Rattle.octets.proofs.Put.{put-over}
 use Rattle.view.specs.Size.{nodes, entrySize}
@@ -53,7 +53,7 @@ unfolding atRecord inBytes
 lent-absent r s b out h =
     let P : LentResult → Type 0 = λ e. AbsentPast (recordOf r .n) (toldView (e .answer)) in
     let none = none-absent (recordOf r .n) h in
-    on-pick P (fits r out) _ _
+    on-pick P (fits r (length out)) _ _
     (λ e. on-pick P (codesKnown r) _ _ (λ e. message-absent (recordOf r) s b out h) (λ e. none)) (λ e. none)
 
 pub node-zero-past : claim.NodeZeroPast

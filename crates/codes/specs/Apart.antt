@@ -33,17 +33,17 @@ abbrev pub ruleMeant : ℕ → ℕ
 ruleMeant k = pick (ltb k scanFrom) (k - doneFrom) (k - scanFrom)
 
 -- The events of the calls, on any numbers and any bytes.
-pub data Called : Result → Type 0 where
-  by-fresh : (n : ℕ) (b : List ℕ) → Called (fresh n b)
-  by-begin : (c : ℕ) (o : Operation) (x : Extent) (b : List ℕ) → Called (begin c o x b)
-  by-deliver : (a c : ℕ) (x : Extent) (b : List ℕ) → Called (deliver a c x b)
-  by-stop : (c : ℕ) (b : List ℕ) → Called (stop c b)
+pub data EventCall : Result → Type 0 where
+  by-fresh : (n : ℕ) (b : List ℕ) → EventCall (fresh n b)
+  by-begin : (c : ℕ) (o : Operation) (x : Extent) (b : List ℕ) → EventCall (begin c o x b)
+  by-deliver : (a c : ℕ) (x : Extent) (b : List ℕ) → EventCall (deliver a c x b)
+  by-stop : (c : ℕ) (b : List ℕ) → EventCall (stop c b)
 
 -- The calls at one node on lent bytes.
-pub data CalledNode : L.LentResult → Type 0 where
-  by-fresh-node : (n own : ℕ) (r : List ℕ) → CalledNode (L.fresh n own r)
-  by-begin-node : (r : List ℕ) (o : Operation) (out : List ℕ) → CalledNode (L.begin r o out)
-  by-message : (r : List ℕ) (s : ℕ) (b out : List ℕ) → CalledNode (L.message r s b out)
+pub data NodeCall : L.LentResult → Type 0 where
+  by-fresh-node : (n own : ℕ) (r : List ℕ) → NodeCall (L.fresh n own r)
+  by-begin-node : (r : List ℕ) (o : Operation) (out : List ℕ) → NodeCall (L.begin r o out)
+  by-message : (r : List ℕ) (s : ℕ) (b out : List ℕ) → NodeCall (L.message r s b out)
 
 -- If an answer is a refusal, its number is 1 to 12, which is below the codes of done.
 pub record Numbered {A : Type 0} (a : Answer A) : Type 0 where
@@ -51,9 +51,9 @@ pub record Numbered {A : Type 0} (a : Answer A) : Type 0 where
 
 pub record Apart : Type 0 where
   -- The refusals of events, each its own code, and those of the other calls, of which 0 says that there is a result.
-  pub refusals : {e : Result} → Called e → Numbered (e .answer)
+  pub refusals : {e : Result} → EventCall e → Numbered (e .answer)
   pub own-code : (e : Result) (k : ℕ) → e .answer ≡ refused k → codeOf e ≡ k
-  pub node-refusals : {e : L.LentResult} → CalledNode e → Numbered (e .ending)
+  pub node-refusals : {e : L.LentResult} → NodeCall e → Numbered (e .ending)
   pub reading : (n : ℕ) (b : List ℕ) → Numbered (decode n b)
   pub walking : (n : ℕ) (b : List ℕ) → Numbered (front n b)
   pub writing : (n : ℕ) (m : Message) (v : List ℕ) (room : ℕ) → Numbered (answer n m v room)
@@ -62,7 +62,7 @@ pub record Apart : Type 0 where
   pub endings : (k : ℕ) → 1 ≤ k → k < doneFrom → (k ≡ spentNumber → ⊥) → (x : Ending) (v : View)
       → eventCode (refusal k) 0 ≡ eventCode (told (result x) v) (ruleIn (result x)) → ⊥
   -- What is told is read back, so that no two tellings have one code, but scans with two views, which are beside it.
-  pub read-back : {e : Result} → Called e → meant (codeOf e) (e .view) ≡ toldOf e
-  pub rule-back : {e : Result} → Called e → ruleMeant (codeOf e) ≡ ruleIn (e .answer)
-  pub node-read-back : {e : L.LentResult} → CalledNode e → meant (lentCode e) (toldView (e .answer)) ≡ e .answer
-  pub node-rule-back : {e : L.LentResult} → CalledNode e → ruleMeant (lentCode e) ≡ ruleIn (e .ending)
+  pub read-back : {e : Result} → EventCall e → meant (codeOf e) (e .view) ≡ toldOf e
+  pub rule-back : {e : Result} → EventCall e → ruleMeant (codeOf e) ≡ ruleIn (e .answer)
+  pub node-read-back : {e : L.LentResult} → NodeCall e → meant (lentCode e) (toldView (e .answer)) ≡ e .answer
+  pub node-rule-back : {e : L.LentResult} → NodeCall e → ruleMeant (lentCode e) ≡ ruleIn (e .ending)

@@ -1,7 +1,7 @@
 -- The numbers that stand for enums at the border to C, and what is written into lent memory there.
 use Prim.Native.Nat.{ℕ, _+_, min}
 use mathlib.Core.Path.{_≡_}
-use mathlib.Core.Bool.{Bool, true, false}
+use mathlib.Core.Bool.{Bool}
 use mathlib.Core.List.{List, [], _∷_}
 use lib.Dec.{eqb}
 use lib.ListN.{length, getD, replicate}
@@ -124,11 +124,6 @@ abbrev pub wrote : (r len : ℕ) (out : List ℕ) → ℕ → Message → (view 
 wrote r len out n m v before room =
     let a = answer n m v (length room) in
     (r ≡ answerCode a) × (len ≡ lent (λ k. k) a before) × (out ≡ after a (encode m v) room)
-
--- An answer is no refusal.
-abbrev pub accepted : {A : Type 0} → Answer A → Bool
-accepted (result x) = true
-accepted (refused k) = false
 
 -- A call at one node on lent bytes has the code of an event.
 abbrev pub lentCode : LentResult → ℕ

@@ -18,9 +18,10 @@ ghost use Rattle.octets.specs.Answer.{result};
 ghost use Rattle.view.specs.declared.View.{View};
 ghost use Rattle.step.specs.Told.{told};
 ghost use Rattle.events.specs.Outcome.{answerOf, toldBy};
+ghost use Rattle.calls_bytes.specs.Entry.{accepted};
 ghost use Rattle.calls_bytes.specs.Shown.{eventView};
 ghost use Rattle.codes.specs.Code.{numbers, reportIn, messageOf};
-ghost use Rattle.codes.specs.Code.{extentOf, ruleCode, ruleIn, eventCode, accepted, routeOf};
+ghost use Rattle.codes.specs.Code.{extentOf, ruleCode, ruleIn, eventCode, routeOf};
 
 // The first code of an update done and of a scan ended, to which the rule is added. Below them stand 0, where nothing
 // ended, the refusals and spent.

@@ -9,7 +9,7 @@ use lib.ListN.{length}
 use borrow.Author.Tests.{eqb-true, eq-eqb, leb-true, le-leb}
 use Rattle.octets.specs.Test.{pick, both}
 use Rattle.octets.specs.Word.{word}
-use Rattle.octets.proofs.Test.{both-left, both-right, both-true}
+use Rattle.octets.proofs.Test.{both-left, both-right, both-true, not-true-false}
 use Rattle.view.specs.Size.{nodes}
 use Rattle.record.specs.Usable.{usable}
 use Rattle.record.specs.declared.Node.{Node}
@@ -18,19 +18,15 @@ use Rattle.calls.specs.CallResult.{CallResult}
 use Rattle.calls.specs.Entry as N
 use Rattle.region.specs.Record.{recordSize, nPlace, ownPlace, recordOf, codesKnown}
 use Rattle.block.specs.Block.{recordSound}
-use Rattle.calls_bytes.specs.Entry.{inBytes, atRecord, refuse}
+use Rattle.calls_bytes.specs.Entry.{fits, inBytes, atRecord, refuse}
 use Rattle.calls_bytes.proofs.Cases.{at-12, at-2, at-known}
 use Rattle.node_bytes.specs.Admission.{usableIn, admission}
 
 -- ---- a record is judged with its own n and number
 
-never : (b : Bool) → (b ≡ true → ⊥) → b ≡ false
-never true h = absurd (h refl)
-never false h = refl
-
 pub too-many : (r : List ℕ) {n : ℕ} → n ≡ word r nPlace → nodes < n → usableIn r ≡ false
 unfolding recordOf
-too-many r e h = never (usableIn r) (λ u.
+too-many r e h = not-true-false (usableIn r) (λ u.
     let p : word r nPlace ≤ nodes = parts (recordOf r) (both-right (codesKnown r) (usable (recordOf r)) u) .n-high in
     omega (arith, e, h, p))
 
@@ -59,19 +55,16 @@ pub record Admitted (r out : List ℕ) : Type 0 where
 number : Bool → Bool → ℕ
 number x y = pick x (pick y 0 2) 12
 
-abbrev pub lengths : List ℕ → ℕ → Bool
-lengths r room = both (eqb (length r) recordSize) (leb N.leastOutput room)
-
 module _ (r : List ℕ) (room : ℕ) where
-  pub is-12 : lengths r room ≡ false → 12 ≡ admission r room
+  pub is-12 : fits r room ≡ false → 12 ≡ admission r room
   unfolding admission
   is-12 h = rw h refl
 
-  pub is-2 : lengths r room ≡ true → usableIn r ≡ false → 2 ≡ admission r room
+  pub is-2 : fits r room ≡ true → usableIn r ≡ false → 2 ≡ admission r room
   unfolding admission
   is-2 h u = rw (h, u) refl
 
-  pub is-0 : lengths r room ≡ true → usableIn r ≡ true → 0 ≡ admission r room
+  pub is-0 : fits r room ≡ true → usableIn r ≡ true → 0 ≡ admission r room
   unfolding admission
   is-0 h u = rw (h, u) refl
 
@@ -85,7 +78,7 @@ module _ (r out : List ℕ) where
   pub admitted : admission r (length out) ≡ 0 → Admitted r out
   unfolding admission number
   admitted h =
-      let z = none-applies (lengths r (length out)) (usableIn r) h in
+      let z = none-applies (fits r (length out)) (usableIn r) h in
       let l = eqb (length r) recordSize in
       let o = leb N.leastOutput (length out) in
       record {
@@ -99,7 +92,7 @@ module _ (r out : List ℕ) where
   module _ (call : Node → CallResult)
       (two : N.leastOutput ≤ length out → usable (recordOf r) ≡ false
       → call (recordOf r) ≡ N.refuse 2 (recordOf r) out) where
-    turned-by : (x y z : Bool) → lengths r (length out) ≡ x → codesKnown r ≡ y → usable (recordOf r) ≡ z → {k : ℕ}
+    turned-by : (x y z : Bool) → fits r (length out) ≡ x → codesKnown r ≡ y → usable (recordOf r) ≡ z → {k : ℕ}
         → number x (both y z) ≡ k → (k ≡ 0 → ⊥) → atRecord r out call ≡ refuse k r out
     unfolding number
     turned-by false y z e f g q h = at-12 r out call e ∙ ap (λ j. refuse j r out) q
@@ -112,7 +105,7 @@ module _ (r out : List ℕ) where
 
     pub turned : {k : ℕ} → k ≡ admission r (length out) → (k ≡ 0 → ⊥) → atRecord r out call ≡ refuse k r out
     unfolding admission number
-    turned q h = turned-by (lengths r (length out)) (codesKnown r) (usable (recordOf r)) refl refl refl (sym q) h
+    turned q h = turned-by (fits r (length out)) (codesKnown r) (usable (recordOf r)) refl refl refl (sym q) h
 
 -- ---- a call that is admitted
 

@@ -1,3 +1,4 @@
 pub mod Admitted
+pub mod Left
 pub mod Made
 pub mod Stepped

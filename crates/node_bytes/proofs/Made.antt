@@ -8,17 +8,16 @@ use lib.ListN.{length, replicate}
 use Rattle.octets.specs.Answer.{result}
 use Rattle.octets.specs.Bytes.{put}
 use Rattle.octets.specs.Loop.{join}
-use Rattle.octets.specs.Test.{pick, both}
+use Rattle.octets.specs.Test.{both}
 use Rattle.octets.proofs.Test.{both-left, both-right}
 use Rattle.view.specs.Size.{isSize}
 use Rattle.view.specs.View.{viewBytes}
 use Rattle.record.specs.Record.{blank}
 use Rattle.step.specs.declared.Ending.the-variants.{None}
 use Rattle.step.specs.Told.{nothing}
-use Rattle.calls.specs.CallResult.{CallResult}
 use Rattle.calls.specs.Entry as N
 use Rattle.region.specs.Record.{recordSize, nPlace, headIn, headBytes, recordBytes}
-use Rattle.calls_bytes.specs.Entry.{LentResult, inBytes, refuse, fresh}
+use Rattle.calls_bytes.specs.Entry.{inBytes, refuse, fresh}
 
 module _ (n own : ℕ) (r : List ℕ) where
   abbrev isOwn : Bool

@@ -29,7 +29,7 @@ use Rattle.reply.proofs.Tells.{told-toldView}
 use Rattle.region.specs.Record.{recordOf, recordBytes}
 use Rattle.region.proofs.Back.{sized-view, sized-of}
 use Rattle.react_bytes.proofs.Handling.{reacted-step}
-use Rattle.step_bytes.specs.Moved.{effect, isStep}
+use Rattle.step_bytes.specs.Moved.{isStep}
 use Rattle.step_bytes.specs.declared.Effect.{Effect}
 use Rattle.events.specs.declared.Outcome.the-variants.{Accepted}
 use Rattle.calls_bytes.specs.Entry.{LentResult, inBytes}

@@ -2,12 +2,10 @@
 use Prim.Native.Nat.{ℕ}
 use mathlib.Core.Bool.{Bool}
 use mathlib.Core.List.{List}
-use lib.Dec.{eqb, leb}
-use lib.ListN.{length}
 use Rattle.octets.specs.Test.{pick, both}
 use Rattle.record.specs.Usable.{usable}
-use Rattle.calls.specs.Entry.{leastOutput}
-use Rattle.region.specs.Record.{recordSize, recordOf, codesKnown}
+use Rattle.region.specs.Record.{recordOf, codesKnown}
+use Rattle.calls_bytes.specs.Entry.{fits}
 
 -- the bytes are a record that can be used
 abbrev pub usableIn : List ℕ → Bool
@@ -15,4 +13,4 @@ usableIn r = both (codesKnown r) (usable (recordOf r))
 
 -- the first of 12 and 2 that applies to the record's bytes and the length of the output buffer, 0 where none does
 unfoldable pub admission : List ℕ → (room : ℕ) → ℕ
-admission r room = pick (both (eqb (length r) recordSize) (leb leastOutput room)) (pick (usableIn r) 0 2) 12
+admission r room = pick (fits r room) (pick (usableIn r) 0 2) 12

@@ -168,7 +168,7 @@ module _ (c : Node) (z : SizedNode c) where
         keptview = sized-pick (ltb (c .kept) t) v (c .keptview) s (z .keptview);
       }
 
-  sized-react : (s : ℕ) (m : Message) (v : View) → Sized v → SizedNode (react c s m v .node)
+  pub sized-react : (s : ℕ) (m : Message) (v : View) → Sized v → SizedNode (react c s m v .node)
   unfolding react
   sized-react s (Read q) v h = z
   sized-react s (ReadAnswer q t) v h = sized-withWait _

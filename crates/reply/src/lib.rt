@@ -59,8 +59,7 @@ fn said_of(e: Ending) -> Said
     }
 }
 
-// The view that is shown, only by a scan.
-pub fn view_shown(e: Ending, v: View) -> View
+fn view_shown(e: Ending, v: View) -> View
     ensures { λ r. ⌜ r ≡ toldView (told (result e) v) ⌝ }
 {
     match e {

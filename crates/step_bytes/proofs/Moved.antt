@@ -25,7 +25,7 @@ use Rattle.step_bytes.specs.Moved.{isStep}
 use Rattle.step_bytes.proofs.Turned.{stepOf}
 use Rattle.step_bytes.specs.declared.Effect.{Effect}
 
-sized-none : Sized noView
+pub sized-none : Sized noView
 sized-none = record { tags = length-replicate {A = ℕ} nodes 0; reports = length-replicate nodes noReport }
 
 -- Of the tables a pass changes no more than the reports held for the round: it holds the newest, none, or the same.

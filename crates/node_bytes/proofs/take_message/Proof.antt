@@ -125,10 +125,11 @@ returns-2 c =
     (c8 .move-in .ensures) in
     becomes-shown (called (c8 .move-in .result .ending) (c2 .emit-all .result)) _ _ _ _ (ap (inBytes r)
     (taken-goes d (a .s) (a .v .now) (a .out .now) (a .m)
-    (sym (c16 .is-stale-in .ensures) ∙ c15 .if1 .left)))
-    (stepped s (a .n) r (c8 .move-in .last .0) (a .out .now) _ (c2 .emit-all .result) does
-    (message-n (faultsOf d) d (a .s) (a .m) v ∙ p .2) (c2 .emit-all .ensures),
-    step-shows s r (c8 .move-in .last .0) (a .out .now) _ _ does (c4 .show-view .ensures))
+    (sym (c16 .is-stale-in .ensures) ∙ c15 .if1 .left))) (
+      stepped s (a .n) r (c8 .move-in .last .0) (a .out .now) _ (c2 .emit-all .result) does
+          (message-n (faultsOf d) d (a .s) (a .m) v ∙ p .2) (c2 .emit-all .ensures),
+      step-shows s r (c8 .move-in .last .0) (a .out .now) _ _ does (c4 .show-view .ensures),
+    )
 
 pub take-message-spec : {M : Type 1} → statement M
 take-message-spec =

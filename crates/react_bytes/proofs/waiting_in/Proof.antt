@@ -7,7 +7,10 @@ use Rattle.react_bytes.proofs.waiting_in.Tie as tie
 
 returns : tie.Need-returns
 returns c =
-    c .before .before .save-wait .ensures ∙ wait-bytes (c .before .before .before .before .before .args .r .now) (λ i. c .before .before .before .before .slice-known .given i .fits) (c .before .before .before .before .before .pre) (c .before .before .before .before .before .args .w)
+    let c2 = c .before .before in
+    let c4 = c2 .before .before in
+    let c5 = c4 .before in
+    c2 .save-wait .ensures ∙ wait-bytes (c5 .args .r .now) (λ i. c4 .slice-known .given i .fits) (c5 .pre) (c5 .args .w)
 
 pub waiting-in-spec : {M : Type 1} → statement M
 waiting-in-spec =

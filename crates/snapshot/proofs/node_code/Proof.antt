@@ -1,7 +1,8 @@
 -- `snapshot::node_code` meets its contract.
 use borrow.Author.Needs.{needs}
 use mathlib.Core.Path.{sym, ap, ap₂, _∙_}
-use Rattle.codes.specs.Code.{eventCode, ruleIn, accepted}
+use Rattle.calls_bytes.specs.Entry.{accepted}
+use Rattle.codes.specs.Code.{eventCode, ruleIn}
 use Rattle.codes.proofs.Accepted.{lent-accepted, lent-refused}
 use Rattle.snapshot.proofs.node_code.Statement.{statement}
 use Rattle.snapshot.proofs.node_code.Tie as tie

@@ -31,10 +31,12 @@ there top tag report is h =
 
 returns : tie.Need-returns
 returns c =
-    let a = c .before .before .before .before .args in
+    let c2 = c .before .before in
+    let c4 = c2 .before .before in
+    let a = c4 .args in
     let b = a .b .now in
     ap (λ (y : ℕ). eqb y 0) (c .get-word2 .ensures)
-    ∙ absent (a .top) (word b (a .at)) (word b (a .at + tagSize)) (c .before .before .get-word .ensures) (c .before .if1 .taken)
+    ∙ absent (a .top) (word b (a .at)) (word b (a .at + tagSize)) (c2 .get-word .ensures) (c .before .if1 .taken)
 
 returns-2 : tie.Need-returns-2
 returns-2 c =

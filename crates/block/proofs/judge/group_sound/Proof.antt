@@ -1,10 +1,8 @@
 -- `block::judge::group_sound` meets its contract: the invariant: the first j cells of the group were judged.
 use borrow.Author.Needs.{needs}
-use Prim.Native.Nat.{ℕ, _+_, _-_, _*_, _≤_}
-use mathlib.Core.Path.{_≡_, refl, sym, ap, ap₂, _∙_}
+use Prim.Native.Nat.{ℕ, _+_, _-_, _≤_}
+use mathlib.Core.Path.{_≡_, sym, ap₂, _∙_}
 use native.Mathlib.Omega.{arith}
-use lib.Dec.{ltb}
-use lib.ListN.{getD}
 use Rattle.octets.specs.Loop.{allTo}
 use Rattle.octets.specs.Test.{both}
 use Rattle.octets.proofs.Loop.{allTo-none}
@@ -31,7 +29,8 @@ loop-again c =
     let r = a .r .now in (
       search needs,
       c .and .ensures
-          ∙ ap₂ both (cell-within r cells heardPlace (a .k + j) (λ i. c .before .before .before .before .shared-slice-known .given i .fits)
+          ∙ ap₂ both (cell-within r cells heardPlace (a .k + j)
+          (λ i. c .before .before .before .before .shared-slice-known .given i .fits)
           (omega arith) (omega arith)) (c .before .before .before .loop .inv .1)
           ∙ sym (group-more j (λ (i : ℕ). cellWithin r (a .k + i))),
     )

@@ -1,6 +1,6 @@
 -- `block::judge::heard_sound` meets its contract: the invariant: the first i groups were judged.
 use borrow.Author.Needs.{needs}
-use Prim.Native.Nat.{ℕ, _+_, _-_, _*_, _≤_}
+use Prim.Native.Nat.{ℕ, _-_, _*_, _≤_}
 use mathlib.Core.Path.{_≡_, sym, _∙_}
 use mathlib.Core.Bool.{true}
 use native.Mathlib.Omega.{arith}
@@ -17,7 +17,8 @@ use Rattle.block.proofs.judge.heard_sound.Statement.{statement}
 use Rattle.block.proofs.judge.heard_sound.Tie as tie
 
 abbrev Inv-loop : tie.InvT-loop
-Inv-loop r i₀ i = (group * i ≤ cells) × (all (group * i) (λ (k : ℕ). leb (at (words cells r heardPlace) k) limit) ≡ true)
+Inv-loop r i₀ i = (group * i ≤ cells) × (all (group * i) (λ (k : ℕ). leb (at
+    (words cells r heardPlace) k) limit) ≡ true)
 
 abbrev μ-loop : tie.MeasureT-loop
 μ-loop r i₀ i = cells - group * i
@@ -28,13 +29,15 @@ loop-holds c = (search needs, all-none _)
 loop-again : tie.Need-loop-again Inv-loop μ-loop
 loop-again c = (
   omega arith,
-  groups-more (c .before .before .before .before .before .args .r .now) (c .before .before .before .loop .i) (c .before .before .before .loop .inv .1) (sym (c .before .group-sound .ensures) ∙ c .if1 .taken),
+  groups-more (c .before .before .before .before .before .args .r .now) (c .before .before .before .loop .i)
+    (c .before .before .before .loop .inv .1) (sym (c .before .group-sound .ensures) ∙ c .if1 .taken),
 )
 
 returns : tie.Need-returns Inv-loop μ-loop
 unfolding heardWithin
 returns c =
-    sym (group-fails (c .before .before .before .before .before .args .r .now) (c .before .before .before .loop .i) (omega arith) (sym (c .before .group-sound .ensures) ∙ c .if1 .left))
+    sym (group-fails (c .before .before .before .before .before .args .r .now) (c .before .before .before .loop .i)
+    (omega arith) (sym (c .before .group-sound .ensures) ∙ c .if1 .left))
 
 returns-2 : tie.Need-returns-2 Inv-loop μ-loop
 unfolding heardWithin
