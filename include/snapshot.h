@@ -24,8 +24,9 @@
  *   6. All nodes have the same n, each its own number, and each starts from snapshot_node_fresh.
  * Fewer than half of the nodes may stop: f of n, where f is the largest whole number with 2f < n. While no more have,
  * each operation at a standing node is to end, once all messages to standing nodes are handed over. Both are proved of
- * the algorithm on links with room for anything, and of each call here that it does the algorithm's step; that a whole
- * house of such calls does the algorithm's run is proved of the cluster below, and not yet of links of your own.
+ * the algorithm on links with room for anything. Of each call here it is proved that it does what its definition says,
+ * and that definition follows the algorithm's step for each message that a run hands over. That a whole house of such
+ * calls does the algorithm's run is proved of the cluster below, and not yet of links of your own.
  *
  * WHAT THE CALLER OWES, of every call, since no call can test it:
  *   - A pointer is never null, not even beside length 0, where nothing is read or written through it. It points to as
@@ -46,9 +47,9 @@
  *     the call is written, and every other lent byte is as it was.
  *   - It always returns. It has no state but what is lent, keeps no pointer, and neither allocates, blocks nor makes a
  *     system call. Of other code it calls memcpy and memset alone.
- *   - It takes little stack, in bytes (x86-64 Linux, measured by examples/c/stack.c, rounded up): of one node fresh
- *     8400, a begin 3700, a message 5800; of a cluster fresh 11600, a begin 6900, a delivery 8800, a stop 300; all
- *     others 200.
+ *   - It takes little stack, in bytes: of one node a begin 2700, a message 5200; of a cluster fresh 2200, a begin 6900,
+ *     a delivery 8700, a stop 300; all others 200. This is measured on x86-64 Linux (examples/c/stack.c) and rounded
+ *     up: it is no proved bound.
  */
 #ifndef SNAPSHOT_H
 #define SNAPSHOT_H
@@ -156,10 +157,11 @@ extern "C" {
  *
  * `state` is its record, in SNAPSHOT_RECORD bytes that you lend.
  *
- * A record is unusable (refusal 2) where its n is not 1 to 16, its own number not 1 to n, its round not 0 to 3, or a
- * number above its limit; where a report that is held for maxtag (the top tag, by writes and echoes), for the open
- * round's tag, or in the kept view has a tag above that one; where bytes that are not zero stand beside tag 0; or where
- * fewer request numbers are left than the open operation may still use. What these calls leave is usable.
+ * A record is unusable (refusal 2) where its n is not 1 to 16, its own number not 1 to n, the code of its wait not one
+ * of the five, the kind of its open operation not one of the two, its round not 0 to 3, or a number above its limit;
+ * where a report that is held for maxtag (the top tag, by writes and echoes), for the open round's tag, or in the kept
+ * view has a tag above that one; where bytes that are not zero stand beside tag 0; or where fewer request numbers are
+ * left than the open operation may still use. What these calls leave is usable.
  */
 
 /* The length of a node's record: SNAPSHOT_RECORD. Refuses nothing, writes nothing. */

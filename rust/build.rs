@@ -1,4 +1,5 @@
-// Links the proved code, which `rt staticlib snapshot` has written. SNAPSHOT_LIB names another folder, by its full path.
+// Links the proved code, which `rt staticlib snapshot` has written. SNAPSHOT_LIB names another folder, by its full
+// path.
 fn main() {
     let written = concat!(env!("CARGO_MANIFEST_DIR"), "/../target/staticlib");
     let folder = std::env::var("SNAPSHOT_LIB").unwrap_or_else(|_| written.to_string());

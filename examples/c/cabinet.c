@@ -25,6 +25,7 @@
 #include "print.h"
 #include "snapshot.h"
 #include <errno.h>
+#include <signal.h>
 #include <stdio.h>
 #include <stdlib.h>
 #include <string.h>
@@ -182,6 +183,9 @@ int main(int argc, char **argv)
     size_t own = argc == 3 ? number(argv[2]) : 0;
     if (snapshot_node_fresh(n, own, record, sizeof record) != SNAPSHOT_TAKEN)
         stop(BAD_ARGUMENTS, "two numbers are asked: of cabinets, 1 to 16, and the own one among them");
+#ifdef SIGPIPE
+    signal(SIGPIPE, SIG_IGN); /* a pipe that nobody reads is output that cannot be written */
+#endif
     for (uint8_t command; take(&command, 1);) {
         switch (command) {
         case 'u':

@@ -89,8 +89,10 @@ static void *lend(struct region *r, size_t count, const void *given, size_t give
     r->length = count;
     memset(r->at, 0, count);
     memcpy(r->at, given, given_count < count ? given_count : count);
-    if (count > 0 && below(100) == 0)
-        r->at[below(count)] ^= (uint8_t)(1u << below(8));
+    if (count > 0 && below(100) == 0) {
+        size_t at = below(count), bit = below(8);
+        r->at[at] ^= (uint8_t)(1u << bit);
+    }
     memcpy(r->before, r->at, count);
     return r->at;
 }
@@ -199,9 +201,9 @@ static void call_read(void)
 static void call_write(void)
 {
     uint64_t some[4];
-    const size_t right[4] = {1 + below(7), 1 + below(9), 1 + below(n), 1 + below(3)};
+    const size_t highest[4] = {7, 9, n, 3};
     for (size_t i = 0; i < 4; i++)
-        some[i] = about(right[i]);
+        some[i] = about(1 + below(highest[i]));
     size_t given = about_length(SNAPSHOT_ENTRY * n), room = about_length(SNAPSHOT_LONGEST), nodes = about(n);
     uint64_t *told = lend(&numbers, sizeof some, some, sizeof some);
     uint8_t *carried = lend_any(&report, SNAPSHOT_REPORT), *shown = lend(&bytes, given, "", 0);

@@ -3,11 +3,11 @@
 //!
 //! | code | after an event | after another call |
 //! |---|---|---|
-//! | 0 | no operation has ended | what was lent holds the result |
+//! | 0, [`TAKEN`] | no operation has ended | what was lent holds the result |
 //! | 1 to 12 | refused: [`Refusal`](crate::Refusal) | the same |
-//! | 13 | an update is spent | – |
-//! | 100 to 103 | an update is done | – |
-//! | 110 to 113 | a scan has ended | – |
+//! | 13, [`SPENT`] | an update is spent | – |
+//! | 100 to 103, from [`DONE`] on | an update is done | – |
+//! | 110 to 113, from [`SCAN`] on | a scan has ended | – |
 //!
 //! The last digit of 100 to 113 is the rule: 0 for a view borrowed from a good message, or the round, 1 to 3. A refusal
 //! leaves all that is lent as it was.
@@ -33,6 +33,24 @@
 use crate::raw;
 use crate::{REPORT, VIEW};
 
+/// The code of a call that is done, and no operation has ended.
+pub const TAKEN: u8 = 0;
+
+/// The code of an update that ended without effect: no tag was left for it.
+pub const SPENT: u8 = 13;
+
+/// The code of an update that is done, before its rule, 0 to 3, is added.
+pub const DONE: u8 = 100;
+
+/// The code of a scan that has ended, before its rule, 0 to 3, is added.
+pub const SCAN: u8 = 110;
+
+/// The route of a message that goes to all nodes, 1 to n in turn, the sending one among them.
+pub const TO_ALL: u8 = 0;
+
+/// The route of a message that goes to the sender of the message that was handled.
+pub const TO_SENDER: u8 = 1;
+
 /// The bytes to lend for a cluster of n nodes; 0 where there may be none.
 #[inline]
 pub fn size(n: usize) -> usize {
@@ -42,48 +60,48 @@ pub fn size(n: usize) -> usize {
 
 /// Makes the lent bytes a fresh cluster of n nodes. Refusals: 1, 12.
 #[inline]
-pub fn fresh(n: usize, b: &mut [u8]) -> u8 {
+pub fn fresh(n: usize, cluster: &mut [u8]) -> u8 {
     // SAFETY: pointer and length of one slice.
-    unsafe { raw::snapshot_fresh(n, b.as_mut_ptr(), b.len()) }
+    unsafe { raw::snapshot_fresh(n, cluster.as_mut_ptr(), cluster.len()) }
 }
 
-/// Begins an update with this report at node c; where `cut`, only the first m entries go out and the node stops.
-/// Refusals: 12, 2, 3, 4, 5, 6, 10, 11.
+/// Begins an update with this report at a node; where `cut`, only so many of the first messages go out as `entries`
+/// says, and the node stops. Refusals: 12, 2, 3, 4, 5, 6, 10, 11.
 #[inline]
-pub fn begin_update(b: &mut [u8], c: usize, report: &[u8; REPORT], cut: bool, m: usize) -> u8 {
+pub fn begin_update(cluster: &mut [u8], node: usize, report: &[u8; REPORT], cut: bool, entries: usize) -> u8 {
     // SAFETY: pointer and length of one slice, which is lent by `&mut` and so apart from the array.
-    unsafe { raw::snapshot_begin_update(b.as_mut_ptr(), b.len(), c, report, cut, m) }
+    unsafe { raw::snapshot_begin_update(cluster.as_mut_ptr(), cluster.len(), node, report, cut, entries) }
 }
 
-/// Begins a scan at node c, whole or cut. Refusals: 12, 2, 3, 4, 5, 6, 10, 11.
+/// Begins a scan at a node, whole or cut. Refusals: 12, 2, 3, 4, 5, 6, 10, 11.
 #[inline]
-pub fn begin_scan(b: &mut [u8], c: usize, cut: bool, m: usize) -> u8 {
+pub fn begin_scan(cluster: &mut [u8], node: usize, cut: bool, entries: usize) -> u8 {
     // SAFETY: pointer and length of one slice.
-    unsafe { raw::snapshot_begin_scan(b.as_mut_ptr(), b.len(), c, cut, m) }
+    unsafe { raw::snapshot_begin_scan(cluster.as_mut_ptr(), cluster.len(), node, cut, entries) }
 }
 
-/// Delivers what has waited longest on the channel from a to c, whole or cut. The view of a scan that ends goes to
-/// `view`: n entries, then zeros. Refusals: 12, 2, 3, 4, 8, 7, 9, 10, 11.
+/// Delivers what has waited longest on the channel between two nodes, whole or cut. The view of a scan that ends goes
+/// to `view`: n entries, then zeros. Refusals: 12, 2, 3, 4, 8, 7, 9, 10, 11.
 #[inline]
-pub fn deliver(b: &mut [u8], a: usize, c: usize, cut: bool, m: usize, view: &mut [u8; VIEW]) -> u8 {
+pub fn deliver(cluster: &mut [u8], from: usize, to: usize, cut: bool, entries: usize, view: &mut [u8; VIEW]) -> u8 {
     // SAFETY: pointer and length of one slice; the array is another region, since both are lent by `&mut`.
-    unsafe { raw::snapshot_deliver(b.as_mut_ptr(), b.len(), a, c, cut, m, view) }
+    unsafe { raw::snapshot_deliver(cluster.as_mut_ptr(), cluster.len(), from, to, cut, entries, view) }
 }
 
-/// Stops node c. Refusals: 12, 2, 3, 4, 10.
+/// Stops a node. Refusals: 12, 2, 3, 4, 10.
 #[inline]
-pub fn stop(b: &mut [u8], c: usize) -> u8 {
+pub fn stop(cluster: &mut [u8], node: usize) -> u8 {
     // SAFETY: pointer and length of one slice.
-    unsafe { raw::snapshot_stop(b.as_mut_ptr(), b.len(), c) }
+    unsafe { raw::snapshot_stop(cluster.as_mut_ptr(), cluster.len(), node) }
 }
 
 /// Reads one message: its kind, request number, writer and tag go to `numbers`, 0 where the kind has none; its report
 /// to `report`, zeros where it has none. The view of a good one is the bytes from 18 on. Refusals: 1, 7.
 #[inline]
-pub fn read(n: usize, b: &[u8], numbers: &mut [u64; 4], report: &mut [u8; REPORT]) -> u8 {
+pub fn read(n: usize, bytes: &[u8], numbers: &mut [u64; 4], report: &mut [u8; REPORT]) -> u8 {
     // SAFETY: pointer and length of one slice; the two arrays are lent by `&mut`, so they are apart from it and from
     // each other.
-    unsafe { raw::snapshot_read(n, b.as_ptr(), b.len(), numbers, report) }
+    unsafe { raw::snapshot_read(n, bytes.as_ptr(), bytes.len(), numbers, report) }
 }
 
 /// Writes the message of these numbers at the front of `out`, and its length to `length`. The report is looked at only
@@ -117,50 +135,50 @@ pub fn node_size() -> usize {
     unsafe { raw::snapshot_node_size() }
 }
 
-/// Makes the lent bytes the fresh record of node `own` of n. Refusals: 1, 12.
+/// Makes `state` the fresh record of node `own` of n. Refusals: 1, 12.
 #[inline]
-pub fn node_fresh(n: usize, own: usize, record: &mut [u8]) -> u8 {
+pub fn node_fresh(n: usize, own: usize, state: &mut [u8]) -> u8 {
     // SAFETY: pointer and length of one slice.
-    unsafe { raw::snapshot_node_fresh(n, own, record.as_mut_ptr(), record.len()) }
+    unsafe { raw::snapshot_node_fresh(n, own, state.as_mut_ptr(), state.len()) }
 }
 
-/// Begins an update with this report at the node; the messages to send go to the front of `out`, their length to
-/// `length`. Refusals: 12, 2, 5, 6.
+/// Begins an update with this report at the node whose record is in `state`; the messages to send go to the front of
+/// `out`, their length to `length`. Refusals: 12, 2, 5, 6.
 #[inline]
-pub fn node_begin_update(record: &mut [u8], report: &[u8; REPORT], out: &mut [u8], length: &mut usize) -> u8 {
+pub fn node_begin_update(state: &mut [u8], report: &[u8; REPORT], out: &mut [u8], length: &mut usize) -> u8 {
     let (at, room) = (out.as_mut_ptr(), out.len());
     // SAFETY: each pointer with the length of its own slice; all but the report are lent by `&mut`, so no two overlap.
-    unsafe { raw::snapshot_node_begin_update(record.as_mut_ptr(), record.len(), report, at, room, length) }
+    unsafe { raw::snapshot_node_begin_update(state.as_mut_ptr(), state.len(), report, at, room, length) }
 }
 
 /// Begins a scan at the node, likewise. Refusals: 12, 2, 5, 6.
 #[inline]
-pub fn node_begin_scan(record: &mut [u8], out: &mut [u8], length: &mut usize) -> u8 {
+pub fn node_begin_scan(state: &mut [u8], out: &mut [u8], length: &mut usize) -> u8 {
     let (at, room) = (out.as_mut_ptr(), out.len());
     // SAFETY: each pointer with the length of its own slice; all are lent by `&mut`, so no two overlap.
-    unsafe { raw::snapshot_node_begin_scan(record.as_mut_ptr(), record.len(), at, room, length) }
+    unsafe { raw::snapshot_node_begin_scan(state.as_mut_ptr(), state.len(), at, room, length) }
 }
 
 /// Handles a message from node `sender`; the messages to send go to the front of `out`, their length to `length`, and
 /// the view of a scan that ends to `view`: n entries, then zeros. Refusals: 12, 2, 3, 7, 9.
 #[inline]
 pub fn node_message(
-    record: &mut [u8],
+    state: &mut [u8],
     sender: usize,
     bytes: &[u8],
     out: &mut [u8],
     length: &mut usize,
     view: &mut [u8; VIEW],
 ) -> u8 {
-    let (held, held_len) = (record.as_mut_ptr(), record.len());
+    let (held, held_len) = (state.as_mut_ptr(), state.len());
     let (at, room) = (out.as_mut_ptr(), out.len());
     // SAFETY: each pointer with the length of its own slice; all but the message's bytes are lent by `&mut`, so no two
     // overlap.
     unsafe { raw::snapshot_node_message(held, held_len, sender, bytes.as_ptr(), bytes.len(), at, room, length, view) }
 }
 
-/// The message at the front of an output: its length goes to `length`, and to `route` 0 where it goes to all nodes 1 to
-/// n in turn, 1 where it goes to the sender of the message handled. Refusals: 1, 7.
+/// The message at the front of an output: its length goes to `length`, and to `route` [`TO_ALL`] or [`TO_SENDER`].
+/// Refusals: 1, 7.
 #[inline]
 pub fn next(n: usize, bytes: &[u8], length: &mut usize, route: &mut u8) -> u8 {
     // SAFETY: pointer and length of one slice; the two numbers are lent by `&mut`, so they are apart from it and from

@@ -8,7 +8,9 @@
 //! - [`Message`], [`View`], [`Report`] and [`figures`] read and write what crosses.
 //! - [`lent`] has the calls one by one, on lent bytes.
 //!
-//! Every call takes any numbers and any bytes, and gives its result or one [`Refusal`], which leaves all as it was.
+//! Every call takes any numbers and any bytes, and gives its result or one [`Refusal`]. A refusal leaves the record,
+//! the cluster and all bytes that were lent as they were; an [`Output`] is empty after it, so that nothing is sent
+//! twice.
 //!
 //! The session of document 01, on a cluster of one: an update, eleven deliveries, a scan, six deliveries.
 //!
@@ -42,7 +44,7 @@
 //!
 //! # What the links owe
 //!
-//! The proofs are of nodes whose links keep these rules. Who runs a [`Node`] on links of their own owes them:
+//! Who runs a [`Node`] on links of their own owes these rules. That all operations have one single order rests on them:
 //!
 //! 1. A link, one from each node to each, loses no message, repeats none, alters none and keeps their order. It may be
 //!    as slow as it likes, and which link hands over next is free.
@@ -50,12 +52,16 @@
 //!    goes to any. So a node that stops while it sends has sent a first part of its list.
 //! 3. A node gets its own messages too: what goes to all goes to nodes 1 to n in turn, the sender among them.
 //! 4. All messages of an output are sent before the node's next call, and before an ending that came with them is told.
-//! 5. A node never starts again from an older record, one that was saved before later messages went out, nor from a
-//!    fresh one: the others would hear it contradict itself. If its newest record is lost, it has stopped.
+//! 5. A record is never put back from an older copy, nor made fresh again: the others would hear the node contradict
+//!    itself. It may be moved. A node that has lost its record, or was interrupted in the middle of a call or of
+//!    sending, has stopped and does not come back.
 //! 6. All nodes have the same n and each its own number, and each has started fresh.
 //!
-//! Fewer than half of the nodes may stop. While no more have, an operation at a node that stands ends, once the
-//! messages to all that stand are handed over.
+//! Fewer than half of the nodes may stop. While no more have, each operation at a node that stands is to end, once all
+//! messages to nodes that stand are handed over. Both are proved of the algorithm on links with room for anything. Of
+//! each call it is proved that it does what its definition says, and that definition follows the algorithm's step for
+//! each message that a run hands over. That a whole house of such calls does the algorithm's run is proved of a
+//! [`Cluster`], and not yet of links of one's own.
 #![deny(missing_docs, missing_debug_implementations, unsafe_code)]
 
 mod cluster;

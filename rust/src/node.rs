@@ -81,20 +81,24 @@ impl Node {
         Ok(Node { record })
     }
 
-    /// The node whose record is in these bytes, which may be any: each call judges them. They must be the newest that
-    /// the node had: see [the crate's head](crate#what-the-links-owe). Refusals: 12 (not [`RECORD`] bytes).
+    /// The node whose record is in these bytes, which may be any: each call judges them. So a record is moved, once all
+    /// that the node has put out is sent; it is never put back from an older copy, and the node that it was taken from
+    /// makes no further call: see [the crate's head](crate#what-the-links-owe). Refusals: 12 (not [`RECORD`] bytes).
     ///
     /// ```
     /// use snapshot::{Node, Operation, Output, Refusal};
     ///
-    /// let mut node = Node::fresh(3, 1)?;
+    /// let mut node = Node::fresh(1, 1)?;
     /// let mut out = Output::new();
     /// node.begin(Operation::Scan, &mut out)?;
-    /// let saved = node.as_bytes().to_vec();
-    /// // .. and after a start, from what was saved last:
-    /// let mut node = Node::from_bytes(&saved)?;
-    /// assert_eq!(node.begin(Operation::Scan, &mut out), Err(Refusal::Open));
-    /// assert_eq!(Node::from_bytes(&saved[1..]).err(), Some(Refusal::Length));
+    /// let link: Vec<Vec<u8>> = out.messages().map(|(bytes, _)| bytes.to_vec()).collect(); // all of it is sent
+    /// let moved = *node.as_bytes();
+    /// drop(node);
+    ///
+    /// let mut node = Node::from_bytes(&moved)?;
+    /// assert_eq!(node.message(1, &link[0], &mut out)?, None); // and it goes on where it was
+    /// assert_eq!(out.messages().count(), 1);
+    /// assert_eq!(Node::from_bytes(&moved[1..]).err(), Some(Refusal::Length));
     /// # Ok::<(), Refusal>(())
     /// ```
     pub fn from_bytes(bytes: &[u8]) -> Result<Node, Refusal> {
@@ -129,8 +133,8 @@ impl Node {
     /// ended by it. Refusals: 2 (the record is not usable), 3 (the sender is not 1 to n), 7 (the bytes are not one
     /// message), 9 (a value that cannot come now); `out` is empty then.
     ///
-    /// Where all keep the rules, none of these comes. A node that meets one should stop for good, which the others bear:
-    /// to go on would be to lose a message, which they do not.
+    /// Where all keep the rules, none of these is to be expected. A node that meets one should stop for good, which the
+    /// others bear: to go on would be to lose a message, which they do not.
     pub fn message(&mut self, sender: usize, bytes: &[u8], out: &mut Output) -> Result<Option<Ending>, Refusal> {
         out.length = 0;
         let mut view = [0; VIEW];
@@ -231,7 +235,7 @@ impl<'a> Iterator for Messages<'a> {
         accepted(lent::next(self.nodes, self.rest, &mut length, &mut route)).expect("an output is messages");
         let (message, rest) = self.rest.split_at(length);
         self.rest = rest;
-        let to = if route == 0 { To::All } else { To::Sender };
+        let to = if route == lent::TO_ALL { To::All } else { To::Sender };
         Some((message, to))
     }
 }

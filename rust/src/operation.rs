@@ -1,4 +1,5 @@
 //! Operations: what a client asks for, and how it ends.
+use crate::lent::{DONE, SCAN, SPENT, TAKEN};
 use crate::refusal::Refusal;
 use crate::view::{Report, View};
 use crate::VIEW;
@@ -34,17 +35,21 @@ pub enum Ending {
     Spent,
 }
 
+// The codes of endings by the last rule, that of round 3.
+const DONE_LAST: u8 = DONE + 3;
+const SCAN_LAST: u8 = SCAN + 3;
+
 /// What the code of an event says; `view` is what the event has left, for n nodes.
 pub(crate) fn ending(code: u8, n: usize, view: &[u8; VIEW]) -> Result<Option<Ending>, Refusal> {
-    let rule = match code % 10 {
+    let rule = |number| match number {
         0 => Rule::Borrowed,
         round => Rule::Direct(round),
     };
     match code {
-        0 => Ok(None),
-        13 => Ok(Some(Ending::Spent)),
-        100..=103 => Ok(Some(Ending::Done(rule))),
-        110..=113 => Ok(Some(Ending::Scan(rule, View::shown(n, view)))),
+        TAKEN => Ok(None),
+        SPENT => Ok(Some(Ending::Spent)),
+        DONE..=DONE_LAST => Ok(Some(Ending::Done(rule(code - DONE)))),
+        SCAN..=SCAN_LAST => Ok(Some(Ending::Scan(rule(code - SCAN), View::shown(n, view)))),
         _ => Err(Refusal::of_code(code)),
     }
 }

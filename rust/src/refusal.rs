@@ -1,9 +1,11 @@
 //! Refusals.
+use crate::lent::TAKEN;
 use std::error::Error;
 use std::fmt;
 
 /// Why a call was refused, by document 01's numbers. The first that applies is given, in the order that each call
-/// names, and only on its condition; it leaves everything as it was.
+/// names, and only on its condition. The record, the cluster and all bytes that were lent are as they were; an
+/// [`Output`](crate::Output) is empty.
 ///
 /// ```
 /// use snapshot::{Node, Refusal};
@@ -18,7 +20,7 @@ use std::fmt;
 pub enum Refusal {
     /// The number of nodes is not 1 to 16, or the own number not one of them.
     Size = 1,
-    /// The record or the cluster cannot be used: its bytes are not such as the calls leave.
+    /// The record or the cluster cannot be used: its numbers or tables break their limits.
     Unusable = 2,
     /// The node's number is not 1 to n.
     Node = 3,
@@ -68,7 +70,7 @@ impl Refusal {
 /// What a call that only succeeds or is refused answers with its code.
 pub(crate) fn accepted(code: u8) -> Result<(), Refusal> {
     match code {
-        0 => Ok(()),
+        TAKEN => Ok(()),
         _ => Err(Refusal::of_code(code)),
     }
 }

@@ -1,6 +1,6 @@
-//! Bad input at the calls for C of one node: a million random and damaged records and messages, and what the proved
-//! code makes of them compared, byte for byte, with what the oracle's record does. Between them networks run from
-//! fresh on the proved calls, beside the oracle's nodes over sets.
+//! A million cases at the calls for C of one node: steps of runs, and records and messages of them damaged or made up.
+//! What the proved code makes of each is compared, byte for byte, with what the oracle's record does. A run is one of a
+//! network on the proved calls, beside the oracle's nodes over sets; its order is one case more.
 //!
 //! `trial [CASES [SEED]]`
 
@@ -22,6 +22,10 @@ use throw::Trial;
 
 const CASES: usize = 1_000_000;
 
+const USAGE: &str = "usage: trial [CASES [SEED]]
+  CASES, a million if not given: steps of runs, and records and messages of them damaged or made up; whole runs are
+  made until there are so many";
+
 fn main() -> ExitCode {
     let numbers: Option<Vec<u64>> = env::args().skip(1).map(|word| word.parse().ok()).collect();
     let (cases, seed) = match numbers.as_deref() {
@@ -29,7 +33,7 @@ fn main() -> ExitCode {
         Some(&[cases]) => (cases as usize, 1),
         Some(&[cases, seed]) => (cases as usize, seed),
         _ => {
-            eprintln!("usage: trial [CASES [SEED]]");
+            eprintln!("{USAGE}");
             return ExitCode::FAILURE;
         }
     };

@@ -6,6 +6,7 @@ mod rattle;
 mod raw;
 mod tokens;
 
+use snapshot::lent::{DONE, SCAN, SPENT, TAKEN, TO_ALL, TO_SENDER};
 use snapshot::{Message, Refusal, Report};
 use std::collections::BTreeMap;
 
@@ -102,6 +103,33 @@ fn the_header_has_the_sizes_of_the_crate() {
 fn the_header_has_the_refusals_of_the_crate() {
     let expected = Refusal::ALL.map(|r| (format!("SNAPSHOT_REFUSED_{r:?}").to_uppercase(), usize::from(r.number())));
     assert_eq!(header().enums["snapshot_refusal"], expected);
+}
+
+/// The cases of an enum as the header has them.
+fn cases<const N: usize>(cases: [(&str, u8); N]) -> Vec<(String, usize)> {
+    cases.map(|(name, number)| (format!("SNAPSHOT_{name}"), usize::from(number))).to_vec()
+}
+
+#[test]
+fn the_header_has_the_endings_of_the_crate() {
+    let expected = cases([
+        ("TAKEN", TAKEN),
+        ("SPENT", SPENT),
+        ("DONE_BORROWED", DONE),
+        ("DONE_ROUND_1", DONE + 1),
+        ("DONE_ROUND_2", DONE + 2),
+        ("DONE_ROUND_3", DONE + 3),
+        ("SCAN_BORROWED", SCAN),
+        ("SCAN_ROUND_1", SCAN + 1),
+        ("SCAN_ROUND_2", SCAN + 2),
+        ("SCAN_ROUND_3", SCAN + 3),
+    ]);
+    assert_eq!(header().enums["snapshot_ending"], expected);
+}
+
+#[test]
+fn the_header_has_the_routes_of_the_crate() {
+    assert_eq!(header().enums["snapshot_route"], cases([("TO_ALL", TO_ALL), ("TO_SENDER", TO_SENDER)]));
 }
 
 #[test]
