@@ -1,7 +1,7 @@
 -- A step of a usable record fits in the least output. Assumes nothing.
 use mathlib.Core.Path.{_≡_, sym, subst}
 use mathlib.Core.Bool.{true, false}
-use Prim.Native.Nat.{ℕ, _-_, _≤_, _<_}
+use Prim.Native.Nat.{ℕ, _≤_, _<_}
 use native.Mathlib.Omega.{arith}
 use Rattle.view.specs.declared.View.{View}
 use Rattle.wire.specs.declared.Message.{Message}

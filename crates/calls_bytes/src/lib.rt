@@ -1,5 +1,5 @@
-// The calls at one node on its record in lent bytes, defined for every input (specs/), with their theorems (proofs/). Of
-// code there is what shows a view in lent bytes.
+// The calls at one node on its record in lent bytes, defined for every input (specs/), with their theorems (proofs/).
+// Of code there is what shows a view in lent bytes.
 use step::Ending;
 use view::NODES;
 use view::VIEW;

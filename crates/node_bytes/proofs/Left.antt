@@ -166,10 +166,12 @@ fresh-leaves n own r s o l =
     let a = leb 1 n in
     let b = leb n nodes in
     let d = leb 1 own in
-    let g = leb own n in
-    (ap (λ (x : LentResult). x .ending) e, rw e (holds (blank n own)
-    (fresh-usable n own (leb-true _ _ (both-left a b s)) (leb-true _ _ (both-right a b s))
-    (leb-true _ _ (both-left d g o)) (leb-true _ _ (both-right d g o))) (blank-sized n own)))
+    let g = leb own n in (
+      ap (λ (x : LentResult). x .ending) e,
+      rw e (holds (blank n own)
+          (fresh-usable n own (leb-true _ _ (both-left a b s)) (leb-true _ _ (both-right a b s))
+          (leb-true _ _ (both-left d g o)) (leb-true _ _ (both-right d g o))) (blank-sized n own)),
+    )
 
 pub left : claim.Left
 left = record {

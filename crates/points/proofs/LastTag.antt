@@ -18,7 +18,7 @@ use Rattle.wire.specs.Codec.{viewPart}
 use Rattle.wire.specs.declared.Message.the-variants.{ReadAnswer, Write, Value}
 use Rattle.wire.proofs.RoundTrip.{read-back, read-only}
 use Rattle.table.specs.Loop.{all, count}
-use Rattle.table.specs.Quorum.{member, with, only, membersIn, faults, isQuorum}
+use Rattle.table.specs.Quorum.{member, with, only, membersIn, isQuorum}
 use Rattle.table.specs.Table.{heardWithin}
 use Rattle.table.proofs.Entries.{viewWithin-absent}
 use Rattle.table.proofs.Sets.{membersIn-with}

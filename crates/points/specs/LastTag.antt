@@ -7,7 +7,7 @@ use lib.ListN.{length, replicate}
 use Rattle.octets.specs.Answer.{result}
 use Rattle.octets.specs.Bytes.{put}
 use Rattle.view.specs.Report.{noReport}
-use Rattle.view.specs.Size.{limit, nodes}
+use Rattle.view.specs.Size.{limit}
 use Rattle.view.specs.View.{noView}
 use Rattle.view.specs.declared.Report.{Report}
 use Rattle.wire.specs.Layout.{encode}

@@ -34,7 +34,8 @@ use Rattle.region.specs.Record.{headOf, headBytes, withMaxtag, withKept, withWa
 use Rattle.region.specs.Record.{codePlace, waitBytes, numbers}
 use Rattle.region.proofs.Back.{Sized, SizedNode, sized-view, sized-of, record-back}
 use Rattle.react_bytes.specs.Handled.{entered}
-use Rattle.react_bytes.proofs.Sections.{Tables, words-there, tables-of, heard-put, view-put, view-entry, assembled}
+use Rattle.react_bytes.proofs.Sections.{Tables, words-there, tables-of, heard-put, view-put}
+use Rattle.react_bytes.proofs.Sections.{view-entry, assembled}
 
 module _ (r : List ℕ) (h : Bytes r) (l : length r ≡ recordSize) where
   T : Tables r (words cells r heardPlace)

@@ -1,7 +1,7 @@
 -- `react_bytes::react_in` meets its contract.
 use borrow.Author.Needs.{needs}
 use mathlib.Core.Path.{refl, ap, ap₂, _∙_}
-use Prim.Native.Nat.{ℕ, _-_}
+use Prim.Native.Nat.{ℕ}
 use borrow.Author.Tests.{leb-true}
 use Rattle.wire.specs.declared.Message.the-variants.{ReadAnswer}
 use Rattle.record.specs.Record.{withWait}

@@ -30,7 +30,7 @@ loop-again : tie.Need-loop-again Inv-loop μ-loop
 loop-again c = (
   omega arith,
   groups-more (c .before .before .before .before .before .args .r .now) (c .before .before .before .loop .i)
-    (c .before .before .before .loop .inv .1) (sym (c .before .group-sound .ensures) ∙ c .if1 .taken),
+      (c .before .before .before .loop .inv .1) (sym (c .before .group-sound .ensures) ∙ c .if1 .taken),
 )
 
 returns : tie.Need-returns Inv-loop μ-loop
