@@ -271,7 +271,7 @@ no-good o h =
     good-append (a ++ b) d ∙ ap (λ (x : Bool). either x (anyGood d)) (good-append a b) ∙ h
 
 -- one that is not good has the same bytes beside any view, and is allowed beside any
-any-view : (n : ℕ) (m : Message) (v w : List ℕ) → isGood m ≡ false
+pub any-view : (n : ℕ) (m : Message) (v w : List ℕ) → isGood m ≡ false
     → (encode m v ≡ encode m w) × (allowed n m v ≡ allowed n m w)
 unfolding encode allowed
 any-view n (Read q) v w h = (refl, refl)

@@ -8,20 +8,47 @@ use view::write_view;
 use wire::Message;
 use wire::Written;
 use wire_parse::views::is_good;
-use wire_write::write;
+use wire_write::write_good;
+use wire_write::write_short;
 ghost use mathlib.Core.Path.{_≡_};
 ghost use mathlib.Core.Bool.{true};
-ghost use mathlib.Core.List.{_++_};
+ghost use mathlib.Core.List.{[], _++_};
 ghost use Prim.Native.Nat.{_+_, _≤_};
 ghost use lib.ListN.{length};
 ghost use Rattle.octets.specs.Bytes.{put};
 ghost use Rattle.view.specs.Size.{nodes, isSize};
 ghost use Rattle.wire.specs.Layout.{encode, allowed};
+ghost use Rattle.wire.specs.declared.Message.the-variants.{Good};
 ghost use Rattle.step.specs.Claims.{AllLawful, sizes};
 ghost use Rattle.step.specs.Step.{listed, messages};
 ghost use Rattle.calls.specs.Bytes.{run, outBytes};
 ghost use Rattle.emit.specs.Room.{Room};
 ghost use Rattle.emit.specs.Good.{anyGood};
+
+// Writes a message that is not good at a place, and answers the place after it.
+fn emit_short(n: usize, m: Message, out: &mut [u8], at: usize) -> usize
+    requires { ⌜ (isSize n ≡ true) × (allowed n m [] ≡ true) × (at + length (encode m []) ≤ length (now out)) ⌝ }
+    ensures { λ r. ⌜ (r ≡ at + length (encode m []))
+        × (now (out .exit) ≡ put (now (out .entry)) at (encode m [])) ⌝ }
+{
+    match write_short(n, m, &mut out[at..]) {
+        Written::Length(k) => at + k,
+        Written::Refused(_) => at,
+    }
+}
+
+// Writes a good message with its view, likewise.
+fn emit_good(n: usize, tag: u64, v: &[u8], out: &mut [u8], at: usize) -> usize
+    requires { ⌜ (isSize n ≡ true) × (allowed n (Good tag) (now v) ≡ true)
+        × (at + length (encode (Good tag) (now v)) ≤ length (now out)) ⌝ }
+    ensures { λ r. ⌜ (r ≡ at + length (encode (Good tag) (now (v .entry))))
+        × (now (out .exit) ≡ put (now (out .entry)) at (encode (Good tag) (now (v .entry)))) ⌝ }
+{
+    match write_good(n, tag, v, &mut out[at..]) {
+        Written::Length(k) => at + k,
+        Written::Refused(_) => at,
+    }
+}
 
 // Writes one message at a place, and answers the place after it.
 fn emit_one(n: usize, m: Message, v: &[u8], out: &mut [u8], at: usize) -> usize
@@ -30,9 +57,9 @@ fn emit_one(n: usize, m: Message, v: &[u8], out: &mut [u8], at: usize) -> usize
     ensures { λ r. ⌜ (r ≡ at + length (encode m (now (v .entry))))
         × (now (out .exit) ≡ put (now (out .entry)) at (encode m (now (v .entry)))) ⌝ }
 {
-    match write(n, m, v, &mut out[at..]) {
-        Written::Length(k) => at + k,
-        Written::Refused(_) => at,
+    match m {
+        Message::Good { tag } => emit_good(n, tag, v, out, at),
+        _ => emit_short(n, m, out, at),
     }
 }
 

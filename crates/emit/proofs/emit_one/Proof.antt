@@ -1,44 +1,44 @@
 -- `emit::emit_one` meets its contract. Assumes nothing.
 use borrow.Author.Needs.{needs}
-use mathlib.Core.Path.{ap}
-use Prim.Native.Nat.{ℕ, _+_}
-use native.Mathlib.Omega.{arith}
-use Rattle.emit.proofs.Runs.{emitted, answered-length, not-refused}
+use mathlib.Core.Path.{sym, ap, _∙_, subst}
+use mathlib.Core.List.{List, []}
+use Prim.Native.Nat.{ℕ, _+_, _≤_}
+use lib.ListN.{length}
+use Rattle.octets.specs.Bytes.{put}
+use Rattle.wire.proofs.Short.{not-good}
+use Rattle.emit.proofs.Runs.{any-view}
 use Rattle.emit.proofs.emit_one.Statement.{statement}
 use Rattle.emit.proofs.emit_one.Tie as tie
 
-add-result : tie.Need-add-result
-add-result c =
-    let c5 = c .before .before .before .before .before in
-    let a = c5 .before .before .before .before .args in
-    let p = c5 .before .before .before .before .pre in
-    let w = c5 .write in
-    let law = emitted (a .n) (a .m) (a .v .now) (a .out .now) (a .at) (p .0) (p .1) (p .2) (w .result)
-    (w .last .1 .1 .1 .0) (w .ensures .0) (w .ensures .1) in
-    omega (arith, answered-length (w .result) _ _ (c .before .k .given .1) (law .0), p .2)
+emit-good-requires : tie.Need-emit-good-requires
+emit-good-requires c κs =
+    let p = c .before .before .before .before .before .before .pre in
+    let is = c .before .before .m .given .1 in
+    (p .0, rw is at (p .1), rw is at (p .2))
+
+emit-short-requires : tie.Need-emit-short-requires
+emit-short-requires c κs =
+    let a = c .before .before .before .before .args in
+    let p = c .before .before .before .before .pre in
+    let x = any-view (a .n) (a .m) (a .v .now) [] (not-good (a .m) (c .before .match .keys2)) in
+    (p .0, sym (x .1) ∙ p .1, subst (λ (e : List ℕ). a .at + length e ≤ length (a .out .now)) (x .0) (p .2))
 
 returns : tie.Need-returns
-returns c =
-    let c5 = c .before .before .before .before .before in
-    let a = c5 .before .before .before .before .args in
-    let p = c5 .before .before .before .before .pre in
-    let w = c5 .write in
-    let law = emitted (a .n) (a .m) (a .v .now) (a .out .now) (a .at) (p .0) (p .1) (p .2) (w .result)
-    (w .last .1 .1 .1 .0) (w .ensures .0) (w .ensures .1) in
-    (ap (λ (k : ℕ). a .at + k) (answered-length (w .result) _ _ (c .before .k .given .1) (law .0)), law .1)
+returns c = rw (c .before .before .before .before .before .m .given .1) (c .before .before .emit-good .ensures)
 
 returns-2 : tie.Need-returns-2
 returns-2 c =
-    let c8 = c .before .before .before .before .before .before .before .before in
-    let a = c8 .args in
-    let p = c8 .pre in
-    let w = c .before .before .before .before .write in
-    let law = emitted (a .n) (a .m) (a .v .now) (a .out .now) (a .at) (p .0) (p .1) (p .2) (w .result)
-    (w .last .1 .1 .1 .0) (w .ensures .0) (w .ensures .1) in
-    not-refused (w .result) _ _ (c .enum-told .given .1) (law .0)
+    let c2 = c .before .before in
+    let c4 = c2 .before .before in
+    let c7 = c4 .before .before .before in
+    let a = c7 .args in
+    let x = any-view (a .n) (a .m) [] (a .v .now) (not-good (a .m) (c4 .match .keys2)) .0 in (
+      c2 .emit-short .ensures .0 ∙ ap (λ (e : List ℕ). a .at + length e) x,
+      c2 .emit-short .ensures .1 ∙ ap (λ (e : List ℕ). put (a .out .now) (a .at) e) x,
+    )
 
 pub emit-one-spec : {M : Type 1} → statement M
 emit-one-spec =
     tie.close
-    (tie.spec (λ c. search needs) (λ c. search needs) (λ c. search needs) (λ c κs. search needs) (λ c. search needs)
-    add-result (λ c. search needs) (λ c. search needs) returns (λ c. search needs) returns-2)
+    (tie.spec (λ c. search needs) emit-good-requires emit-short-requires (λ c. search needs) returns
+    (λ c. search needs) returns-2)
