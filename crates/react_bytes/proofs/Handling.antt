@@ -61,6 +61,17 @@ module _ (r : List ℕ) (h : Bytes r) (l : length r ≡ recordSize) where
       ∙ put-after r nPlace (wordBytes (numbers (headOf r))) (waitBytes w) codePlace (omega arith)
       (omega (arith, length-wordBytes (numbers (headOf r)))) ∙ withWait-bytes w
 
+  -- where a tag is not above, the record is written as it is
+  pub raised-same : (t : ℕ) → ltb (word r maxtagPlace) t ≡ false
+      → recordBytes (withWait (recordOf r) (waitIn r)) ≡ recordBytes (raised (recordOf r) t)
+  unfolding recordOf raised
+  raised-same t e = rw e refl
+
+  pub kept-same : (t : ℕ) (v : View) → ltb (word r keptPlace) t ≡ false
+      → recordBytes (withWait (recordOf r) (waitIn r)) ≡ recordBytes (keep (recordOf r) t v)
+  unfolding recordOf keep
+  kept-same t v e = rw e refl
+
   pub raised-bytes : (t : ℕ) (b : Bool) → ltb (word r maxtagPlace) t ≡ b
       → put (pick b (put r (viewPlace atmaxIn) (viewBytes nodes (newest t (viewIn r lastIn) (viewIn r atmaxIn)))) r)
       nPlace

@@ -25,6 +25,7 @@ use region::places::ATMAX_PLACE;
 use region::places::ATROUND_IN;
 use region::places::HEARD_PLACE;
 use region::places::KEPT_IN;
+use region::places::KEPT_PLACE;
 use region::places::LAST_IN;
 use region::places::MAXTAG_PLACE;
 use region::places::REQUEST_PLACE;
@@ -66,14 +67,14 @@ fn raised_in(r: &mut [u8], t: u64) -> bool
     ensures { λ grown. ⌜ (grown ≡ ltb (recordOf (now (r .entry)) .maxtag) t)
         × (now (r .exit) ≡ recordBytes (raised (recordOf (now (r .entry))) t)) ⌝ }
 {
-    let h = head_of(r);
-    if h.maxtag < t {
+    if get_word(r, MAXTAG_PLACE) < t {
+        let h = head_of(r);
         let v = newest_in(r, t);
         put_bytes(r, ATMAX_PLACE, &v);
         save_head(r, with_maxtag(h, t));
         return true;
     }
-    save_head(r, h);
+    waiting_in(r, load_wait(r));
     false
 }
 
@@ -109,13 +110,13 @@ fn kept_in(r: &mut [u8], n: usize, t: u64, v: &[u8])
     requires { ⌜ (length (now r) ≡ recordSize) × (n ≤ nodes) × (viewSize n ≤ length (now v)) ⌝ }
     ensures { λ _. ⌜ now (r .exit) ≡ recordBytes (keep (recordOf (now (r .entry))) t (viewOf n (now (v .entry)))) ⌝ }
 {
-    let h = head_of(r);
-    if h.kept < t {
+    if get_word(r, KEPT_PLACE) < t {
+        let h = head_of(r);
         save_view(r, KEPT_IN, read_view(n, v));
         save_head(r, with_kept(h, t));
         return;
     }
-    save_head(r, h);
+    waiting_in(r, load_wait(r));
 }
 
 // The handler of each kind; `v` has the view of a good message. What it sends is the answer.
