@@ -3,8 +3,10 @@ mod codec;
 mod events;
 mod node;
 
-/// How often each side runs; the best time counts.
+/// How often each side runs at least, and for how many seconds both together; the best time counts. What takes less
+/// than a millisecond runs some hundred times, so that a row is not of one moment of the machine.
 const RUNS: usize = 15;
+const SECONDS: f64 = 0.2;
 
 /// What the proved code may take, as a multiple of plain Rust's time.
 const TARGET: f64 = 1.2;
@@ -20,9 +22,11 @@ impl Times {
 
     fn of(mut proved: impl FnMut() -> f64, mut plain: impl FnMut() -> f64) -> Times {
         let mut best = Times { proved: f64::MAX, plain: f64::MAX };
-        for _ in 0..RUNS {
-            best.proved = best.proved.min(proved());
-            best.plain = best.plain.min(plain());
+        let (mut runs, mut spent) = (0, 0.0);
+        while runs < RUNS || spent < SECONDS {
+            let (a, b) = (proved(), plain());
+            best = Times { proved: best.proved.min(a), plain: best.plain.min(b) };
+            (runs, spent) = (runs + 1, spent + a + b);
         }
         best
     }
@@ -35,7 +39,8 @@ impl Times {
 /// Everything, with a session of `longest` events at the end.
 pub fn all(longest: usize) {
     println!(
-        "processor time of the thread, best of {RUNS} runs of each side, the two in turn; ratio = proved / plain\n"
+        "processor time of the thread, best of {RUNS} or more runs of each side, in turn for {SECONDS} s or more; \
+         ratio = proved / plain\n"
     );
     let events = events::by_nodes();
     println!();

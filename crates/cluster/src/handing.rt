@@ -14,7 +14,8 @@ use region::places::RECORD;
 use release::may_cut;
 use release::settle_delivery;
 use step::Sent;
-use step_bytes::move_in;
+use step_bytes::follow_in;
+use step_bytes::plan_in;
 use view::ENTRY;
 use wire::GOOD_HEAD;
 use wire::Message;
@@ -71,7 +72,8 @@ fn hand_on<'a>(
         return refused(10);
     }
     let sent = handle_first(b, n, a, c, m, r);
-    let e = move_in(r, n, faults_in(b), a, sent);
+    let p = plan_in(r, n, faults_in(b));
+    let e = follow_in(r, n, a, sent, p);
     let room = settle_delivery(b, n, a, c, r, e.outbox, x);
     let ending = e.ending;
     answered(room, is_cut(x), ending, e.view)

@@ -303,3 +303,9 @@ module _ (n : ℕ) (v w : List ℕ) where
         fit = allowed-alike ms h (r .fit);
         enough = subst (λ (x : List ℕ). at + length x ≤ room) (runs-alike ms h) (r .enough);
       }
+
+-- ---- a step that sends nothing after what its handler sends
+
+pub handler-alone : (o : Outbox) → o .reading ≡ Nothing → o .comparing ≡ Nothing → messages o ≡ listed (o .handler)
+handler-alone o p q =
+    rw (p, q) (append-nil (listed (o .handler) ++ []) ∙ append-nil (listed (o .handler)))

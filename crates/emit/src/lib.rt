@@ -11,12 +11,13 @@ use wire_parse::views::is_good;
 use wire_write::write_good;
 use wire_write::write_short;
 ghost use mathlib.Core.Path.{_≡_};
-ghost use mathlib.Core.Bool.{true};
+ghost use mathlib.Core.Bool.{true, false};
 ghost use mathlib.Core.List.{[], _++_};
 ghost use Prim.Native.Nat.{_+_, _≤_};
 ghost use lib.ListN.{length};
 ghost use Rattle.octets.specs.Bytes.{put};
 ghost use Rattle.view.specs.Size.{nodes, isSize};
+ghost use Rattle.view.specs.View.{noView, viewBytes};
 ghost use Rattle.wire.specs.Layout.{encode, allowed};
 ghost use Rattle.wire.specs.declared.Message.the-variants.{Good};
 ghost use Rattle.step.specs.Claims.{AllLawful, sizes};
@@ -97,6 +98,17 @@ fn emit_parts(
     let first = emit_sent(n, handler, v, out, 0);
     let second = emit_sent(n, reading, v, out, first);
     emit_sent(n, comparing, v, out, second)
+}
+
+// Writes what a step sends that sends no more than its handler does, or its begin: no good message, and so no view.
+pub fn emit_handler(n: usize, m: Sent, out: &mut [u8]) -> usize
+    requires { ⌜ (1 ≤ n) × (n ≤ nodes) × (anyGood (listed m) ≡ false) × AllLawful n noView (listed m)
+        × (sizes n (listed m) ≤ length (now out)) ⌝ }
+    ensures { λ r. ⌜ (r ≡ length (run (viewBytes n noView) (listed m)))
+        × (now (out .exit) ≡ put (now (out .entry)) 0 (run (viewBytes n noView) (listed m))) ⌝ }
+{
+    let none = [0u8; 1];
+    emit_sent(n, m, &none[..0], out, 0)
 }
 
 // Whether a part of a step holds a good message.

@@ -1,35 +1,48 @@
 -- A step that was done on the bytes of a record, and what it sends written out, is the call's result. Assumes nothing.
 use Prim.Native.Nat.{ℕ, _≤_}
 use mathlib.Core.Path.{_≡_, refl, sym, ap, ap₂, _∙_, subst}
+use mathlib.Core.Bool.{true, false}
 use mathlib.Core.List.{List}
+use native.Mathlib.Omega.{arith}
+use lib.Dec.{ltb}
 use lib.ListN.{length}
 use Rattle.octets.specs.Answer.{Answer, result}
 use Rattle.octets.specs.Bytes.{put}
 use Rattle.view.specs.Size.{nodes}
-use Rattle.view.specs.View.{viewOf}
+use Rattle.view.specs.View.{noView, viewOf, viewBytes}
+use Rattle.view.specs.declared.View.{View}
+use Rattle.wire.specs.Layout.{allowed}
 use Rattle.wire.specs.declared.Message.{Message}
 use Rattle.wire.specs.declared.Message.the-variants.{Read, ReadAnswer, Write, WriteAnswer, Echo, Value, Good}
 use Rattle.table.specs.Quorum.{faults}
 use Rattle.record.specs.Record.{faultsOf}
+use Rattle.record.specs.Usable.{usable}
 use Rattle.record.specs.declared.Node.{Node}
 use Rattle.record.specs.declared.Operation.{Operation}
 use Rattle.step.specs.Claims.{Long, AllLawful, sizes}
 use Rattle.step.specs.Move.{moveOn, messageStep, begun}
-use Rattle.step.specs.React.{react}
+use Rattle.step.specs.React.{react, isNew}
 use Rattle.step.specs.Told.{told, toldView}
 use Rattle.step.specs.declared.Ending.{Ending}
-use Rattle.step.specs.Step.{messages, started}
+use Rattle.step.specs.Step.{listed, messages, started}
 use Rattle.step.specs.declared.Outbox.{Outbox}
 use Rattle.step.specs.declared.Sent.{Sent}
 use Rattle.step.specs.declared.Step.{Step}
-use Rattle.calls.specs.Bytes.{outBytes}
-use Rattle.calls.specs.Entry.{letOut, beside}
-use Rattle.calls.proofs.Rooms.{Fit}
+use Rattle.step.proofs.Numbers.{on-pick}
+use Rattle.step.proofs.Theorems.{message-n}
+use Rattle.calls.specs.Bytes.{run, outBytes}
+use Rattle.calls.specs.Entry.{leastOutput, letOut, beside}
+use Rattle.calls.proofs.Rim.{read-lawful}
+use Rattle.calls.proofs.Rooms.{Fit, message-fit}
+use Rattle.emit.specs.Good.{anyGood}
+use Rattle.emit.proofs.Runs.{handler-alone}
 use Rattle.reply.proofs.Tells.{told-toldView}
 use Rattle.region.specs.Record.{recordOf, recordBytes}
 use Rattle.region.proofs.Back.{sized-view, sized-of}
 use Rattle.react_bytes.proofs.Handling.{reacted-step}
-use Rattle.step_bytes.specs.Moved.{isStep}
+use Rattle.step_bytes.specs.Moved.{isStep, restedOf, followed, rests}
+use Rattle.step_bytes.specs.declared.Plan.{Plan}
+use Rattle.step_bytes.specs.declared.Plan.the-variants.{Rest, Read as PlanRead, Compare, Agree, Borrow}
 use Rattle.step_bytes.specs.declared.Effect.{Effect}
 use Rattle.events.specs.declared.Outcome.the-variants.{Accepted}
 use Rattle.calls_bytes.specs.Entry.{LentResult, inBytes}
@@ -124,3 +137,80 @@ long-of r =
       atmax = (z .atmax .tags, z .atmax .reports);
       atround = (z .atround .tags, z .atround .reports);
     }
+
+-- ---- the step of a message that was handled, r the record before it
+
+module _ (r : List ℕ) (n s : ℕ) (m : Message) (v : List ℕ) (e : recordOf r .n ≡ n) where
+  abbrev pub step : Step
+  step = messageStep (faultsOf (recordOf r)) (recordOf r) s m (beside (recordOf r .n) v m)
+
+  pub step-n : step .node .n ≡ n
+  step-n = message-n (faultsOf (recordOf r)) (recordOf r) s m (beside (recordOf r .n) v m) ∙ e
+
+  -- what it sends has room
+  pub step-fit : (room : ℕ) → usable (recordOf r) ≡ true → 1 ≤ s → s ≤ n → allowed n m v ≡ true → leastOutput ≤ room
+      → Fit step room
+  step-fit room u a b l k =
+      let c = recordOf r in
+      message-fit (faultsOf c) c s m (beside (c .n) v m) step room refl refl u
+      (read-lawful (c .n) v m (ap (λ (j : ℕ). allowed j m v) e ∙ l)) (long-of r) a
+      (subst (λ (j : ℕ). s ≤ j) (sym e) b) k
+
+-- ---- a plan for it
+
+-- a plan to rest leaves the record, and what was sent
+pub at-rest : (p : Plan) (r : List ℕ) (to : ℕ) (sent : Sent) {t : Step} → rests p ≡ true → r ≡ recordBytes (recordOf r)
+    → followed p (started (recordOf r) to sent) ≡ t → isStep (restedOf to sent) r t
+at-rest Rest r to sent h b w = subst (isStep (restedOf to sent) r) w (refl, b)
+at-rest (PlanRead o t) r to sent h b w = absurd (let z : _≡_ {A = ℕ} 0 1 = cc in omega arith)
+at-rest (Compare k i t) r to sent h b w = absurd (let z : _≡_ {A = ℕ} 0 1 = cc in omega arith)
+at-rest (Agree k i t) r to sent h b w = absurd (let z : _≡_ {A = ℕ} 0 1 = cc in omega arith)
+at-rest (Borrow k) r to sent h b w = absurd (let z : _≡_ {A = ℕ} 0 1 = cc in omega arith)
+
+module _ (n to : ℕ) (sent : Sent) where
+  alone : messages (restedOf to sent .outbox) ≡ listed sent
+  alone = handler-alone (restedOf to sent .outbox) refl refl
+
+  pub rest-can-write : (t : Step) (room : ℕ) {r : List ℕ} → Fit t room → isStep (restedOf to sent) r t → t .node .n ≡ n
+      → anyGood (listed sent) ≡ false
+      → (1 ≤ n) × (n ≤ nodes) × (anyGood (listed sent) ≡ false) × AllLawful n noView (listed sent)
+      × (sizes n (listed sent) ≤ room)
+  rest-can-write t room h i k g =
+      let w = can-write t n room h i k in (
+        w .0,
+        w .1,
+        g,
+        subst (AllLawful n noView) alone (w .2),
+        subst (λ (l : List Message). sizes n l ≤ room) alone (w .3),
+      )
+
+  pub rest-lets : (k : ℕ) (out before : List ℕ)
+      → (k ≡ length (run (viewBytes n noView) (listed sent)))
+      × (out ≡ put before 0 (run (viewBytes n noView) (listed sent))) → lets k out before n (restedOf to sent .outbox)
+  rest-lets k out before h =
+      subst (λ (l : List Message). (k ≡ length (run (viewBytes n noView) l))
+      × (out ≡ put before 0 (run (viewBytes n noView) l))) (sym alone) h
+
+-- a handler sends no good message
+abbrev Short : Sent → Type 0
+Short x = anyGood (listed x) ≡ false
+
+react-short : (c : Node) (s : ℕ) (m : Message) (v : View) → Short (react c s m v .outbox .handler)
+unfolding react
+react-short c s (Read q) v = refl
+react-short c s (ReadAnswer q t) v = refl
+react-short c s (Write q t) v = on-pick Short (ltb (c .maxtag) t) _ _ (λ e. refl) (λ e. refl)
+react-short c s (WriteAnswer q t) v = refl
+react-short c s (Echo t) v = on-pick Short (ltb (c .maxtag) t) _ _ (λ e. refl) (λ e. refl)
+react-short c s (Value t w p) v = on-pick Short (isNew c w t) _ _ (λ e. refl) (λ e. refl)
+react-short c s (Good t) v = refl
+
+pub handler-short : (c : Node) (s : ℕ) (m : Message) (v : View) {x : Sent} → x ≡ react c s m v .outbox .handler
+    → anyGood (listed x) ≡ false
+handler-short c s m v e = subst Short (sym e) (react-short c s m v)
+
+-- nor does a begin
+pub read-short : (c : Node) (o : Operation) {to : ℕ} {x : Sent} {r : List ℕ} → isStep (restedOf to x) r (begun c o)
+    → anyGood (listed x) ≡ false
+unfolding begun
+read-short c o {to} {x} h = ap (λ (e : Effect). anyGood (listed (e .outbox .handler))) (h .0)

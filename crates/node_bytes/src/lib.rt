@@ -5,6 +5,7 @@ use block::judge::record_sound;
 use calls::OUTPUT;
 use calls_bytes::show_view;
 use emit::emit_all;
+use emit::emit_handler;
 use events::Outcome;
 use octets::and;
 use octets::fill;
@@ -19,10 +20,12 @@ use region::places::N_PLACE;
 use region::places::OWN_PLACE;
 use region::places::RECORD;
 use step::Ending;
-use step_bytes::begin_in;
+use step_bytes::ask_in;
+use step_bytes::follow_in;
 use step_bytes::is_full_in;
 use step_bytes::is_open_in;
-use step_bytes::move_in;
+use step_bytes::is_rest;
+use step_bytes::plan_in;
 use table::quorum::most_faults;
 use view::NODES;
 use view::VIEW;
@@ -134,16 +137,16 @@ pub fn begin(r: &mut [u8], o: Operation, out: &mut [u8]) -> Called
         return turned_away(6);
     }
     let n = get_word(r, N_PLACE) as usize;
-    let e = begin_in(r, o);
-    let ending = e.ending;
-    let written = emit_all(n, e.outbox, out);
+    let sent = ask_in(r, o);
+    let written = emit_handler(n, sent, out);
     Called {
-        outcome: Outcome::Accepted(ending),
+        outcome: Outcome::Accepted(Ending::None),
         length: written,
     }
 }
 
-// A message that was read is handled, v the bytes of its view, or refused with 9.
+// A message that was read is handled, v the bytes of its view, or refused with 9. After most messages the open
+// operation waits on; then no view is carried about.
 fn take_message(
     r: &mut [u8],
     n: usize,
@@ -162,7 +165,15 @@ fn take_message(
         return turned_away(9);
     }
     let sent = react_in(r, n, s, m, v);
-    let e = move_in(r, n, most_faults(n), s, sent);
+    let p = plan_in(r, n, most_faults(n));
+    if is_rest(p) {
+        let written = emit_handler(n, sent, out);
+        return Called {
+            outcome: Outcome::Accepted(Ending::None),
+            length: written,
+        };
+    }
+    let e = follow_in(r, n, s, sent, p);
     let ending = e.ending;
     show_view(ending, e.view, view);
     let written = emit_all(n, e.outbox, out);

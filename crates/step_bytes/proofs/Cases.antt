@@ -3,12 +3,12 @@ use mathlib.Core.Path.{_≡_, refl, sym, ap, _∙_, subst}
 use mathlib.Core.Bool.{Bool, true, false}
 use mathlib.Core.List.{List}
 use Prim.Native.Nat.{ℕ, _+_, _≤_, _<_, max}
+use native.Mathlib.Omega.{arith}
 use lib.Dec.{leb, eqb}
 use lib.ListN.{length}
 use Rattle.octets.specs.Bytes.{Bytes, put}
 use Rattle.octets.specs.Word.{word, words}
 use Rattle.view.specs.Size.{limit}
-use Rattle.view.specs.View.{noView}
 use Rattle.wire.specs.declared.Message.the-variants.{Read}
 use Rattle.table.specs.Table.{cells}
 use Rattle.table.specs.Quorum.{membersIn, isQuorum, agreeing}
@@ -21,9 +21,7 @@ use Rattle.record.specs.declared.Kind.{Kind}
 use Rattle.record.specs.declared.Wait.{Wait}
 use Rattle.record.specs.declared.Wait.the-variants.{Idle, Reading, Writing, Comparing, Borrowing}
 use Rattle.record.proofs.Parts.{Parts, writing-ok}
-use Rattle.step.specs.declared.Sent.{Sent}
-use Rattle.step.specs.declared.Sent.the-variants.{Nothing, One}
-use Rattle.step.specs.declared.Ending.the-variants.{None}
+use Rattle.step.specs.declared.Sent.the-variants.{One}
 use Rattle.step.specs.declared.Step.{Step}
 use Rattle.step.specs.declared.Rule.the-variants.{Borrowed}
 use Rattle.step.specs.Claims.{MustWait}
@@ -33,12 +31,13 @@ use Rattle.step.specs.Move.{readPass, writePass, comparePass, borrowPass, reads
 use Rattle.step.proofs.Numbers.{on-pick}
 use Rattle.step.proofs.Turns.{reads-on}
 use Rattle.step.proofs.Waits.{no-quorum, waits-still}
-use Rattle.region.specs.Record.{recordSize, heardPlace, viewIn, waitIn, recordOf, recordBytes, nPlace, ownPlace, headOf}
+use Rattle.region.specs.Record.{recordSize, heardPlace, viewIn, waitIn, recordOf, nPlace, ownPlace, headOf}
 use Rattle.region.specs.Record.{maxtagPlace, keptPlace, atroundIn, headBytes, withRequest, withWait as headWithWait}
 use Rattle.region.specs.declared.head.Head.{Head}
 use Rattle.react_bytes.proofs.Sections.{tables-of, assembled}
 use Rattle.step_bytes.specs.declared.Effect.{Effect}
-use Rattle.step_bytes.specs.Moved.{effectOf, isStep, compared}
+use Rattle.step_bytes.specs.declared.Plan.the-variants.{Rest}
+use Rattle.step_bytes.specs.Moved.{isStep, restedOf, compared, agreed, Leads}
 
 module _ (f : ℕ) (s : Step) where
   -- where it must wait, it does not move
@@ -102,19 +101,32 @@ module _ (f : ℕ) (s : Step) where
     unfolding afterGood opened borrowPass
     still = on-pick (λ (u : Step). borrows u ≡ u) (eqb i 0) _ _ (λ e. refl) (λ e. refl)
 
-    pub compared-good : Agreed true → leb (s .node .maxtag) r ≡ true → compared f s k i r ≡ afterGood s (s .node) k i r
+    compared-good : Agreed true → leb (s .node .maxtag) r ≡ true → compared f s k i r ≡ afterGood s (s .node) k i r
     unfolding comparePass afterGood opened
     compared-good q h = rw (q, h) still
 
-    pub compared-failed : Agreed true → leb (s .node .maxtag) r ≡ false
+    compared-failed : Agreed true → leb (s .node .maxtag) r ≡ false
         → compared f s k i r ≡ borrows (afterFailed s (s .node) k i r)
     unfolding comparePass afterFailed opened
     compared-failed q h = rw (q, h) refl
+
+    pub compared-agreed : Agreed true → compared f s k i r ≡ agreed k i r s
+    compared-agreed q =
+        on-pick (λ (u : Step). compared f s k i r ≡ u) (leb (s .node .maxtag) r) _ _ (compared-good q)
+        (compared-failed q)
 
     pub compared-not : Agreed false
         → compared f s k i r ≡ ended s (withWait (s .node) (Comparing k i r)) (s .ending) (s .view)
     unfolding comparePass borrowPass
     compared-not q = rw q refl
+
+pub agreed-good : (k : Kind) (i t : ℕ) (s : Step) → leb (s .node .maxtag) t ≡ true
+    → agreed k i t s ≡ afterGood s (s .node) k i t
+agreed-good k i t s h = rw h refl
+
+pub agreed-failed : (k : Kind) (i t : ℕ) (s : Step) → leb (s .node .maxtag) t ≡ false
+    → agreed k i t s ≡ borrows (afterFailed s (s .node) k i t)
+agreed-failed k i t s h = rw h refl
 
 -- ---- the begin
 
@@ -123,16 +135,19 @@ abbrev asking : Head → Operation → Head
 asking h o = headWithWait (withRequest h (h .request + 1)) (Reading o 0 0)
 
 -- what the code sends, and that head written over the bytes
-pub begins : (r : List ℕ) → Bytes r → length r ≡ recordSize → (o : Operation) {h g : Head} {e : Effect} {b : List ℕ}
-    → h ≡ headOf r → e ≡ effectOf (h .own) (One (Read (h .request + 1))) Nothing Nothing noView None noView
+pub begins : (r : List ℕ) → Bytes r → length r ≡ recordSize → (o : Operation) {h g : Head} {b : List ℕ} → h ≡ headOf r
     → g ≡ headWithWait (withRequest h (h .request + 1)) (Reading o 0 0) → b ≡ put r nPlace (headBytes g)
-    → isStep e b (begun (recordOf r) o)
+    → isStep (restedOf (recordOf r .own) (One (Read (h .request + 1)))) b (begun (recordOf r) o)
 unfolding recordOf begun
-begins r y l o q x g z = (
-  x ∙ ap (λ (h : Head). effectOf (h .own) (One (Read (h .request + 1))) Nothing Nothing noView None noView) q,
+begins r y l o q g z = (
+  ap (λ (h : Head). restedOf (word r ownPlace) (One (Read (h .request + 1)))) q,
   z ∙ ap (λ (h : Head). put r nPlace (headBytes h)) (g ∙ ap (λ (h : Head). asking h o) q)
       ∙ assembled (begun (recordOf r) o .node) (tables-of r y l),
 )
+
+pub own-of : (r : List ℕ) → word r ownPlace ≡ recordOf r .own
+unfolding recordOf
+own-of r = refl
 
 -- the tag of a round keeps the limit
 pub writing-most : (c : Node) {k : Kind} {i r a : ℕ} → Parts c → c .wait ≡ Writing k i r a → r ≤ limit
@@ -171,9 +186,6 @@ module _ (r : List ℕ) (f : ℕ) {n k : ℕ} {b : Bool} (m : recordOf r .n ≡ 
 pub as-step : {s t : Step} {e : Effect} {b : List ℕ} → s ≡ t → isStep e b t → isStep e b s
 as-step {s} {t} {e} {b} q h = subst (isStep e b) (sym q) h
 
--- the bytes are left where it must wait
-pub rests : (r : List ℕ) (f to : ℕ) (sent : Sent) {w : Wait} {e : Effect} → recordOf r .wait ≡ w
-    → MustWait f (recordOf r) w
-    → r ≡ recordBytes (recordOf r) → e ≡ effectOf to sent Nothing Nothing noView None noView
-    → isStep e r (moveOn f (started (recordOf r) to sent))
-rests r f to sent {w} q m b x = as-step (stays f (started (recordOf r) to sent) w q m) (x, b)
+-- where it must wait, it rests
+pub rests : (f : ℕ) (c : Node) {w : Wait} → c .wait ≡ w → MustWait f c w → Leads Rest c (moveOn f)
+rests f c {w} q m = (λ to sent. stays f (started c to sent) w q m, omega arith)

@@ -1,3 +1,4 @@
 pub mod Cases
 pub mod Moved
+pub mod Planned
 pub mod Turned

@@ -43,13 +43,23 @@ ghost use Rattle.record.specs.Usable.{isOpen, full, usable};
 ghost use Rattle.step.specs.Step.{started};
 ghost use Rattle.step.specs.Move.{moveOn, begun};
 ghost use Rattle.region.specs.Record.{recordSize, recordOf, recordBytes};
-ghost use Rattle.step_bytes.specs.Moved.{isStep, compared};
+ghost use Rattle.step_bytes.specs.Moved.{isStep, restedOf, compared, agreed, followed, planTag, rests, Leads};
 
 // What a step gives beside the record.
 pub struct Effect {
     pub outbox: Outbox,
     pub ending: Ending,
     pub view: View,
+}
+
+// What the open operation does next: it waits on, acts on a quorum of read answers, waits for agreement, acts on
+// agreement, or borrows.
+pub enum Plan {
+    Rest,
+    Read { operation: Operation, tag: u64 },
+    Compare { kind: Kind, round: u64, tag: u64 },
+    Agree { kind: Kind, round: u64, tag: u64 },
+    Borrow { kind: Kind },
 }
 
 // Whether an operation is open (refusal 5).
@@ -68,10 +78,11 @@ pub fn is_full_in(r: &[u8]) -> bool
     less(LIMIT, get_word(r, REQUEST_PLACE)) < 5
 }
 
-// An operation is begun: its read goes out, with the next request number.
-pub fn begin_in(r: &mut [u8], o: Operation) -> Effect
+// An operation is begun: its read goes out, with the next request number. That is what is sent.
+pub fn ask_in(r: &mut [u8], o: Operation) -> Sent
     requires { ⌜ (length (now r) ≡ recordSize) × (recordOf (now r) .request ≤ limit) ⌝ }
-    ensures { λ e. ⌜ isStep e (now (r .exit)) (begun (recordOf (now (r .entry))) o) ⌝ }
+    ensures { λ sent. ⌜ isStep (restedOf (recordOf (now (r .entry)) .own) sent) (now (r .exit))
+        (begun (recordOf (now (r .entry))) o) ⌝ }
 {
     let h = head_of(r);
     let request = h.request + 1;
@@ -81,68 +92,59 @@ pub fn begin_in(r: &mut [u8], o: Operation) -> Effect
         largest: 0,
     };
     save_head(r, with_wait(with_request(h, request), wait));
-    rested(
-        h.own as usize,
-        Sent::One(Message::Read { request: request }),
-    )
+    Sent::One(Message::Read { request: request })
 }
 
-// A quorum has answered the write of round i with tag t: the operation compares, and goes on where a quorum agrees.
-fn compare_in(
-    r: &mut [u8],
-    n: usize,
-    f: usize,
-    to: usize,
-    sent: Sent,
-    k: Kind,
-    i: u64,
-    t: u64,
-) -> Effect
-    requires { ⌜ (length (now r) ≡ recordSize) × (recordOf (now r) .n ≡ n) × (n ≤ nodes)
-        × (recordOf (now r) .request ≤ limit) × (t ≤ limit) ⌝ }
-    ensures { λ e. ⌜ isStep e (now (r .exit)) (compared f (started (recordOf (now (r .entry))) to sent) k i t) ⌝ }
+// The same, with all that the step gives.
+pub fn begin_in(r: &mut [u8], o: Operation) -> Effect
+    requires { ⌜ (length (now r) ≡ recordSize) × (recordOf (now r) .request ≤ limit) ⌝ }
+    ensures { λ e. ⌜ isStep e (now (r .exit)) (begun (recordOf (now (r .entry))) o) ⌝ }
+{
+    let own = get_word(r, OWN_PLACE) as usize;
+    let sent = ask_in(r, o);
+    rested(own, sent)
+}
+
+// What follows the comparison of round i with tag t, which a quorum has answered.
+fn compared_in(r: &[u8], n: usize, f: usize, k: Kind, i: u64, t: u64) -> Plan
+    requires { ⌜ (length (now r) ≡ recordSize) × (recordOf (now r) .n ≡ n) × (n ≤ nodes) × (t ≤ limit) ⌝ }
+    ensures { λ p. ⌜ Leads p (recordOf (now (r .entry))) (λ s. compared f s k i t) ⌝ }
 {
     if is_quorum(n, f, agreeing_in(r, n, get_word(r, OWN_PLACE) as usize)) {
-        if get_word(r, MAXTAG_PLACE) <= t {
-            return good_in(r, n, to, sent, k, i, t);
-        }
-        return failed_in(r, n, to, sent, k, i, t);
-    }
-    waiting_in(
-        r,
-        Wait::Comparing {
+        return Plan::Agree {
             kind: k,
             round: i,
             tag: t,
-        },
-    );
-    rested(to, sent)
+        };
+    }
+    Plan::Compare {
+        kind: k,
+        round: i,
+        tag: t,
+    }
 }
 
-// The open operation moves on until it must wait, after `sent` went to node `to`. The wait says which pass is the first
-// to try; what a pass leads to, only a later one takes up.
-pub fn move_in(r: &mut [u8], n: usize, f: usize, to: usize, sent: Sent) -> Effect
+// What the open operation does next. The wait says which pass is the first to try; what a pass leads to, only a later
+// one takes up.
+pub fn plan_in(r: &[u8], n: usize, f: usize) -> Plan
     requires { ⌜ (length (now r) ≡ recordSize) × (recordOf (now r) .n ≡ n) × (n ≤ nodes) × (f < n)
-        × (usable (recordOf (now r)) ≡ true) × (now r ≡ recordBytes (recordOf (now r))) ⌝ }
-    ensures { λ e. ⌜ isStep e (now (r .exit)) (moveOn f (started (recordOf (now (r .entry))) to sent)) ⌝ }
+        × (usable (recordOf (now r)) ≡ true) ⌝ }
+    ensures { λ p. ⌜ Leads p (recordOf (now (r .entry))) (moveOn f) ⌝ }
 {
     match load_wait(r) {
-        Wait::Idle => rested(to, sent),
+        Wait::Idle => Plan::Rest,
         Wait::Reading {
             operation,
             answered,
             largest,
         } => {
             if is_quorum(n, f, members(n, answered)) {
-                return read_in(
-                    r,
-                    to,
-                    sent,
-                    operation,
-                    larger(largest, get_word(r, MAXTAG_PLACE)),
-                );
+                return Plan::Read {
+                    operation: operation,
+                    tag: larger(largest, get_word(r, MAXTAG_PLACE)),
+                };
             }
-            rested(to, sent)
+            Plan::Rest
         }
         Wait::Writing {
             kind,
@@ -151,16 +153,78 @@ pub fn move_in(r: &mut [u8], n: usize, f: usize, to: usize, sent: Sent) -> Effec
             answered,
         } => {
             if is_quorum(n, f, members(n, answered)) {
-                return compare_in(r, n, f, to, sent, kind, round, tag);
+                return compared_in(r, n, f, kind, round, tag);
             }
-            rested(to, sent)
+            Plan::Rest
         }
-        Wait::Comparing { kind, round, tag } => compare_in(r, n, f, to, sent, kind, round, tag),
+        Wait::Comparing { kind, round, tag } => compared_in(r, n, f, kind, round, tag),
         Wait::Borrowing { kind, tag } => {
             if tag <= get_word(r, KEPT_PLACE) {
-                return lend_in(r, n, to, sent, kind);
+                return Plan::Borrow { kind: kind };
             }
+            Plan::Rest
+        }
+    }
+}
+
+// Whether the operation waits on.
+pub fn is_rest(p: Plan) -> bool
+    ensures { λ t. ⌜ t ≡ rests p ⌝ }
+{
+    match p {
+        Plan::Rest => true,
+        Plan::Read {
+            operation: _,
+            tag: _,
+        } => false,
+        Plan::Compare {
+            kind: _,
+            round: _,
+            tag: _,
+        } => false,
+        Plan::Agree {
+            kind: _,
+            round: _,
+            tag: _,
+        } => false,
+        Plan::Borrow { kind: _ } => false,
+    }
+}
+
+// A quorum agrees on round i with tag t: the round is good, or it failed where `maxtag` is past its tag.
+fn agree_in(r: &mut [u8], n: usize, to: usize, sent: Sent, k: Kind, i: u64, t: u64) -> Effect
+    requires { ⌜ (length (now r) ≡ recordSize) × (recordOf (now r) .n ≡ n) × (n ≤ nodes)
+        × (recordOf (now r) .request ≤ limit) × (t ≤ limit) ⌝ }
+    ensures { λ e. ⌜ isStep e (now (r .exit))
+        (agreed k i t (started (recordOf (now (r .entry))) to sent)) ⌝ }
+{
+    if get_word(r, MAXTAG_PLACE) <= t {
+        return good_in(r, n, to, sent, k, i, t);
+    }
+    failed_in(r, n, to, sent, k, i, t)
+}
+
+// A plan is followed, after `sent` went to node `to`.
+pub fn follow_in(r: &mut [u8], n: usize, to: usize, sent: Sent, p: Plan) -> Effect
+    requires { ⌜ (length (now r) ≡ recordSize) × (recordOf (now r) .n ≡ n) × (n ≤ nodes)
+        × (recordOf (now r) .request ≤ limit) × (planTag p ≤ limit) × (now r ≡ recordBytes (recordOf (now r))) ⌝ }
+    ensures { λ e. ⌜ isStep e (now (r .exit)) (followed p (started (recordOf (now (r .entry))) to sent)) ⌝ }
+{
+    match p {
+        Plan::Rest => rested(to, sent),
+        Plan::Read { operation, tag } => read_in(r, to, sent, operation, tag),
+        Plan::Compare { kind, round, tag } => {
+            waiting_in(
+                r,
+                Wait::Comparing {
+                    kind: kind,
+                    round: round,
+                    tag: tag,
+                },
+            );
             rested(to, sent)
         }
+        Plan::Agree { kind, round, tag } => agree_in(r, n, to, sent, kind, round, tag),
+        Plan::Borrow { kind } => lend_in(r, n, to, sent, kind),
     }
 }

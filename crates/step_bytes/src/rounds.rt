@@ -35,16 +35,13 @@ ghost use mathlib.Core.Path.{_≡_};
 ghost use Prim.Native.Nat.{_+_, _≤_};
 ghost use lib.ListN.{length};
 ghost use Rattle.view.specs.Size.{limit, nodes};
-ghost use Rattle.view.specs.View.{noView};
 ghost use Rattle.record.specs.Record.{closed};
 ghost use Rattle.record.specs.declared.Wait.the-variants.{Idle};
-ghost use Rattle.step.specs.declared.Sent.the-variants.{Nothing};
-ghost use Rattle.step.specs.declared.Ending.the-variants.{None};
 ghost use Rattle.step.specs.declared.Rule.the-variants.{Borrowed};
 ghost use Rattle.step.specs.Step.{started, ended, endingOf};
 ghost use Rattle.step.specs.Move.{opened, nextTag, afterRead, lentView, afterGood, afterFailed, borrows};
 ghost use Rattle.region.specs.Record.{recordSize, recordOf, recordBytes};
-ghost use Rattle.step_bytes.specs.Moved.{isStep, effectOf};
+ghost use Rattle.step_bytes.specs.Moved.{isStep, effectOf, restedOf};
 
 // Where the reports held for the open round end.
 const ATROUND_END: usize = ATROUND_PLACE + VIEW;
@@ -77,7 +74,7 @@ fn effect_of(
 
 // The operation waits on. This is what most steps give, and so it is made in its place.
 pub fn rested(to: usize, sent: Sent) -> Effect
-    ensures { λ e. ⌜ e ≡ effectOf to sent Nothing Nothing noView None noView ⌝ }
+    ensures { λ e. ⌜ e ≡ restedOf to sent ⌝ }
 {
     Effect {
         outbox: Outbox {

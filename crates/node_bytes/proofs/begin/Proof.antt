@@ -6,6 +6,7 @@ use borrow.Author.Tests.{le-ltb}
 use Rattle.record.specs.Record.{faultsOf}
 use Rattle.record.proofs.Parts.{parts}
 use Rattle.step.specs.Move.{begun}
+use Rattle.step.specs.declared.Ending.the-variants.{None}
 use Rattle.step.specs.declared.Step.{Step}
 use Rattle.step.proofs.Waits.{begin-asks}
 use Rattle.calls.specs.Entry as N
@@ -14,35 +15,34 @@ use Rattle.calls.proofs.Rooms.{faults-below, begin-fit}
 use Rattle.region.specs.Record.{recordOf}
 use Rattle.calls_bytes.specs.Entry.{inBytes}
 use Rattle.node_bytes.proofs.Admitted.{admitted, turned, at-admitted, refused-at, own-n}
-use Rattle.node_bytes.proofs.Stepped.{called, becomes, stepped, begun-n, can-write}
+use Rattle.node_bytes.proofs.Stepped.{called, becomes, stepped, begun-n, rest-can-write, rest-lets, read-short}
 use Rattle.node_bytes.proofs.begin.Statement.{statement}
 use Rattle.node_bytes.proofs.begin.Tie as tie
 
 returns : tie.Need-returns
 returns c =
-    let c2 = c .before .before in
-    let c6 = c2 .before .before .before .before in
+    let c6 = c .before .before .before .before .before .before in
     let a = c6 .args in
     becomes (c .turned-away .result) _ _ (turned (a .r .now) (a .out .now) (λ d. N.begin d (a .o) (a .out .now))
-    (λ l u. begin-2 _ (a .o) (a .out .now) (le-ltb _ _ l) u) (c2 .admission .ensures) (c .before .if1 .taken))
+    (λ l u. begin-2 _ (a .o) (a .out .now) (le-ltb _ _ l) u) (c .before .before .admission .ensures)
+    (c .before .if1 .taken))
     (c .turned-away .ensures _ _)
 
 is-open-in-requires : tie.Need-is-open-in-requires
 is-open-in-requires c κs =
-    let c2 = c .before .before in
-    let c6 = c2 .before .before .before .before in
-    admitted (c6 .args .r .now) (c6 .args .out .now) (sym (c2 .admission .ensures) ∙ c .before .if1 .left) .long
+    let c6 = c .before .before .before .before .before .before in
+    admitted (c6 .args .r .now) (c6 .args .out .now) (sym (c .before .before .admission .ensures) ∙
+    c .before .if1 .left) .long
 
 returns-2 : tie.Need-returns-2
 returns-2 c =
-    let c2 = c .before .before in
-    let c4 = c2 .before .before in
+    let c4 = c .before .before .before .before in
     let c5 = c4 .before in
     let c9 = c5 .before .before .before .before in
     let a = c9 .args in
     let h = admitted (a .r .now) (a .out .now) (sym (c5 .admission .ensures) ∙ c4 .if1 .left) in
     becomes (c .turned-away2 .result) _ _ (refused-at (a .r .now) (a .out .now) (λ d. N.begin d (a .o) (a .out .now)) h
-    (begin-5 _ (a .o) (a .out .now) (le-ltb _ _ (h .room)) (h .can-step) (sym (c2 .is-open-in .ensures)
+    (begin-5 _ (a .o) (a .out .now) (le-ltb _ _ (h .room)) (h .can-step) (sym (c .before .before .is-open-in .ensures)
     ∙ c .before .if2 .taken)))
     (c .turned-away2 .ensures _ _)
 
@@ -55,8 +55,7 @@ is-full-in-requires c κs =
 
 returns-3 : tie.Need-returns-3
 returns-3 c =
-    let c2 = c .before .before in
-    let c4 = c2 .before .before in
+    let c4 = c .before .before .before .before in
     let c5 = c4 .before in
     let c7 = c5 .before .before in
     let c8 = c7 .before in
@@ -65,7 +64,7 @@ returns-3 c =
     let h = admitted (a .r .now) (a .out .now) (sym (c8 .admission .ensures) ∙ c7 .if1 .left) in
     becomes (c .turned-away3 .result) _ _ (refused-at (a .r .now) (a .out .now) (λ d. N.begin d (a .o) (a .out .now)) h
     (begin-6 _ (a .o) (a .out .now) (le-ltb _ _ (h .room)) (h .can-step) (sym (c5 .is-open-in .ensures) ∙ c4 .if2 .left)
-    (sym (c2 .is-full-in .ensures) ∙ c .before .if3 .taken)))
+    (sym (c .before .before .is-full-in .ensures) ∙ c .before .if3 .taken)))
     (c .turned-away3 .ensures _ _)
 
 get-word-requires : tie.Need-get-word-requires
@@ -76,16 +75,16 @@ get-word-requires c κs =
     let long = admitted (c12 .args .r .now) (c12 .args .out .now) (sym (c8 .admission .ensures)
     ∙ c7 .if1 .left) .long in search needs
 
-begin-in-requires : tie.Need-begin-in-requires
-begin-in-requires c κs =
+ask-in-requires : tie.Need-ask-in-requires
+ask-in-requires c κs =
     let c9 = c .before .before .before .before .before .before .before .before .before in
     let c10 = c9 .before in
     let c14 = c10 .before .before .before .before in
     let h = admitted (c14 .args .r .now) (c14 .args .out .now) (sym (c10 .admission .ensures) ∙ c9 .if1 .left) in
     (h .long, parts _ (h .can-step) .request-high)
 
-emit-all-requires : tie.Need-emit-all-requires
-emit-all-requires c κs =
+emit-handler-requires : tie.Need-emit-handler-requires
+emit-handler-requires c κs =
     let c3 = c .before .before .before in
     let c5 = c3 .before .before in
     let c7 = c5 .before .before in
@@ -101,10 +100,11 @@ emit-all-requires c κs =
     let f = faultsOf d in
     let s = begun d (a .o) in
     let asks = begin-asks f d (a .o) (faults-below (d .n) (parts d (h .can-step) .n-low)) in
-    can-write s (c5 .get-word .result) (length (a .out .now))
+    rest-can-write (c5 .get-word .result) (d .own) (c3 .ask-in .result) s (length (a .out .now))
     (begin-fit f d (a .o) s (length (a .out .now)) (sym asks) refl (h .can-step)
     (sym (c11 .is-open-in .ensures) ∙ c10 .if2 .left) (sym (c8 .is-full-in .ensures) ∙ c7 .if3 .left) (h .room))
-    (c3 .begin-in .ensures) (begun-n d (a .o) ∙ own-n (a .r .now) (c5 .get-word .ensures))
+    (c3 .ask-in .ensures) (begun-n d (a .o) ∙ own-n (a .r .now) (c5 .get-word .ensures))
+    (read-short d (a .o) (c3 .ask-in .ensures))
 
 returns-4 : tie.Need-returns-4
 returns-4 c =
@@ -124,18 +124,19 @@ returns-4 c =
     let f = faultsOf d in
     let s = begun d (a .o) in
     let asks = begin-asks f d (a .o) (faults-below (d .n) (parts d (h .can-step) .n-low)) in
-    becomes (called (c6 .begin-in .result .ending) (c2 .emit-all .result)) _ _
+    becomes (called None (c2 .emit-handler .result)) _ _
     (at-admitted (a .r .now) (a .out .now) (λ d. N.begin d (a .o) (a .out .now)) h
     ∙ ap (inBytes (a .r .now)) (begin-goes d (a .o) (a .out .now) (le-ltb _ _ (h .room)) (h .can-step)
     (sym (c14 .is-open-in .ensures) ∙ c13 .if2 .left) (sym (c11 .is-full-in .ensures) ∙ c10 .if3 .left)
     ∙ ap (λ (x : Step). N.letOut x (a .out .now)) asks))
-    (stepped s (c8 .get-word .result) (a .r .now) (c6 .begin-in .last .0) (a .out .now) _ (c2 .emit-all .result)
-    (c6 .begin-in .ensures) (begun-n d (a .o) ∙ own-n (a .r .now) (c8 .get-word .ensures)) (c2 .emit-all .ensures))
+    (stepped s (c8 .get-word .result) (a .r .now) (c6 .ask-in .last .0) (a .out .now) _ (c2 .emit-handler .result)
+    (c6 .ask-in .ensures) (begun-n d (a .o) ∙ own-n (a .r .now) (c8 .get-word .ensures))
+    (rest-lets (c8 .get-word .result) (d .own) (c6 .ask-in .result) _ _ (a .out .now) (c2 .emit-handler .ensures)))
 
 pub begin-spec : {M : Type 1} → statement M
 begin-spec =
     tie.close
     (tie.spec (λ c κs. search needs) (λ c κs. search needs) (λ c. search needs) returns is-open-in-requires
     (λ c κs. search needs) (λ c. search needs) returns-2 is-full-in-requires (λ c κs. search needs)
-    (λ c. search needs) returns-3 get-word-requires begin-in-requires emit-all-requires (λ c. search needs)
+    (λ c. search needs) returns-3 get-word-requires ask-in-requires emit-handler-requires (λ c. search needs)
     (λ c. search needs) returns-4)

@@ -13,9 +13,10 @@ use Rattle.step.proofs.Allowed.{lawful-writer}
 use Rattle.region.specs.Channel.{first}
 use Rattle.region.specs.Record.{recordOf}
 use Rattle.region.proofs.Back.{sized-view, sized-of}
-use Rattle.react_bytes.proofs.Handling.{reacted, reacted-n, reacted-bytes, reacted-step}
-use Rattle.react_bytes.proofs.Reacted.{react-usable}
+use Rattle.react_bytes.proofs.Handling.{reacted-step}
+use Rattle.step_bytes.proofs.Cases.{as-step}
 use Rattle.step_bytes.proofs.Moved.{sized-moved, step-bytes, step-back}
+use Rattle.step_bytes.proofs.Planned.{can-plan, can-follow}
 use Rattle.block.specs.Block.{takeOff}
 use Rattle.layout.specs.Layout.{node, channel, onBlock}
 use Rattle.step_bytes.proofs.Turned.{stepOf}
@@ -70,8 +71,8 @@ returns-2 c =
 
 handle-first-requires : tie.Need-handle-first-requires
 handle-first-requires c κs =
-    let c10 = c .before .before .before .before .before .before .before .before .before .before in
-    let c16 = c10 .before .before .before .before .before .before in
+    let c8 = c .before .before .before .before .before .before .before .before in
+    let c16 = c8 .before .before .before .before .before .before .before .before in
     let a = c16 .args in
     let h = c16 .pre .0 in (
       h .small,
@@ -90,8 +91,8 @@ faults-in-requires c κs =
     let c21 = c10 .before .before .before .before .before .before .before .before .before .before .before in
     let h = c21 .pre .0 .long in omega arith
 
-move-in-requires : tie.Need-move-in-requires
-move-in-requires c κs =
+plan-in-requires : tie.Need-plan-in-requires
+plan-in-requires c κs =
     let c5 = c .before .before .before .before .before in
     let c17 = c5 .before .before .before .before .before .before .before .before .before .before .before .before in
     let c22 = c17 .before .before .before .before .before in
@@ -100,36 +101,48 @@ move-in-requires c κs =
     let k = c17 .copy-record-at in
     let r = k .last .1 .1 .0 in
     let at : recordOf r ≡ node (a .b .now) (a .c) = ap recordOf (k .ensures) in
-    let n : recordOf r .n ≡ a .n = ap (λ (y : Node). y .n) at ∙ h .same in
     let f = c5 .handle-first in
     let r′ = f .last .1 .1 .1 .1 .1 .0 in
     let s = viewAt (a .n) (first (channel (a .b .now) (a .a) (a .c))) in
-    let v = viewOf (a .n) s in
-    let z = sized-view (a .n) s (h .small) in (
-      search needs,
-      reacted-n r r′ (a .a) (a .m) v z (f .ensures .1) ∙ n,
-      h .small,
-      omega (arith, h .low, h .high, h .states, c .faults-in .ensures),
-      ap usable (reacted r r′ (a .a) (a .m) v z (f .ensures .1))
-          ∙ react-usable r (a .a) (a .m) v (ap usable at ∙ h .can-step) (h .from-low) (rw n (h .from-high)) (rw n
-          (c22 .pre .1)),
-      reacted-bytes r r′ (a .a) (a .m) v z (f .ensures .1),
-    )
+    let long = f .kept .1 .1 .1 .1 .1 .0 ∙ k .kept .1 .1 .0 ∙ c22 .pre .2 in
+    can-plan r r′ (a .n) (a .a) (a .m) (viewOf (a .n) s) (sized-view (a .n) s (h .small)) (f .ensures .1)
+    (ap (λ (y : Node). y .n) at ∙ h .same) (ap usable at ∙ h .can-step) (h .from-low) (h .from-high) (c22 .pre .1)
+    long (h .small) _ (omega (arith, h .low, h .high, h .states, c .faults-in .ensures))
+
+follow-in-requires : tie.Need-follow-in-requires
+follow-in-requires c κs =
+    let c7 = c .before .before .before .before .before .before .before in
+    let c19 = c7 .before .before .before .before .before .before .before .before .before .before .before .before in
+    let c24 = c19 .before .before .before .before .before in
+    let a = c24 .args in
+    let h = c24 .pre .0 in
+    let k = c19 .copy-record-at in
+    let r = k .last .1 .1 .0 in
+    let at : recordOf r ≡ node (a .b .now) (a .c) = ap recordOf (k .ensures) in
+    let f = c7 .handle-first in
+    let r′ = f .last .1 .1 .1 .1 .1 .0 in
+    let s = viewAt (a .n) (first (channel (a .b .now) (a .a) (a .c))) in
+    let long = f .kept .1 .1 .1 .1 .1 .0 ∙ k .kept .1 .1 .0 ∙ c24 .pre .2 in
+    can-follow r r′ (a .n) (a .a) (a .m) (viewOf (a .n) s) (sized-view (a .n) s (h .small)) (f .ensures .1)
+    (ap (λ (y : Node). y .n) at ∙ h .same) (ap usable at ∙ h .can-step) (h .from-low) (h .from-high) (c24 .pre .1)
+    long (h .small) (c .before .plan-in .result) (c .before .plan-in .ensures .1)
 
 settle-delivery-requires : tie.Need-settle-delivery-requires
 settle-delivery-requires c κs =
     let c4 = c .before .before .before .before in
-    let c5 = c4 .before in
-    let c10 = c5 .before .before .before .before .before in
-    let c22 = c10 .before .before .before .before .before .before .before .before .before .before .before .before in
-    let c27 = c22 .before .before .before .before .before in
-    let a = c27 .args in
-    let h = c27 .pre .0 in
-    let f = c10 .handle-first in
+    let c6 = c4 .before .before in
+    let c7 = c6 .before in
+    let c12 = c7 .before .before .before .before .before in
+    let c24 = c12 .before .before .before .before .before .before .before .before .before .before .before .before in
+    let c29 = c24 .before .before .before .before .before in
+    let a = c29 .args in
+    let h = c29 .pre .0 in
+    let f = c12 .handle-first in
     let r′ = f .last .1 .1 .1 .1 .1 .0 in
-    let most = c5 .faults-in .result in
+    let most = c7 .faults-in .result in
     let s = started (recordOf r′) (a .a) (f .result) in
-    let long = c4 .move-in .kept .0 ∙ f .kept .1 .1 .1 .1 .1 .0 ∙ c22 .copy-record-at .kept .1 .1 .0 ∙ c27 .pre .2 in (
+    let long = c4 .follow-in .kept .0 ∙ f .kept .1 .1 .1 .1 .1 .0 ∙ c24 .copy-record-at .kept .1 .1 .0 ∙ c29 .pre .2
+    in (
       h .small,
       h .from-low,
       h .from-high,
@@ -137,51 +150,55 @@ settle-delivery-requires c κs =
       h .high,
       h .long,
       long,
-      step-bytes (moveOn most s) (sized-moved most s (sized-of r′)) (c4 .move-in .ensures),
+      step-bytes (moveOn most s) (sized-moved most s (sized-of r′)) (as-step (c6 .plan-in .ensures .0 (a .a)
+          (f .result)) (c4 .follow-in .ensures)),
     )
 
 same-length-6 : tie.Need-same-length-6
 same-length-6 c =
     let c9 = c .before .before .before .before .before .before .before .before .before in
-    let c15 = c9 .before .before .before .before .before .before in
-    let c27 = c15 .before .before .before .before .before .before .before .before .before .before .before .before in
-    c9 .move-in .kept .0 ∙ c15 .handle-first .kept .1 .1 .1 .1 .1 .0 ∙ c27 .copy-record-at .kept .1 .1 .0
+    let c17 = c9 .before .before .before .before .before .before .before .before in
+    let c29 = c17 .before .before .before .before .before .before .before .before .before .before .before .before in
+    c9 .follow-in .kept .0 ∙ c17 .handle-first .kept .1 .1 .1 .1 .1 .0 ∙ c29 .copy-record-at .kept .1 .1 .0
 
 returns-3 : tie.Need-returns-3
 unfolding messageStep
 returns-3 c =
-    let c9 = c .before .before .before .before .before .before .before .before .before in
-    let c10 = c9 .before in
-    let c15 = c10 .before .before .before .before .before in
-    let c18 = c15 .before .before .before in
-    let c19 = c18 .before in
-    let c20 = c19 .before in
-    let c22 = c20 .before .before in
-    let c23 = c22 .before in
-    let c27 = c23 .before .before .before .before in
-    let c32 = c27 .before .before .before .before .before in
-    let a = c32 .args in
-    let h = c32 .pre .0 in
-    let k = c27 .copy-record-at in
+    let c4 = c .before .before .before .before in
+    let c9 = c4 .before .before .before .before .before in
+    let c11 = c9 .before .before in
+    let c12 = c11 .before in
+    let c17 = c12 .before .before .before .before .before in
+    let c20 = c17 .before .before .before in
+    let c21 = c20 .before in
+    let c22 = c21 .before in
+    let c24 = c22 .before .before in
+    let c25 = c24 .before in
+    let c29 = c25 .before .before .before .before in
+    let c34 = c29 .before .before .before .before .before in
+    let a = c34 .args in
+    let h = c34 .pre .0 in
+    let k = c29 .copy-record-at in
     let r = k .last .1 .1 .0 in
     let d = recordOf r in
     let at : d ≡ node (a .b .now) (a .c) = ap recordOf (k .ensures) in
-    let f = c15 .handle-first in
+    let f = c17 .handle-first in
     let r′ = f .last .1 .1 .1 .1 .1 .0 in
     let t = first (channel (a .b .now) (a .a) (a .c)) in
     let v = viewOf (a .n) (viewAt (a .n) t) in
     let z = sized-view (a .n) (viewAt (a .n) t) (h .small) in
-    let most = c10 .faults-in .result in
+    let most = c12 .faults-in .result in
     let s = started (recordOf r′) (a .a) (f .result) in
-    let settled = c .before .before .before .before .settle-delivery in
-    let back = step-back (moveOn most s) (sized-moved most s (sized-of r′)) (c9 .move-in .ensures) in
+    let settled = c4 .settle-delivery in
+    let back = step-back (moveOn most s) (sized-moved most s (sized-of r′)) (as-step (c11 .plan-in .ensures .0 (a .a)
+    (f .result)) (c9 .follow-in .ensures)) in
     becomes (c .answered .result) (settled .last .0)
     (hand-settles (a .n) (a .a) (a .c) (a .x) (a .b .now) t (a .m) d at
-    (sym (c23 .is-stale-in .ensures) ∙ c22 .if1 .left)
-    (cut-judged (a .n) (a .x) (a .b .now) (c20 .is-cut .ensures) (c19 .may-cut .ensures) (not-false _ (c18 .if2 .left)))
-    (c10 .faults-in .ensures) refl
+    (sym (c25 .is-stale-in .ensures) ∙ c24 .if1 .left)
+    (cut-judged (a .n) (a .x) (a .b .now) (c22 .is-cut .ensures) (c21 .may-cut .ensures) (not-false _ (c20 .if2 .left)))
+    (c12 .faults-in .ensures) refl
     (back ∙ ap (moveOn most) (reacted-step r r′ (a .a) (a .m) v z (f .ensures .1) (f .ensures .0))))
-    (settle-told (a .n) (a .a) (a .c) (a .x) (stepOf (recordOf (c9 .move-in .last .0)) (c9 .move-in .result))
+    (settle-told (a .n) (a .a) (a .c) (a .x) (stepOf (recordOf (c9 .follow-in .last .0)) (c9 .follow-in .result))
     (onBlock (a .c) (takeOff (a .a)) (a .b .now)) (a .b .now)
     (c .answered .result) (settled .ensures .0) (settled .ensures .1) (c .before .is-cut2 .ensures)
     (c .answered .ensures .0) (c .answered .ensures .1))
@@ -190,8 +207,7 @@ pub hand-on-spec : {M : Type 1} → statement M
 hand-on-spec =
     tie.close
     (tie.spec (λ c κs. search needs) is-stale-in-requires (λ c κs. search needs) (λ c. search needs)
-    (λ c. search needs) returns
-    (λ c κs. search needs) (λ c κs. search needs) (λ c κs. search needs) (λ c. search needs)
-    (λ c. search needs) returns-2
-    handle-first-requires faults-in-requires move-in-requires settle-delivery-requires
-    (λ c κs. search needs) (λ c κs. search needs) (λ c. search needs) same-length-6 returns-3)
+    (λ c. search needs) returns (λ c κs. search needs) (λ c κs. search needs) (λ c κs. search needs)
+    (λ c. search needs) (λ c. search needs) returns-2 handle-first-requires faults-in-requires plan-in-requires
+    follow-in-requires settle-delivery-requires (λ c κs. search needs) (λ c κs. search needs) (λ c. search needs)
+    same-length-6 returns-3)
