@@ -146,8 +146,8 @@ fn age(dice: &mut Dice, record: &mut [u8]) {
     }
 }
 
-/// One cluster from fresh; some are made old at once. Where `damaged`, some events come upon a damaged cluster, which is
-/// put right again after a few of them.
+/// One cluster from fresh; some are made old at once. Where `damaged`, some events come upon a damaged cluster, which
+/// is put right again after a few of them.
 fn session(n: usize, seed: u64, events: usize, damaged: bool, tally: &mut Tally) {
     let mut dice = Dice::new(seed);
     let habits = Habits {

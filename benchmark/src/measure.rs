@@ -4,7 +4,7 @@ mod events;
 mod node;
 
 /// How often each side runs at least, and for how many seconds both together; the best time counts. What takes less
-/// than a millisecond runs some hundred times, so that a row is not of one moment of the machine.
+/// than a millisecond runs a hundred times or more, so that a row is not of one moment of the machine.
 const RUNS: usize = 15;
 const SECONDS: f64 = 0.2;
 

@@ -15,8 +15,8 @@ fn pieces<'a>(mut text: &'a [u8], sizes: &'a [usize]) -> impl Iterator<Item = &'
     })
 }
 
-/// Runs the program on the text and waits for its end. A program that ends before it has read all is left in peace. Of a
-/// piece that is longer than the program's buffer the rest is lost.
+/// Runs the program on the text and waits for its end. A program that ends before it has read all is left in peace. Of
+/// a piece that is longer than the program's buffer the rest is lost.
 pub fn feed(text: &[u8], sizes: &[usize], program: &mut Command) -> io::Result<Output> {
     let (ours, theirs) = UnixDatagram::pair()?;
     let child = program.stdin(Stdio::from(OwnedFd::from(theirs))).spawn()?;

@@ -1,8 +1,9 @@
-//! A million cases at the calls for C of one node: steps of runs, and records and messages of them damaged or made up.
-//! What the proved code makes of each is compared, byte for byte, with what the oracle's record does. A run is one of a
-//! network on the proved calls, beside the oracle's nodes over sets; its order is one case more.
+//! A million cases thrown at the calls for C of one node, records and messages that are drawn, damaged or made up, and
+//! beside them the steps of the runs that they are drawn from. What the proved code makes of each is compared, byte for
+//! byte, with what the oracle's record does. A run is one of a network on the proved calls, beside the oracle's nodes
+//! over sets; its order is one case more.
 //!
-//! `trial [CASES [SEED]]`
+//! `trial [THROWN [SEED]]`
 
 mod case;
 mod chance;
@@ -20,18 +21,18 @@ use std::env;
 use std::process::ExitCode;
 use throw::Trial;
 
-const CASES: usize = 1_000_000;
+const THROWN: usize = 1_000_000;
 
-const USAGE: &str = "usage: trial [CASES [SEED]]
-  CASES, a million if not given: steps of runs, and records and messages of them damaged or made up; whole runs are
+const USAGE: &str = "usage: trial [THROWN [SEED]]
+  THROWN, a million if not given: records and messages that are drawn from runs, damaged or made up; whole runs are
   made until there are so many";
 
 fn main() -> ExitCode {
     let numbers: Option<Vec<u64>> = env::args().skip(1).map(|word| word.parse().ok()).collect();
-    let (cases, seed) = match numbers.as_deref() {
-        Some([]) => (CASES, 1),
-        Some(&[cases]) => (cases as usize, 1),
-        Some(&[cases, seed]) => (cases as usize, seed),
+    let (thrown, seed) = match numbers.as_deref() {
+        Some([]) => (THROWN, 1),
+        Some(&[thrown]) => (thrown as usize, 1),
+        Some(&[thrown, seed]) => (thrown as usize, seed),
         _ => {
             eprintln!("{USAGE}");
             return ExitCode::FAILURE;
@@ -42,14 +43,14 @@ fn main() -> ExitCode {
         return ExitCode::FAILURE;
     }
     let mut trial = Trial::new(Dice::new(seed));
-    while trial.cases < cases {
+    while trial.thrown < thrown {
         run::network(&mut trial);
     }
     print!("{}", trial.tally);
     trial.told.iter().for_each(|difference| println!("{difference}"));
     let missing = trial.tally.missing();
     missing.iter().for_each(|name| println!("never occurred: {name}"));
-    println!("{} cases, {} differences", trial.cases, trial.different);
+    println!("{} cases, {} of them thrown, {} differences", trial.cases, trial.thrown, trial.different);
     if trial.different == 0 && missing.is_empty() {
         ExitCode::SUCCESS
     } else {

@@ -21,7 +21,9 @@ const TOLD: usize = 3;
 /// All that was thrown so far, and where the two sides differed.
 pub struct Trial {
     pub dice: Dice,
+    /// All cases, and those of them that were thrown; the others are of runs.
     pub cases: usize,
+    pub thrown: usize,
     pub tally: Tally,
     /// How many differences there are, and the first of them.
     pub different: usize,
@@ -30,7 +32,7 @@ pub struct Trial {
 
 impl Trial {
     pub fn new(dice: Dice) -> Trial {
-        Trial { dice, cases: 0, tally: Tally::default(), different: 0, told: vec![] }
+        Trial { dice, cases: 0, thrown: 0, tally: Tally::default(), different: 0, told: vec![] }
     }
 
     /// One more case. Of a difference its number is told besides.
@@ -66,6 +68,7 @@ impl Trial {
 
     /// One case that starts from a run's record and from the messages that wait for it, each with its sender.
     pub fn throw(&mut self, record: &[u8], waiting: &[(usize, Message)]) {
+        self.thrown += 1;
         match self.dice.below(100) {
             0 | 1 => {
                 let any = self.dice.below(NODES + 2);

@@ -96,8 +96,8 @@ fn write_all<S: Side>(cases: &[Case]) -> f64 {
     })
 }
 
-/// Prints figures per second, of views in which every node has reported and of such with a quarter of the reports absent,
-/// and answers the largest ratio.
+/// Prints figures per second, of views in which every node has reported and of such with a quarter of the reports
+/// absent, and answers the largest ratio.
 pub fn figures() -> f64 {
     println!("figures, views per second");
     println!("{:>6} {:>12} {:>12} {:>12} {:>8}", "nodes", "reports", "proved", "plain", "ratio");

@@ -100,7 +100,7 @@ fn emit_parts(
     emit_sent(n, comparing, v, out, second)
 }
 
-// Writes what a step sends that sends no more than its handler does, or its begin: no good message, and so no view.
+// Writes the messages of a begin, or of a handler after which nothing is sent. None is good, so there is no view.
 pub fn emit_handler(n: usize, m: Sent, out: &mut [u8]) -> usize
     requires { ⌜ (1 ≤ n) × (n ≤ nodes) × (anyGood (listed m) ≡ false) × AllLawful n noView (listed m)
         × (sizes n (listed m) ≤ length (now out)) ⌝ }

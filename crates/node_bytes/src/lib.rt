@@ -145,8 +145,8 @@ pub fn begin(r: &mut [u8], o: Operation, out: &mut [u8]) -> Called
     }
 }
 
-// A message that was read is handled, v the bytes of its view, or refused with 9. After most messages the open
-// operation waits on; then no view is carried about.
+// A message that was read is handled, v the bytes of its view, or refused with 9. Where nothing comes after what the
+// handler does, no view is carried about.
 fn take_message(
     r: &mut [u8],
     n: usize,

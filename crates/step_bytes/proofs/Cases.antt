@@ -37,7 +37,7 @@ use Rattle.region.specs.declared.head.Head.{Head}
 use Rattle.react_bytes.proofs.Sections.{tables-of, assembled}
 use Rattle.step_bytes.specs.declared.Effect.{Effect}
 use Rattle.step_bytes.specs.declared.Plan.the-variants.{Rest}
-use Rattle.step_bytes.specs.Moved.{isStep, restedOf, compared, agreed, Leads}
+use Rattle.step_bytes.specs.Moved.{isStep, restedOf, agreement, afterAgreement, Leads}
 
 module _ (f : ℕ) (s : Step) where
   -- where it must wait, it does not move
@@ -71,17 +71,55 @@ module _ (f : ℕ) (s : Step) where
   unfolding moveOn
   past p q = ap (λ (v : Step). borrows (compares f (writes f v))) p ∙ ap (λ (v : Step). borrows (compares f v)) q
 
-  -- a quorum has answered the round, or had before: it is compared
-  pub write-on : {k : Kind} {i r a : ℕ} → s .node .wait ≡ Writing k i r a
-      → isQuorum (s .node .n) f (membersIn (s .node .n) a) ≡ true → moveOn f s ≡ compared f s k i r
-  unfolding readPass writePass
-  write-on e q = past (ap (readPass f s (s .node)) e) (ap (writePass f s (s .node)) e ∙ rw q)
+  -- a quorum has answered round i with tag r: it is compared, and what follows is in the same step
+  module _ (k : Kind) (i r : ℕ) where
+    abbrev compared : Step
+    compared = borrows (compares f (ended s (withWait (s .node) (Comparing k i r)) (s .ending) (s .view)))
 
-  pub compare-on : {k : Kind} {i r : ℕ} → s .node .wait ≡ Comparing k i r → moveOn f s ≡ compared f s k i r
-  unfolding readPass writePass
-  compare-on e =
-      past (ap (readPass f s (s .node)) e) (ap (writePass f s (s .node)) e)
-      ∙ ap (λ (x : Wait). borrows (compares f (ended s (withWait (s .node) x) (s .ending) (s .view)))) e
+    still : borrows (afterGood s (s .node) k i r) ≡ afterGood s (s .node) k i r
+    unfolding afterGood opened borrowPass
+    still = on-pick (λ (u : Step). borrows u ≡ u) (eqb i 0) _ _ (λ e. refl) (λ e. refl)
+
+    compared-good : agreement f (s .node) ≡ true → leb (s .node .maxtag) r ≡ true
+        → compared ≡ afterGood s (s .node) k i r
+    unfolding comparePass afterGood opened
+    compared-good q h = rw (q, h) still
+
+    compared-failed : agreement f (s .node) ≡ true → leb (s .node .maxtag) r ≡ false
+        → compared ≡ borrows (afterFailed s (s .node) k i r)
+    unfolding comparePass afterFailed opened
+    compared-failed q h = rw (q, h) refl
+
+    compared-agreed : agreement f (s .node) ≡ true → compared ≡ afterAgreement s k i r
+    compared-agreed q =
+        on-pick (λ (u : Step). compared ≡ u) (leb (s .node .maxtag) r) _ _ (compared-good q) (compared-failed q)
+
+    compared-not : agreement f (s .node) ≡ false
+        → compared ≡ ended s (withWait (s .node) (Comparing k i r)) (s .ending) (s .view)
+    unfolding comparePass borrowPass
+    compared-not q = rw q refl
+
+    module _ {a : ℕ} (e : s .node .wait ≡ Writing k i r a)
+        (q : isQuorum (s .node .n) f (membersIn (s .node .n) a) ≡ true) where
+      write-on : moveOn f s ≡ compared
+      unfolding readPass writePass
+      write-on = past (ap (readPass f s (s .node)) e) (ap (writePass f s (s .node)) e ∙ rw q)
+
+      pub write-agrees : agreement f (s .node) ≡ true → moveOn f s ≡ afterAgreement s k i r
+      write-agrees g = write-on ∙ compared-agreed g
+
+      pub write-compares : agreement f (s .node) ≡ false
+          → moveOn f s ≡ ended s (withWait (s .node) (Comparing k i r)) (s .ending) (s .view)
+      write-compares g = write-on ∙ compared-not g
+
+    -- or had answered it before
+    pub compare-agrees : s .node .wait ≡ Comparing k i r → agreement f (s .node) ≡ true
+        → moveOn f s ≡ afterAgreement s k i r
+    unfolding readPass writePass
+    compare-agrees e g =
+        past (ap (readPass f s (s .node)) e) (ap (writePass f s (s .node)) e)
+        ∙ ap (λ (x : Wait). borrows (compares f (ended s (withWait (s .node) x) (s .ending) (s .view)))) e
+        ∙ compared-agreed g
 
   -- the view kept is borrowed
   pub borrow-on : {k : Kind} {r : ℕ} → s .node .wait ≡ Borrowing k r → leb r (s .node .kept) ≡ true
@@ -91,42 +129,14 @@ module _ (f : ℕ) (s : Step) where
       past (ap (readPass f s (s .node)) e) (ap (writePass f s (s .node)) e)
       ∙ ap borrows (ap (comparePass f s (s .node)) e) ∙ ap (borrowPass s (s .node)) e ∙ rw q
 
-  -- the comparison: a good round, a failed one, and none yet
-  module _ (k : Kind) (i r : ℕ) where
-    abbrev Agreed : Bool → Type 0
-    Agreed b = isQuorum (s .node .n) f (agreeing (s .node .n) (s .node .own) (s .node .heard) (s .node .atround .tags))
-        ≡ b
+-- after agreement the round is good or has failed
+module _ (s : Step) (k : Kind) (i t : ℕ) where
+  pub agreed-good : leb (s .node .maxtag) t ≡ true → afterAgreement s k i t ≡ afterGood s (s .node) k i t
+  agreed-good h = rw h refl
 
-    still : borrows (afterGood s (s .node) k i r) ≡ afterGood s (s .node) k i r
-    unfolding afterGood opened borrowPass
-    still = on-pick (λ (u : Step). borrows u ≡ u) (eqb i 0) _ _ (λ e. refl) (λ e. refl)
-
-    compared-good : Agreed true → leb (s .node .maxtag) r ≡ true → compared f s k i r ≡ afterGood s (s .node) k i r
-    unfolding comparePass afterGood opened
-    compared-good q h = rw (q, h) still
-
-    compared-failed : Agreed true → leb (s .node .maxtag) r ≡ false
-        → compared f s k i r ≡ borrows (afterFailed s (s .node) k i r)
-    unfolding comparePass afterFailed opened
-    compared-failed q h = rw (q, h) refl
-
-    pub compared-agreed : Agreed true → compared f s k i r ≡ agreed k i r s
-    compared-agreed q =
-        on-pick (λ (u : Step). compared f s k i r ≡ u) (leb (s .node .maxtag) r) _ _ (compared-good q)
-        (compared-failed q)
-
-    pub compared-not : Agreed false
-        → compared f s k i r ≡ ended s (withWait (s .node) (Comparing k i r)) (s .ending) (s .view)
-    unfolding comparePass borrowPass
-    compared-not q = rw q refl
-
-pub agreed-good : (k : Kind) (i t : ℕ) (s : Step) → leb (s .node .maxtag) t ≡ true
-    → agreed k i t s ≡ afterGood s (s .node) k i t
-agreed-good k i t s h = rw h refl
-
-pub agreed-failed : (k : Kind) (i t : ℕ) (s : Step) → leb (s .node .maxtag) t ≡ false
-    → agreed k i t s ≡ borrows (afterFailed s (s .node) k i t)
-agreed-failed k i t s h = rw h refl
+  pub agreed-failed : leb (s .node .maxtag) t ≡ false
+      → afterAgreement s k i t ≡ borrows (afterFailed s (s .node) k i t)
+  agreed-failed h = rw h refl
 
 -- ---- the begin
 
@@ -136,7 +146,7 @@ asking h o = headWithWait (withRequest h (h .request + 1)) (Reading o 0 0)
 
 -- what the code sends, and that head written over the bytes
 pub begins : (r : List ℕ) → Bytes r → length r ≡ recordSize → (o : Operation) {h g : Head} {b : List ℕ} → h ≡ headOf r
-    → g ≡ headWithWait (withRequest h (h .request + 1)) (Reading o 0 0) → b ≡ put r nPlace (headBytes g)
+    → g ≡ asking h o → b ≡ put r nPlace (headBytes g)
     → isStep (restedOf (recordOf r .own) (One (Read (h .request + 1)))) b (begun (recordOf r) o)
 unfolding recordOf begun
 begins r y l o q g z = (
@@ -173,9 +183,7 @@ module _ (r : List ℕ) (f : ℕ) {n k : ℕ} {b : Bool} (m : recordOf r .n ≡ 
   answered-of a q = p ∙ ap (isQuorum n f) q ∙ ap (λ (x : ℕ). isQuorum x f (membersIn x a)) (sym m)
 
   pub agreed-of : {own : ℕ} → k ≡ agreeing n own (words cells r heardPlace) (viewIn r atroundIn .tags) → own
-      ≡ word r ownPlace
-      → b ≡ isQuorum (recordOf r .n) f
-      (agreeing (recordOf r .n) (recordOf r .own) (recordOf r .heard) (recordOf r .atround .tags))
+      ≡ word r ownPlace → b ≡ agreement f (recordOf r)
   unfolding recordOf
   agreed-of q o =
       p ∙ ap (isQuorum n f) (q ∙ ap (λ (x : ℕ). agreeing n x (words cells r heardPlace) (viewIn r atroundIn .tags)) o)
@@ -187,5 +195,5 @@ pub as-step : {s t : Step} {e : Effect} {b : List ℕ} → s ≡ t → isStep e 
 as-step {s} {t} {e} {b} q h = subst (isStep e b) (sym q) h
 
 -- where it must wait, it rests
-pub rests : (f : ℕ) (c : Node) {w : Wait} → c .wait ≡ w → MustWait f c w → Leads Rest c (moveOn f)
-rests f c {w} q m = (λ to sent. stays f (started c to sent) w q m, omega arith)
+pub must-rest : (f : ℕ) (c : Node) {w : Wait} → c .wait ≡ w → MustWait f c w → Leads f Rest c
+must-rest f c {w} q m = (λ to sent. stays f (started c to sent) w q m, omega arith)

@@ -33,7 +33,7 @@ use Rattle.region.specs.Record.{headBytes, withRequest, withWait}
 use Rattle.region.specs.declared.head.Head.{Head}
 use Rattle.react_bytes.proofs.Sections.{tables-of, view-put, assembled}
 use Rattle.step_bytes.specs.declared.Effect.{Effect}
-use Rattle.step_bytes.specs.Moved.{effectOf, effect, isStep}
+use Rattle.step_bytes.specs.Moved.{effectOf, restedOf, effect, isStep}
 
 -- The step of a record and an effect.
 abbrev pub stepOf : Node → Effect → Step
@@ -112,6 +112,6 @@ module _ (c : Node) (to : ℕ) (sent : Sent) where
 
     pub failed-wait : ltb i 3 ≡ false → leb t (c .kept) ≡ false
         → borrows (afterFailed (started c to sent) c k i t)
-        ≡ stepOf (closed c (Borrowing k t)) (effectOf to sent Nothing Nothing noView None noView)
+        ≡ stepOf (closed c (Borrowing k t)) (restedOf to sent)
     unfolding afterFailed borrowPass
     failed-wait e q = rw (e, q) refl

@@ -9,6 +9,7 @@ use Rattle.octets.specs.Test.{pick}
 use Rattle.view.specs.Size.{limit}
 use Rattle.view.specs.View.{noView}
 use Rattle.view.specs.declared.View.{View}
+use Rattle.table.specs.Quorum.{isQuorum, agreeing}
 use Rattle.record.specs.Record.{withWait, closed}
 use Rattle.record.specs.declared.Node.{Node}
 use Rattle.record.specs.declared.Kind.{Kind}
@@ -20,11 +21,11 @@ use Rattle.step.specs.declared.Ending.the-variants.{None}
 use Rattle.step.specs.declared.Step.{Step}
 use Rattle.step.specs.Step.{started, ended, endingOf}
 use Rattle.step.specs.declared.Rule.the-variants.{Borrowed}
-use Rattle.step.specs.Move.{afterRead, afterGood, afterFailed, lentView, compares, borrows}
+use Rattle.step.specs.Move.{afterRead, afterGood, afterFailed, lentView, borrows, moveOn}
 use Rattle.region.specs.Record.{recordBytes}
 use Rattle.step_bytes.specs.declared.Effect.{Effect}
 use Rattle.step_bytes.specs.declared.Plan.{Plan}
-use Rattle.step_bytes.specs.declared.Plan.the-variants.{Rest, Read as PlanRead, Compare, Agree, Borrow}
+use Rattle.step_bytes.specs.declared.Plan.the-variants.{Rest, Read, Compare, Agree, Borrow}
 
 abbrev pub effectOf : ℕ → (handler reading comparing : Sent) → (good : View) → Ending → View → Effect
 effectOf to handler reading comparing good ending view =
@@ -46,37 +47,40 @@ effect s = record { outbox = s .outbox; ending = s .ending; view = s .view }
 abbrev pub isStep : Effect → List ℕ → Step → Type 0
 isStep e r s = (e ≡ effect s) × (r ≡ recordBytes (s .node))
 
--- The comparison of round i with tag r, and what follows it in the same step.
-abbrev pub compared : ℕ → Step → Kind → (i r : ℕ) → Step
-compared f s k i r = borrows (compares f (ended s (withWait (s .node) (Comparing k i r)) (s .ending) (s .view)))
+-- Whether a quorum agrees on the reports held for the open round of a record.
+abbrev pub agreement : ℕ → Node → Bool
+agreement f c = isQuorum (c .n) f (agreeing (c .n) (c .own) (c .heard) (c .atround .tags))
 
--- What follows where a quorum agrees on round i with tag t.
-abbrev pub agreed : Kind → (i t : ℕ) → Step → Step
-agreed k i t s = pick (leb (s .node .maxtag) t) (afterGood s (s .node) k i t) (borrows (afterFailed s (s .node) k i t))
+-- What follows it, where the round is i with tag t.
+abbrev pub afterAgreement : Step → Kind → (i t : ℕ) → Step
+afterAgreement s k i t =
+    pick (leb (s .node .maxtag) t) (afterGood s (s .node) k i t) (borrows (afterFailed s (s .node) k i t))
 
 -- A step that follows a plan.
 abbrev pub followed : Plan → Step → Step
 followed Rest s = s
-followed (PlanRead o t) s = afterRead s (s .node) o t
+followed (Read o t) s = afterRead s (s .node) o t
 followed (Compare k i t) s = ended s (withWait (s .node) (Comparing k i t)) (s .ending) (s .view)
-followed (Agree k i t) s = agreed k i t s
+followed (Agree k i t) s = afterAgreement s k i t
 followed (Borrow k) s = ended s (closed (s .node) Idle) (endingOf k Borrowed) (lentView (s .node))
 
+-- Whether there is nothing to do.
 abbrev pub rests : Plan → Bool
 rests Rest = true
-rests (PlanRead o t) = false
+rests (Read o t) = false
 rests (Compare k i t) = false
 rests (Agree k i t) = false
 rests (Borrow k) = false
 
--- The tag of the round that a plan is about, 0 where there is none.
+-- The tag that a plan names, 0 where it names none.
 abbrev pub planTag : Plan → ℕ
 planTag Rest = 0
-planTag (PlanRead o t) = t
+planTag (Read o t) = t
 planTag (Compare k i t) = t
 planTag (Agree k i t) = t
 planTag (Borrow k) = 0
 
--- To follow the plan is to go on at record c, whatever was sent before; its tag keeps the limit.
-abbrev pub Leads : Plan → Node → (Step → Step) → Type 0
-Leads p c go = ((to : ℕ) (sent : Sent) → go (started c to sent) ≡ followed p (started c to sent)) × (planTag p ≤ limit)
+-- To follow the plan is to move on at record c, whatever was sent before; its tag keeps the limit.
+abbrev pub Leads : ℕ → Plan → Node → Type 0
+Leads f p c = ((to : ℕ) (sent : Sent) → moveOn f (started c to sent) ≡ followed p (started c to sent))
+    × (planTag p ≤ limit)

@@ -1,9 +1,12 @@
-// How many nodes agree on the reports held for the open round, counted in the record's bytes.
+// Whether a quorum agrees on the reports held for the open round, counted in the record's bytes.
 use octets::and;
+use octets::get_word;
 use react_bytes::tables::heard_in;
 use react_bytes::tables::tag_in;
 use region::places::ATROUND_IN;
+use region::places::OWN_PLACE;
 use table::or;
+use table::quorum::is_quorum;
 ghost use mathlib.Core.Path.{_≡_};
 ghost use Prim.Native.Nat.{_≤_};
 ghost use lib.Dec.{leb};
@@ -13,7 +16,8 @@ ghost use Rattle.view.specs.Size.{nodes};
 ghost use Rattle.table.specs.Loop.{all};
 ghost use Rattle.table.specs.Table.{tagOf, heardOf, cells};
 ghost use Rattle.table.specs.Quorum.{agreeing};
-ghost use Rattle.region.specs.Record.{recordSize, heardPlace, viewIn, atroundIn};
+ghost use Rattle.region.specs.Record.{recordSize, recordOf, heardPlace, viewIn, atroundIn};
+ghost use Rattle.step_bytes.specs.Moved.{agreement};
 
 // Whether sender s has sent, for each writer, the report held for the open round or a later one.
 fn has_sent(r: &[u8], n: usize, s: usize) -> bool
@@ -31,7 +35,7 @@ fn has_sent(r: &[u8], n: usize, s: usize) -> bool
 }
 
 // How many nodes agree on the reports held for the open round; the own node does.
-pub fn agreeing_in(r: &[u8], n: usize, own: usize) -> usize
+fn agreeing_in(r: &[u8], n: usize, own: usize) -> usize
     requires { ⌜ (length (now r) ≡ recordSize) × (n ≤ nodes) ⌝ }
     ensures { λ k. ⌜ k
         ≡ agreeing n own (words cells (now (r .entry)) heardPlace) (viewIn (now (r .entry)) atroundIn .tags) ⌝ }
@@ -45,4 +49,12 @@ pub fn agreeing_in(r: &[u8], n: usize, own: usize) -> usize
         }
     }
     k
+}
+
+// Whether a quorum does.
+pub fn agrees_in(r: &[u8], n: usize, f: usize) -> bool
+    requires { ⌜ (length (now r) ≡ recordSize) × (recordOf (now r) .n ≡ n) × (n ≤ nodes) ⌝ }
+    ensures { λ t. ⌜ t ≡ agreement f (recordOf (now (r .entry))) ⌝ }
+{
+    is_quorum(n, f, agreeing_in(r, n, get_word(r, OWN_PLACE) as usize))
 }

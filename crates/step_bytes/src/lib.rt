@@ -3,7 +3,7 @@
 pub mod agree;
 pub mod rounds;
 
-use agree::agreeing_in;
+use agree::agrees_in;
 use octets::get_word;
 use octets::less;
 use react_bytes::waiting_in;
@@ -41,9 +41,9 @@ ghost use lib.ListN.{length};
 ghost use Rattle.view.specs.Size.{limit, nodes};
 ghost use Rattle.record.specs.Usable.{isOpen, full, usable};
 ghost use Rattle.step.specs.Step.{started};
-ghost use Rattle.step.specs.Move.{moveOn, begun};
+ghost use Rattle.step.specs.Move.{begun};
 ghost use Rattle.region.specs.Record.{recordSize, recordOf, recordBytes};
-ghost use Rattle.step_bytes.specs.Moved.{isStep, restedOf, compared, agreed, followed, planTag, rests, Leads};
+ghost use Rattle.step_bytes.specs.Moved.{isStep, restedOf, afterAgreement, followed, planTag, rests, Leads};
 
 // What a step gives beside the record.
 pub struct Effect {
@@ -52,8 +52,8 @@ pub struct Effect {
     pub view: View,
 }
 
-// What the open operation does next: it waits on, acts on a quorum of read answers, waits for agreement, acts on
-// agreement, or borrows.
+// What a node does next of its own: nothing, since no operation is open or the open one must wait; it acts on a quorum
+// of read answers; it compares from now on, as there is no agreement yet; it acts on agreement; it borrows.
 pub enum Plan {
     Rest,
     Read { operation: Operation, tag: u64 },
@@ -95,7 +95,7 @@ pub fn ask_in(r: &mut [u8], o: Operation) -> Sent
     Sent::One(Message::Read { request: request })
 }
 
-// The same, with all that the step gives.
+// An operation is begun, with all that the step gives.
 pub fn begin_in(r: &mut [u8], o: Operation) -> Effect
     requires { ⌜ (length (now r) ≡ recordSize) × (recordOf (now r) .request ≤ limit) ⌝ }
     ensures { λ e. ⌜ isStep e (now (r .exit)) (begun (recordOf (now (r .entry))) o) ⌝ }
@@ -105,31 +105,11 @@ pub fn begin_in(r: &mut [u8], o: Operation) -> Effect
     rested(own, sent)
 }
 
-// What follows the comparison of round i with tag t, which a quorum has answered.
-fn compared_in(r: &[u8], n: usize, f: usize, k: Kind, i: u64, t: u64) -> Plan
-    requires { ⌜ (length (now r) ≡ recordSize) × (recordOf (now r) .n ≡ n) × (n ≤ nodes) × (t ≤ limit) ⌝ }
-    ensures { λ p. ⌜ Leads p (recordOf (now (r .entry))) (λ s. compared f s k i t) ⌝ }
-{
-    if is_quorum(n, f, agreeing_in(r, n, get_word(r, OWN_PLACE) as usize)) {
-        return Plan::Agree {
-            kind: k,
-            round: i,
-            tag: t,
-        };
-    }
-    Plan::Compare {
-        kind: k,
-        round: i,
-        tag: t,
-    }
-}
-
-// What the open operation does next. The wait says which pass is the first to try; what a pass leads to, only a later
-// one takes up.
+// What comes next. The wait says which pass is the first to try; what a pass leads to, only a later one takes up.
 pub fn plan_in(r: &[u8], n: usize, f: usize) -> Plan
     requires { ⌜ (length (now r) ≡ recordSize) × (recordOf (now r) .n ≡ n) × (n ≤ nodes) × (f < n)
         × (usable (recordOf (now r)) ≡ true) ⌝ }
-    ensures { λ p. ⌜ Leads p (recordOf (now (r .entry))) (moveOn f) ⌝ }
+    ensures { λ p. ⌜ Leads f p (recordOf (now (r .entry))) ⌝ }
 {
     match load_wait(r) {
         Wait::Idle => Plan::Rest,
@@ -153,11 +133,31 @@ pub fn plan_in(r: &[u8], n: usize, f: usize) -> Plan
             answered,
         } => {
             if is_quorum(n, f, members(n, answered)) {
-                return compared_in(r, n, f, kind, round, tag);
+                if agrees_in(r, n, f) {
+                    return Plan::Agree {
+                        kind: kind,
+                        round: round,
+                        tag: tag,
+                    };
+                }
+                return Plan::Compare {
+                    kind: kind,
+                    round: round,
+                    tag: tag,
+                };
             }
             Plan::Rest
         }
-        Wait::Comparing { kind, round, tag } => compared_in(r, n, f, kind, round, tag),
+        Wait::Comparing { kind, round, tag } => {
+            if agrees_in(r, n, f) {
+                return Plan::Agree {
+                    kind: kind,
+                    round: round,
+                    tag: tag,
+                };
+            }
+            Plan::Rest
+        }
         Wait::Borrowing { kind, tag } => {
             if tag <= get_word(r, KEPT_PLACE) {
                 return Plan::Borrow { kind: kind };
@@ -167,7 +167,7 @@ pub fn plan_in(r: &[u8], n: usize, f: usize) -> Plan
     }
 }
 
-// Whether the operation waits on.
+// Whether nothing comes next.
 pub fn is_rest(p: Plan) -> bool
     ensures { λ t. ⌜ t ≡ rests p ⌝ }
 {
@@ -192,11 +192,10 @@ pub fn is_rest(p: Plan) -> bool
 }
 
 // A quorum agrees on round i with tag t: the round is good, or it failed where `maxtag` is past its tag.
-fn agree_in(r: &mut [u8], n: usize, to: usize, sent: Sent, k: Kind, i: u64, t: u64) -> Effect
+fn agreement_in(r: &mut [u8], n: usize, to: usize, sent: Sent, k: Kind, i: u64, t: u64) -> Effect
     requires { ⌜ (length (now r) ≡ recordSize) × (recordOf (now r) .n ≡ n) × (n ≤ nodes)
         × (recordOf (now r) .request ≤ limit) × (t ≤ limit) ⌝ }
-    ensures { λ e. ⌜ isStep e (now (r .exit))
-        (agreed k i t (started (recordOf (now (r .entry))) to sent)) ⌝ }
+    ensures { λ e. ⌜ isStep e (now (r .exit)) (afterAgreement (started (recordOf (now (r .entry))) to sent) k i t) ⌝ }
 {
     if get_word(r, MAXTAG_PLACE) <= t {
         return good_in(r, n, to, sent, k, i, t);
@@ -224,7 +223,7 @@ pub fn follow_in(r: &mut [u8], n: usize, to: usize, sent: Sent, p: Plan) -> Effe
             );
             rested(to, sent)
         }
-        Plan::Agree { kind, round, tag } => agree_in(r, n, to, sent, kind, round, tag),
+        Plan::Agree { kind, round, tag } => agreement_in(r, n, to, sent, kind, round, tag),
         Plan::Borrow { kind } => lend_in(r, n, to, sent, kind),
     }
 }

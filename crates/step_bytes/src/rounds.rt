@@ -72,7 +72,7 @@ fn effect_of(
     }
 }
 
-// The operation waits on. This is what most steps give, and so it is made in its place.
+// Nothing comes after what was sent. In a cluster this is what most steps give, and so it is made in its place.
 pub fn rested(to: usize, sent: Sent) -> Effect
     ensures { λ e. ⌜ e ≡ restedOf to sent ⌝ }
 {

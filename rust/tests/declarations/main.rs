@@ -10,6 +10,7 @@ mod tokens;
 use snapshot::lent::{DONE, SCAN, SPENT, TAKEN, TO_ALL, TO_SENDER};
 use snapshot::{Message, Refusal, Report};
 use std::collections::BTreeMap;
+use tokens::without_comments;
 
 /// A number that crosses.
 #[derive(Clone, Copy, Debug, PartialEq)]
@@ -98,6 +99,27 @@ fn the_header_has_the_sizes_of_the_crate() {
         assert_eq!(header.numbers.get(&format!("SNAPSHOT_{name}")), Some(&size), "{name}");
     }
     assert_eq!(snapshot::lent::node_size(), snapshot::RECORD);
+}
+
+#[test]
+fn the_header_has_the_sizes_of_the_proved_code() {
+    let header = header();
+    for (name, module) in [
+        ("NODES", "view/src/lib"),
+        ("REPORT", "view/src/lib"),
+        ("ENTRY", "view/src/lib"),
+        ("VIEW", "view/src/lib"),
+        ("RECORD", "region/src/places"),
+        ("OUTPUT", "calls/src/lib"),
+        ("LONGEST", "wire/src/lib"),
+    ] {
+        let text = without_comments(&file(&format!("crates/{module}.rt")).unwrap()).unwrap();
+        let size = rattle::constant(&text, name).unwrap();
+        assert_eq!(header.numbers.get(&format!("SNAPSHOT_{name}")), Some(&size), "{name}");
+    }
+    assert_eq!(header.numbers.len(), 7);
+    assert!(file("include/snapshot.h").unwrap().contains("#define SNAPSHOT_CLUSTER(n) (1 + 73345 * (n))\n"));
+    assert!((1..=16).all(|n| snapshot::lent::size(n) == 1 + 73345 * n));
 }
 
 #[test]

@@ -1,10 +1,8 @@
 -- `cluster::admission` meets its contract.
 use borrow.Author.Needs.{needs}
-use mathlib.Core.Path.{_≡_, sym, ap₂, _∙_}
-use mathlib.Core.Bool.{true}
+use mathlib.Core.Path.{sym, ap₂, _∙_}
 use borrow.Author.Tests.{not-true, not-false}
 use Rattle.octets.specs.Test.{both}
-use Rattle.layout.specs.Layout.{isNode}
 use Rattle.layout.proofs.Check.{fits-some}
 use Rattle.events.proofs.Admitted.{is-unfit, is-unsound, is-nowhere, has-block, is-stopped, is-admitted}
 use Rattle.cluster.proofs.admission.Statement.{statement}

@@ -1,6 +1,6 @@
 -- `snapshot::snapshot_write` meets its contract.
 use borrow.Author.Needs.{needs}
-use mathlib.Core.Path.{refl, sym, ap, _∙_}
+use mathlib.Core.Path.{refl, sym, ap}
 use Rattle.wire.specs.Outcome.{written}
 use Rattle.snapshot.proofs.snapshot_write.Statement.{statement}
 use Rattle.snapshot.proofs.snapshot_write.Tie as tie

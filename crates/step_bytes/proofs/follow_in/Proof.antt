@@ -17,8 +17,8 @@ read-in-requires c κs =
     let h = c5 .pre in
     (h .0, h .3, subst (λ (p : Plan). planTag p ≤ limit) (c .before .before .p .given .1) (h .4))
 
-agree-in-requires : tie.Need-agree-in-requires
-agree-in-requires c κs =
+agreement-in-requires : tie.Need-agreement-in-requires
+agreement-in-requires c κs =
     let c5 = c .before .before .before .before .before in
     let h = c5 .pre in
     (h .0, h .1, h .2, h .3, subst (λ (p : Plan). planTag p ≤ limit) (c .before .before .p3 .given .1) (h .4))
@@ -53,7 +53,7 @@ returns-4 c =
     let c8 = c5 .before .before .before in
     let a = c8 .args in
     let s = started (recordOf (a .r .now)) (a .to) (a .sent) in
-    as-step (ap (λ (p : Plan). followed p s) (c5 .p3 .given .1)) (c .before .before .agree-in .ensures)
+    as-step (ap (λ (p : Plan). followed p s) (c5 .p3 .given .1)) (c .before .before .agreement-in .ensures)
 
 returns-5 : tie.Need-returns-5
 returns-5 c =
@@ -67,6 +67,6 @@ pub follow-in-spec : {M : Type 1} → statement M
 follow-in-spec =
     tie.close
     (tie.spec (λ c. search needs) (λ c κs. search needs) (λ c. search needs) read-in-requires (λ c. search needs)
-    (λ c κs. search needs) (λ c κs. search needs) (λ c. search needs) agree-in-requires (λ c. search needs)
+    (λ c κs. search needs) (λ c κs. search needs) (λ c. search needs) agreement-in-requires (λ c. search needs)
     (λ c κs. search needs) returns (λ c. search needs) returns-2 (λ c. search needs) returns-3 (λ c. search needs)
     returns-4 (λ c. search needs) returns-5)

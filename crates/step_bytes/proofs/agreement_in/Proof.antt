@@ -1,4 +1,4 @@
--- `step_bytes::agree_in` meets its contract.
+-- `step_bytes::agreement_in` meets its contract.
 use borrow.Author.Needs.{needs}
 use borrow.Author.Tests.{le-leb, lt-leb}
 use mathlib.Core.Path.{sym, ap, _∙_}
@@ -7,8 +7,8 @@ use lib.Dec.{leb}
 use Rattle.step.specs.Step.{started}
 use Rattle.region.specs.Record.{recordOf}
 use Rattle.step_bytes.proofs.Cases.{agreed-good, agreed-failed, maxtag-of, as-step}
-use Rattle.step_bytes.proofs.agree_in.Statement.{statement}
-use Rattle.step_bytes.proofs.agree_in.Tie as tie
+use Rattle.step_bytes.proofs.agreement_in.Statement.{statement}
+use Rattle.step_bytes.proofs.agreement_in.Tie as tie
 
 returns : tie.Need-returns
 returns c =
@@ -17,9 +17,8 @@ returns c =
     let c8 = c5 .before .before .before in
     let a = c8 .args in
     let r = a .r .now in
-    let m = c5 .get-word .ensures ∙ maxtag-of r in
-    let h = ap (λ (t : ℕ). leb t (a .t)) (sym m) ∙ le-leb _ _ (c4 .if1 .taken) in
-    as-step (agreed-good (a .k) (a .i) (a .t) (started (recordOf r) (a .to) (a .sent)) h)
+    let h = ap (λ (t : ℕ). leb t (a .t)) (sym (c5 .get-word .ensures ∙ maxtag-of r)) ∙ le-leb _ _ (c4 .if1 .taken) in
+    as-step (agreed-good (started (recordOf r) (a .to) (a .sent)) (a .k) (a .i) (a .t) h)
     (c .before .before .good-in .ensures)
 
 returns-2 : tie.Need-returns-2
@@ -29,13 +28,12 @@ returns-2 c =
     let c8 = c5 .before .before .before in
     let a = c8 .args in
     let r = a .r .now in
-    let m = c5 .get-word .ensures ∙ maxtag-of r in
-    let h = ap (λ (t : ℕ). leb t (a .t)) (sym m) ∙ lt-leb _ _ (c4 .if1 .left) in
-    as-step (agreed-failed (a .k) (a .i) (a .t) (started (recordOf r) (a .to) (a .sent)) h)
+    let h = ap (λ (t : ℕ). leb t (a .t)) (sym (c5 .get-word .ensures ∙ maxtag-of r)) ∙ lt-leb _ _ (c4 .if1 .left) in
+    as-step (agreed-failed (started (recordOf r) (a .to) (a .sent)) (a .k) (a .i) (a .t) h)
     (c .before .before .failed-in .ensures)
 
-pub agree-in-spec : {M : Type 1} → statement M
-agree-in-spec =
+pub agreement-in-spec : {M : Type 1} → statement M
+agreement-in-spec =
     tie.close
     (tie.spec (λ c κs. search needs) (λ c κs. search needs) (λ c. search needs) returns (λ c κs. search needs)
     (λ c. search needs) returns-2)
