@@ -10,7 +10,7 @@ use Rattle.logs.specs.Count as C
 use Rattle.view.specs.declared.View.{View}
 use Rattle.wire.specs.declared.Message.the-variants.{Good}
 use Rattle.view.specs.View.{noView, firstOf}
-use Rattle.table.specs.Quorum.{agreeing, isQuorum}
+use Rattle.table.specs.Quorum.{agreeing}
 use Rattle.record.specs.Record.{closed}
 use Rattle.record.specs.declared.Node.{Node}
 use Rattle.record.specs.declared.Wait.{Wait}
@@ -20,6 +20,7 @@ use Rattle.step.specs.declared.Rule.{Rule}
 use Rattle.step.specs.declared.Rule.the-variants.{Direct, Borrowed}
 use Rattle.step.specs.declared.Step.{Step}
 use Rattle.step.specs.Step as S
+use Rattle.step.specs.Move.{agreement}
 use Rattle.step.specs.Move.{opened, writing, heldView, lentView, afterGood, afterFailed, comparePass, borrowPass}
 use Rattle.step.specs.Move.{compares, borrows}
 use Rattle.history.specs.Message as M
@@ -53,7 +54,7 @@ given-out {n} e v = ap (λ k. viewMeaning n (firstOf k v)) e ∙ view-first n v
 -- A quorum of agreeing nodes, at a record that follows.
 agreement-tells : {n i : ℕ} {ν : A.Node} {c : Node} (F : Follows n i ν c) → BoundedNode n ν → (f u : ℕ)
     → Holds n (c .atround) u (ν .all)
-    → Tells (isQuorum (c .n) f (agreeing (c .n) (c .own) (c .heard) (c .atround .tags)))
+    → Tells (agreement f c)
     (n - f ≤ C.count (A.agrees i ν u) n)
 agreement-tells F b f u held = rw (F .size, F .own) (agreeing-tells F b u held f)
 

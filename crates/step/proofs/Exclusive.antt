@@ -4,13 +4,14 @@ use mathlib.Core.Logic.{_⊎_, inl, inr, ⊎-elim}
 use Prim.Native.Nat.{ℕ, _<_, max}
 use lib.Dec.{leb, ltb, eqb}
 use Rattle.view.specs.Size.{limit}
-use Rattle.table.specs.Quorum.{membersIn, isQuorum, agreeing}
+use Rattle.table.specs.Quorum.{membersIn, isQuorum}
 use Rattle.record.specs.declared.Operation.the-variants.{Update, Scan}
 use Rattle.record.specs.declared.Wait.{Wait}
 use Rattle.record.specs.declared.Wait.the-variants.{Idle, Reading, Writing, Comparing, Borrowing}
 use Rattle.step.specs.declared.Sent.the-variants.{Nothing}
 use Rattle.step.specs.declared.Step.{Step}
 use Rattle.step.specs.Claims.{MustWait}
+use Rattle.step.specs.Move.{agreement}
 use Rattle.step.specs.Move.{opened, afterRead, readPass, writePass, afterGood, afterFailed, comparePass}
 use Rattle.step.specs.Move.{borrowPass, reads, writes, compares, borrows, moveOn}
 use Rattle.step.proofs.Numbers.{on-pick}
@@ -36,8 +37,7 @@ module _ (f : ℕ) (s : Step) where
   compare-front : (w : Wait) → Same-front (comparePass f s (s .node) w)
   unfolding comparePass afterGood afterFailed
   compare-front (Comparing kd i r) =
-      on-pick Same-front (isQuorum (s .node .n) f (agreeing (s .node .n) (s .node .own) (s .node .heard)
-      (s .node .atround .tags))) _ _
+      on-pick Same-front (agreement f (s .node)) _ _
       (λ e. on-pick Same-front (leb (s .node .maxtag) r) _ _
       (λ e. on-pick Same-front (eqb i 0) _ _ (λ e. (refl, refl)) (λ e. (refl, refl)))
       (λ e. on-pick Same-front (ltb i 3) _ _ (λ e. (refl, refl)) (λ e. (refl, refl))))

@@ -11,7 +11,7 @@ use Rattle.view.specs.Size.{limit}
 use Rattle.view.specs.View.{noView}
 use Rattle.view.specs.declared.View.{View}
 use Rattle.table.specs.Table.{newest, viewWithin}
-use Rattle.table.specs.Quorum.{membersIn, isQuorum, agreeing}
+use Rattle.table.specs.Quorum.{membersIn, isQuorum}
 use Rattle.table.proofs.Entries.{viewWithin-absent, viewWithin-newest}
 use Rattle.table.proofs.Sets.{only-none}
 use Rattle.record.specs.Record.{setWait, withWait, closed}
@@ -25,6 +25,7 @@ use Rattle.record.specs.declared.Wait.{Wait}
 use Rattle.record.specs.declared.Wait.the-variants.{Idle, Reading, Writing, Comparing, Borrowing}
 use Rattle.record.proofs.Parts.{Parts, Round, reading-ok, round-parts, round-of, writing-ok, writing-of}
 use Rattle.step.specs.declared.Step.{Step}
+use Rattle.step.specs.Move.{agreement}
 use Rattle.step.specs.Move.{opened, afterRead, readPass, writePass, nextTag, afterGood, afterFailed, comparePass}
 use Rattle.step.specs.Move.{borrowPass, reads, writes, compares, borrows, moveOn}
 use Rattle.step.proofs.Numbers.{max-most, on-pick}
@@ -148,7 +149,7 @@ unfolding comparePass
 compare-pass-parts f s c (Comparing k i r) q p =
     let d = withWait c (Comparing k i r) in
     let o : Round i r = round-parts i r (p .wait-ok) in
-    on-pick Fit (isQuorum (c .n) f (agreeing (c .n) (c .own) (c .heard) (c .atround .tags))) _ _
+    on-pick Fit (agreement f c) _ _
     (λ t. on-pick Fit (leb (c .maxtag) r) _ _
     (λ u. after-good-parts s d k i r p o (p .enough))
     (λ u. after-failed-parts s d k i r p o (p .enough)))

@@ -8,7 +8,7 @@ use Rattle.view.specs.declared.Report.{Report}
 use Rattle.view.specs.declared.View.{View}
 use Rattle.wire.specs.declared.Message.{Message}
 use Rattle.wire.specs.declared.Message.the-variants.{Read, ReadAnswer, Write, WriteAnswer, Echo, Value, Good}
-use Rattle.table.specs.Quorum.{member, membersIn, isQuorum, agreeing}
+use Rattle.table.specs.Quorum.{member, membersIn, isQuorum}
 use Rattle.record.specs.Record.{setWait}
 use Rattle.record.specs.declared.Node.{Node}
 use Rattle.record.specs.declared.Operation.the-variants.{Update, Scan}
@@ -16,6 +16,7 @@ use Rattle.record.specs.declared.Wait.{Wait}
 use Rattle.record.specs.declared.Wait.the-variants.{Idle, Reading, Writing, Comparing, Borrowing}
 use Rattle.step.specs.declared.Step.{Step}
 use Rattle.step.specs.React.{raised, received, keep, react}
+use Rattle.step.specs.Move.{agreement}
 use Rattle.step.specs.Move.{opened, afterRead, readPass, writePass, afterGood, afterFailed, comparePass}
 use Rattle.step.specs.Move.{borrowPass, reads, writes, compares, borrows, moveOn}
 use Rattle.step.proofs.Numbers.{on-pick}
@@ -50,8 +51,7 @@ module _ {X : Type 0} (g : Node → X) (same : (c : Node) (q : ℕ) (w : Wait) (
   compare-keeps : (w : Wait) → Same (comparePass f s (s .node) w)
   unfolding comparePass afterGood afterFailed opened
   compare-keeps (Comparing kd i r) =
-      on-pick Same (isQuorum (s .node .n) f (agreeing (s .node .n) (s .node .own) (s .node .heard)
-      (s .node .atround .tags))) _ _
+      on-pick Same (agreement f (s .node)) _ _
       (λ e. on-pick Same (leb (s .node .maxtag) r) _ _
       (λ e. on-pick Same (eqb i 0) _ _ (λ e. same _ _ _ _) (λ e. same _ _ _ _))
       (λ e. on-pick Same (ltb i 3) _ _ (λ e. same _ _ _ _) (λ e. same _ _ _ _)))

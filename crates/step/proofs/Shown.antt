@@ -5,12 +5,13 @@ use lib.Dec.{leb, ltb, eqb}
 use Rattle.view.specs.Size.{limit, nodes}
 use Rattle.view.specs.View.{AbsentPast}
 use Rattle.view.proofs.First.{first-absent, none-absent}
-use Rattle.table.specs.Quorum.{membersIn, isQuorum, agreeing}
+use Rattle.table.specs.Quorum.{membersIn, isQuorum}
 use Rattle.record.specs.declared.Node.{Node}
 use Rattle.record.specs.declared.Operation.the-variants.{Update, Scan}
 use Rattle.record.specs.declared.Wait.{Wait}
 use Rattle.record.specs.declared.Wait.the-variants.{Idle, Reading, Writing, Comparing, Borrowing}
 use Rattle.step.specs.declared.Step.{Step}
+use Rattle.step.specs.Move.{agreement}
 use Rattle.step.specs.Move.{afterRead, readPass, writePass, afterGood, afterFailed, comparePass, borrowPass}
 use Rattle.step.specs.Move.{reads, writes, compares, borrows, moveOn}
 use Rattle.step.proofs.Numbers.{on-pick}
@@ -45,7 +46,7 @@ module _ (f : ℕ) (s : Step) (h : s .node .n ≤ nodes) (a : AbsentPast (s .nod
   unfolding comparePass afterGood afterFailed
   compare-shows (Comparing kd i r) =
       let c = s .node in
-      on-pick Shows (isQuorum (c .n) f (agreeing (c .n) (c .own) (c .heard) (c .atround .tags))) _ _
+      on-pick Shows (agreement f c) _ _
       (λ e. on-pick Shows (leb (c .maxtag) r) _ _
       (λ e. on-pick Shows (eqb i 0) _ _ (λ e. a) (λ e. first-absent (c .n) (c .atround) h))
       (λ e. on-pick Shows (ltb i 3) _ _ (λ e. a) (λ e. a)))

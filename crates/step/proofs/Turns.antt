@@ -4,7 +4,7 @@ use mathlib.Core.Bool.{Bool, true, false}
 use Prim.Native.Nat.{ℕ, _≤_, max}
 use lib.Dec.{leb}
 use Rattle.view.specs.Size.{limit}
-use Rattle.table.specs.Quorum.{membersIn, isQuorum, agreeing}
+use Rattle.table.specs.Quorum.{membersIn, isQuorum}
 use Rattle.record.specs.Usable.{waitOk}
 use Rattle.record.specs.declared.Node.{Node}
 use Rattle.record.specs.declared.Operation.{Operation}
@@ -12,7 +12,7 @@ use Rattle.record.specs.declared.Kind.{Kind}
 use Rattle.record.specs.declared.Wait.the-variants.{Reading, Comparing}
 use Rattle.record.proofs.Parts.{Parts, Round, reading-ok, round-parts}
 use Rattle.step.specs.declared.Step.{Step}
-use Rattle.step.specs.Move.{readPass, comparePass, afterRead, afterGood, afterFailed}
+use Rattle.step.specs.Move.{agreement, readPass, comparePass, afterRead, afterGood, afterFailed}
 
 -- the numbers of the wait keep their limits
 pub reading-most : (c : Node) {o : Operation} {a m : ℕ} → Parts c → c .wait ≡ Reading o a m → m ≤ limit
@@ -24,7 +24,7 @@ comparing-most c {k} {i} {r} p e = round-parts i r (sym (ap (waitOk (c .n)) e) �
 -- a step as the code makes it is the pass at the record's wait
 module _ (f : ℕ) (s : Step) (c : Node) where
   abbrev Agreed : Bool → Type 0
-  Agreed b = isQuorum (c .n) f (agreeing (c .n) (c .own) (c .heard) (c .atround .tags)) ≡ b
+  Agreed b = agreement f c ≡ b
 
   module _ {o : Operation} {a m : ℕ} (e : c .wait ≡ Reading o a m) where
     pub reads-on : {t : ℕ} → isQuorum (c .n) f (membersIn (c .n) a) ≡ true → t ≡ max m (c .maxtag)

@@ -6,7 +6,7 @@ use native.Mathlib.Omega.{arith}
 use lib.Dec.{leb, ltb, eqb}
 use borrow.Author.Tests.{lt-leb}
 use Rattle.view.specs.Size.{limit}
-use Rattle.table.specs.Quorum.{membersIn, isQuorum, agreeing}
+use Rattle.table.specs.Quorum.{membersIn, isQuorum}
 use Rattle.table.proofs.Sets.{membersIn-none}
 use Rattle.record.specs.Record.{withWait}
 use Rattle.record.specs.declared.Node.{Node}
@@ -17,6 +17,7 @@ use Rattle.record.specs.declared.Wait.the-variants.{Idle, Reading, Writing, Com
 use Rattle.step.specs.declared.Step.{Step}
 use Rattle.step.specs.Claims.{MustWait}
 use Rattle.step.specs.Step.{ended}
+use Rattle.step.specs.Move.{agreement}
 use Rattle.step.specs.Move.{opened, afterRead, readPass, writePass, afterGood, afterFailed, comparePass}
 use Rattle.step.specs.Move.{borrowPass, reads, writes, compares, borrows, moveOn, begun, beginStep}
 use Rattle.step.proofs.Numbers.{on-pick}
@@ -72,8 +73,7 @@ module _ (f : ℕ) (s : Step) (h : f < s .node .n) where
       → At f 3 (comparePass f (with-wait s w) (withWait (s .node) w) w)
   unfolding comparePass afterGood afterFailed opened
   compare-past (Comparing kd i r) p =
-      on-pick (At f 3) (isQuorum (s .node .n) f (agreeing (s .node .n) (s .node .own) (s .node .heard)
-      (s .node .atround .tags))) _ _
+      on-pick (At f 3) (agreement f (s .node)) _ _
       (λ e. on-pick (At f 3) (leb (s .node .maxtag) r) _ _
       (λ e. on-pick (At f 3) (eqb i 0) _ _ (λ e l. no-quorum (s .node .n) f h) (λ e. tt))
       (λ e. on-pick (At f 3) (ltb i 3) _ _ (λ e l. no-quorum (s .node .n) f h) (λ e l. absurd (omega arith))))

@@ -12,11 +12,12 @@ use Rattle.view.specs.Size.{nodes}
 use Rattle.wire.specs.Layout.{oneSize, twoSize, valueSize, goodSize, messageSize}
 use Rattle.wire.specs.declared.Message.{Message}
 use Rattle.wire.specs.declared.Message.the-variants.{Echo}
-use Rattle.table.specs.Quorum.{membersIn, isQuorum, agreeing}
+use Rattle.table.specs.Quorum.{membersIn, isQuorum}
 use Rattle.record.specs.declared.Node.{Node}
 use Rattle.record.specs.declared.Wait.{Wait}
 use Rattle.record.specs.declared.Wait.the-variants.{Idle, Reading, Writing, Comparing, Borrowing}
 use Rattle.step.specs.Allowed.{lawful}
+use Rattle.step.specs.Move.{agreement}
 
 -- the tables that a value is stored in have the length that their type says
 pub record Long (c : Node) : Type 0 where
@@ -54,7 +55,7 @@ abbrev pub MustWait : ℕ → Node → Wait → Type 0
 MustWait f c Idle = Unit {0}
 MustWait f c (Reading o a m) = isQuorum (c .n) f (membersIn (c .n) a) ≡ false
 MustWait f c (Writing k i r a) = isQuorum (c .n) f (membersIn (c .n) a) ≡ false
-MustWait f c (Comparing k i r) = isQuorum (c .n) f (agreeing (c .n) (c .own) (c .heard) (c .atround .tags)) ≡ false
+MustWait f c (Comparing k i r) = agreement f c ≡ false
 MustWait f c (Borrowing k r) = leb r (c .kept) ≡ false
 
 -- whether read answers are awaited, or write answers

@@ -2,6 +2,7 @@
 -- of each is enough: what a pass leads to, a later one takes up, and a round that opens has no answers yet.
 -- Assumes nothing.
 use Prim.Native.Nat.{ℕ, _+_, max}
+use mathlib.Core.Bool.{Bool}
 use lib.Dec.{leb, ltb, eqb}
 use Rattle.wire.specs.declared.Message.the-variants.{Read, Write, Value, Good}
 use Rattle.wire.specs.declared.Message.{Message}
@@ -88,11 +89,14 @@ afterFailed s c k i r =
     (One (writing c (nextTag (c .maxtag) i r))) noView)
     (afterComparing s (closed c (Borrowing k r)) Nothing noView)
 
+-- Line 15: a quorum agrees on the reports held for the open round.
+abbrev pub agreement : ℕ → Node → Bool
+agreement f c = isQuorum (c .n) f (agreeing (c .n) (c .own) (c .heard) (c .atround .tags))
+
 -- Lines 15 to 17: a quorum agrees; the round is good where maxtag has not passed its tag.
 unfoldable pub comparePass : ℕ → Step → Node → Wait → Step
 comparePass f s c (Comparing k i r) =
-    pick (isQuorum (c .n) f (agreeing (c .n) (c .own) (c .heard) (c .atround .tags)))
-    (pick (leb (c .maxtag) r) (afterGood s c k i r) (afterFailed s c k i r)) s
+    pick (agreement f c) (pick (leb (c .maxtag) r) (afterGood s c k i r) (afterFailed s c k i r)) s
 comparePass f s c Idle = s
 comparePass f s c (Reading o a m) = s
 comparePass f s c (Writing k i r a) = s

@@ -26,7 +26,7 @@ use Rattle.step.specs.declared.Step.{Step}
 use Rattle.step.specs.declared.Rule.the-variants.{Borrowed}
 use Rattle.step.specs.Claims.{MustWait}
 use Rattle.step.specs.Step.{started, ended, endingOf}
-use Rattle.step.specs.Move.{opened, afterRead, lentView, afterGood, afterFailed, moveOn, begun}
+use Rattle.step.specs.Move.{agreement, opened, afterRead, lentView, afterGood, afterFailed, moveOn, begun}
 use Rattle.step.specs.Move.{readPass, writePass, comparePass, borrowPass, reads, writes, compares, borrows}
 use Rattle.step.proofs.Numbers.{on-pick}
 use Rattle.step.proofs.Turns.{reads-on}
@@ -37,7 +37,7 @@ use Rattle.region.specs.declared.head.Head.{Head}
 use Rattle.react_bytes.proofs.Sections.{tables-of, assembled}
 use Rattle.step_bytes.specs.declared.Effect.{Effect}
 use Rattle.step_bytes.specs.declared.Plan.the-variants.{Rest}
-use Rattle.step_bytes.specs.Moved.{isStep, restedOf, agreement, afterAgreement, Leads}
+use Rattle.step_bytes.specs.Moved.{isStep, restedOf, afterAgreement, Leads}
 
 module _ (f : ℕ) (s : Step) where
   -- where it must wait, it does not move

@@ -7,12 +7,13 @@ use lib.ListN.{length, length-replicate}
 use Rattle.view.specs.Report.{noReport}
 use Rattle.view.specs.Size.{limit, nodes}
 use Rattle.view.specs.View.{noView}
-use Rattle.table.specs.Quorum.{membersIn, isQuorum, agreeing}
+use Rattle.table.specs.Quorum.{membersIn, isQuorum}
 use Rattle.record.specs.declared.Node.{Node}
 use Rattle.record.specs.declared.Operation.{Operation}
 use Rattle.record.specs.declared.Operation.the-variants.{Update, Scan}
 use Rattle.record.specs.declared.Wait.{Wait}
 use Rattle.record.specs.declared.Wait.the-variants.{Idle, Reading, Writing, Comparing, Borrowing}
+use Rattle.step.specs.Move.{agreement}
 use Rattle.step.specs.Move.{readPass, writePass, comparePass, borrowPass, reads, writes, compares, moveOn, begun}
 use Rattle.step.specs.Move.{opened, afterRead, afterGood, afterFailed}
 use Rattle.step.specs.declared.Step.{Step}
@@ -57,8 +58,7 @@ module _ (f : ℕ) (s : Step) (z : Held s) where
   compare-holds : (w : Wait) → Held (comparePass f s (s .node) w)
   unfolding comparePass afterGood afterFailed opened
   compare-holds (Comparing k i r) =
-      on-pick Held (isQuorum (s .node .n) f (agreeing (s .node .n) (s .node .own) (s .node .heard)
-      (s .node .atround .tags))) _ _
+      on-pick Held (agreement f (s .node)) _ _
       (λ e. on-pick Held (leb (s .node .maxtag) r) _ _
       (λ e. on-pick Held (eqb i 0) _ _ (λ e. sized-newest _ _ _) (λ e. sized-none))
       (λ e. on-pick Held (ltb i 3) _ _ (λ e. sized-newest _ _ _) (λ e. sized-none)))

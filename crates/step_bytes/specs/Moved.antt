@@ -9,7 +9,6 @@ use Rattle.octets.specs.Test.{pick}
 use Rattle.view.specs.Size.{limit}
 use Rattle.view.specs.View.{noView}
 use Rattle.view.specs.declared.View.{View}
-use Rattle.table.specs.Quorum.{isQuorum, agreeing}
 use Rattle.record.specs.Record.{withWait, closed}
 use Rattle.record.specs.declared.Node.{Node}
 use Rattle.record.specs.declared.Kind.{Kind}
@@ -47,11 +46,7 @@ effect s = record { outbox = s .outbox; ending = s .ending; view = s .view }
 abbrev pub isStep : Effect → List ℕ → Step → Type 0
 isStep e r s = (e ≡ effect s) × (r ≡ recordBytes (s .node))
 
--- Whether a quorum agrees on the reports held for the open round of a record.
-abbrev pub agreement : ℕ → Node → Bool
-agreement f c = isQuorum (c .n) f (agreeing (c .n) (c .own) (c .heard) (c .atround .tags))
-
--- What follows it, where the round is i with tag t.
+-- What follows agreement, where the round is i with tag t.
 abbrev pub afterAgreement : Step → Kind → (i t : ℕ) → Step
 afterAgreement s k i t =
     pick (leb (s .node .maxtag) t) (afterGood s (s .node) k i t) (borrows (afterFailed s (s .node) k i t))

@@ -16,8 +16,8 @@ ghost use Rattle.view.specs.Size.{nodes};
 ghost use Rattle.table.specs.Loop.{all};
 ghost use Rattle.table.specs.Table.{tagOf, heardOf, cells};
 ghost use Rattle.table.specs.Quorum.{agreeing};
+ghost use Rattle.step.specs.Move.{agreement};
 ghost use Rattle.region.specs.Record.{recordSize, recordOf, heardPlace, viewIn, atroundIn};
-ghost use Rattle.step_bytes.specs.Moved.{agreement};
 
 // Whether sender s has sent, for each writer, the report held for the open round or a later one.
 fn has_sent(r: &[u8], n: usize, s: usize) -> bool
