@@ -262,7 +262,7 @@ lawful-append : (n : ℕ) (v : View) (a b : List Message) → AllLawful n v a �
 lawful-append n v [] b x y = y
 lawful-append n v (m ∷ a) b x y = (x .0, lawful-append n v a b (x .1) y)
 
-sizes-append : (n : ℕ) (a b : List Message) → sizes n (a ++ b) ≡ sizes n a + sizes n b
+pub sizes-append : (n : ℕ) (a b : List Message) → sizes n (a ++ b) ≡ sizes n a + sizes n b
 sizes-append n [] b = omega arith
 sizes-append n (m ∷ a) b = ap (λ (x : ℕ). messageSize n m + x) (sizes-append n a b)
     ∙ sym (add-assoc (messageSize n m) (sizes n a) (sizes n b))

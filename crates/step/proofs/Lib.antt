@@ -1,6 +1,9 @@
 pub mod Allowed
+pub mod Budget
+pub mod Ends
 pub mod Exclusive
 pub mod Handled
+pub mod Judged
 pub mod Lawful
 pub mod Numbers
 pub mod Safe

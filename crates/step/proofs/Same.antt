@@ -11,11 +11,13 @@ use Rattle.wire.specs.declared.Message.the-variants.{Read, ReadAnswer, Write, W
 use Rattle.table.specs.Quorum.{member, membersIn, isQuorum}
 use Rattle.record.specs.Record.{setWait}
 use Rattle.record.specs.declared.Node.{Node}
+use Rattle.record.specs.declared.Operation.{Operation}
 use Rattle.record.specs.declared.Operation.the-variants.{Update, Scan}
+use Rattle.record.specs.declared.Kind.{Kind}
 use Rattle.record.specs.declared.Wait.{Wait}
 use Rattle.record.specs.declared.Wait.the-variants.{Idle, Reading, Writing, Comparing, Borrowing}
 use Rattle.step.specs.declared.Step.{Step}
-use Rattle.step.specs.React.{raised, received, keep, react}
+use Rattle.step.specs.React.{raised, readWait, writeWait, received, keep, react}
 use Rattle.step.specs.Move.{agreement}
 use Rattle.step.specs.Move.{opened, afterRead, readPass, writePass, afterGood, afterFailed, comparePass}
 use Rattle.step.specs.Move.{borrowPass, reads, writes, compares, borrows, moveOn}
@@ -102,3 +104,39 @@ module _ {X : Type 0} (g : Node → X) (same : (c : Node) (q : ℕ) (w : Wait) (
   react-keeps c s (Echo t) v a b d = a t
   react-keeps c s (Value t w p) v a b d = b w t p
   react-keeps c s (Good t) v a b d = d t
+
+-- An answer changes of the wait no more than who is counted and the largest tag answered, and no other message changes
+-- it: g is whatever is read of a wait beside those.
+module _ {X : Type 0} (g : Wait → X) (reading : (o : Operation) (a m b k : ℕ) → g (Reading o a m) ≡ g (Reading o b k))
+    (writing : (k : Kind) (i r a b : ℕ) → g (Writing k i r a) ≡ g (Writing k i r b)) where
+  read-wait-keeps : (request s q t : ℕ) (w : Wait) → g (readWait request s q t w) ≡ g w
+  read-wait-keeps request s q t (Reading o a m) =
+      on-pick (λ (w : Wait). g w ≡ g (Reading o a m)) (eqb q request) _ _
+      (λ e. on-pick (λ (w : Wait). g w ≡ g (Reading o a m)) (member a s) _ _ (λ e. refl) (λ e. reading o _ _ a m))
+      (λ e. refl)
+  read-wait-keeps request s q t Idle = refl
+  read-wait-keeps request s q t (Writing k i r a) = refl
+  read-wait-keeps request s q t (Comparing k i r) = refl
+  read-wait-keeps request s q t (Borrowing k r) = refl
+
+  write-wait-keeps : (request s q t : ℕ) (w : Wait) → g (writeWait request s q t w) ≡ g w
+  write-wait-keeps request s q t (Writing k i r a) =
+      on-pick (λ (w : Wait). g w ≡ g (Writing k i r a)) (eqb q request) _ _
+      (λ e. on-pick (λ (w : Wait). g w ≡ g (Writing k i r a)) (eqb t r) _ _
+      (λ e. on-pick (λ (w : Wait). g w ≡ g (Writing k i r a)) (member a s) _ _ (λ e. refl) (λ e. writing k i r _ a))
+      (λ e. refl))
+      (λ e. refl)
+  write-wait-keeps request s q t Idle = refl
+  write-wait-keeps request s q t (Reading o a m) = refl
+  write-wait-keeps request s q t (Comparing k i r) = refl
+  write-wait-keeps request s q t (Borrowing k r) = refl
+
+  pub react-wait : (c : Node) (s : ℕ) (m : Message) (v : View) → g (react c s m v .node .wait) ≡ g (c .wait)
+  unfolding react raised received keep
+  react-wait c s (Read q) v = refl
+  react-wait c s (ReadAnswer q t) v = read-wait-keeps (c .request) s q t (c .wait)
+  react-wait c s (Write q t) v = refl
+  react-wait c s (WriteAnswer q t) v = write-wait-keeps (c .request) s q t (c .wait)
+  react-wait c s (Echo t) v = refl
+  react-wait c s (Value t w p) v = refl
+  react-wait c s (Good t) v = refl

@@ -41,7 +41,7 @@ abbrev At : ℕ → ℕ → Step → Type 0
 At f k s = Past f k (s .node) (s .node .wait)
 
 -- the step with another wait
-abbrev with-wait : Step → Wait → Step
+abbrev pub with-wait : Step → Wait → Step
 with-wait s w = ended s (withWait (s .node) w) (s .ending) (s .view)
 
 module _ (f : ℕ) (s : Step) (h : f < s .node .n) where

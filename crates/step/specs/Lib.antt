@@ -1,5 +1,7 @@
 pub mod Allowed
+pub mod Budget
 pub mod Claims
+pub mod Ends
 pub mod Move
 pub mod React
 pub mod Stale
