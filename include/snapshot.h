@@ -22,6 +22,9 @@
  *   5. A record is never put back from an older copy (it may be moved: it holds no address). A node that has lost its
  *      record, or that was interrupted in the middle of a call or of sending, has stopped and does not come back.
  *   6. All nodes have the same n, each its own number, and each starts from snapshot_node_fresh.
+ *   7. A link may hand over its oldest messages together, whole and in their order, as a frame (snapshot_node_frame).
+ *      Who packs messages before they are sent owes rule 2 all the same: no message leaves in a frame for one node
+ *      before all that stand before it have left for the others.
  * Fewer than half of the nodes may stop: f of n, where f is the largest whole number with 2f < n. While no more have,
  * each operation at a standing node is to end, once all messages to standing nodes are handed over. Both are proved of
  * the algorithm on links with room for anything. Of each call here it is proved that it does what its definition says,
@@ -47,8 +50,8 @@
  *     the call is written, and every other lent byte is as it was.
  *   - It always returns. It has no state but what is lent, keeps no pointer, and neither allocates, blocks nor makes a
  *     system call. Of other code it calls memcpy and memset alone.
- *   - It takes little stack, in bytes: of one node a begin 500, a message 3900; of a cluster fresh 2200, a begin 6900,
- *     a delivery 6800, a stop 300; all others 200. This is measured on x86-64 Linux, where no round fails
+ *   - It takes little stack, in bytes: of one node a begin 500, a message 4200, a frame 4600; of a cluster fresh 2200,
+ *     a begin 6900, a delivery 6800, a stop 300; all others 200. This is measured on x86-64 Linux, where no round fails
  *     (examples/c/stack.c), and rounded up: it is no proved bound.
  */
 #ifndef SNAPSHOT_H
@@ -76,11 +79,17 @@
 /* The record of one node, as snapshot_node_size() answers. */
 #define SNAPSHOT_RECORD 3168
 
-/* The least length of an output. The messages of one call take at most 341 of it. */
+/* The least length of an output, but for a frame's. The messages of one begin or one message take at most 341 of it. */
 #define SNAPSHOT_OUTPUT 512
 
 /* The longest message: a good one of sixteen nodes. */
 #define SNAPSHOT_LONGEST 274
+
+/* The longest frame: whole messages of one sender, one after the other. */
+#define SNAPSHOT_FRAME 1500
+
+/* The least length of an output for a frame. What its messages give rise to never takes more. */
+#define SNAPSHOT_FRAME_OUTPUT 8192
 
 /* A cluster of n nodes, n from 1 to 16, as snapshot_size(n) answers: for the length of an array. */
 #define SNAPSHOT_CLUSTER(n) (1 + 73345 * (n))
@@ -98,7 +107,8 @@ enum snapshot_refusal {
     SNAPSHOT_REFUSED_VALUE = 9,     /* a value that cannot come now: a link has lost, repeated or swapped messages */
     SNAPSHOT_REFUSED_STOPS = 10,    /* f nodes have stopped, and this would be one more */
     SNAPSHOT_REFUSED_FULL = 11,     /* a channel of the cluster would hold more than 16 messages */
-    SNAPSHOT_REFUSED_LENGTH = 12    /* a lent length is not the one that is asked, or is below the least */
+    SNAPSHOT_REFUSED_LENGTH = 12,   /* a lent length is not the one that is asked, or is below the least */
+    SNAPSHOT_REFUSED_FRAME = 14     /* a frame is empty, or longer than SNAPSHOT_FRAME */
 };
 
 /* The other codes. The last digit of 100 to 113 is the rule that ended the operation: 0, its three rounds failed and it
@@ -130,7 +140,7 @@ enum snapshot_kind {
 /* Where a message of an output goes. */
 enum snapshot_route {
     SNAPSHOT_TO_ALL = 0,            /* to nodes 1 to n in turn, the sending one among them */
-    SNAPSHOT_TO_SENDER = 1          /* to the sender of the message that was handled */
+    SNAPSHOT_TO_SENDER = 1          /* to the sender of the message, or of the frame, that was handled */
 };
 
 /* What a code says: each is SNAPSHOT_TAKEN, SNAPSHOT_SPENT, or one of these three. */
@@ -174,7 +184,7 @@ size_t snapshot_node_size(void);
 uint8_t snapshot_node_fresh(size_t n, size_t own, uint8_t *state, size_t state_len);
 
 /* Begins an update with this report. The messages to send stand in out[0] to out[*length - 1]: walk them with
- * snapshot_next. The update ends in a later snapshot_node_message.
+ * snapshot_next. The update ends in a later snapshot_node_message or snapshot_node_frame.
  *   12  state_len is not SNAPSHOT_RECORD, or out_len is below SNAPSHOT_OUTPUT
  *   2   the record is unusable
  *   5   an operation is open
@@ -202,8 +212,23 @@ uint8_t snapshot_node_begin_scan(uint8_t *state, size_t state_len, uint8_t *out,
 uint8_t snapshot_node_message(uint8_t *state, size_t state_len, size_t sender, const uint8_t *bytes, size_t bytes_len,
                               uint8_t *out, size_t out_len, size_t *length, uint8_t view[SNAPSHOT_VIEW]);
 
+/* Hands over a frame that node `sender` has sent to this one: one or more whole messages, one after the other. It does
+ * what snapshot_node_message does with each in turn. All messages that they give rise to stand in out[0] to
+ * out[*length - 1], in the order in which they came up.
+ *   12  state_len is not SNAPSHOT_RECORD, or out_len is below SNAPSHOT_FRAME_OUTPUT
+ *   2   the record is unusable
+ *   3   sender is not 1 to n
+ *   14  frame_len is 0 or above SNAPSHOT_FRAME
+ *   7   one of the messages, wherever it stands, is not of the layout
+ *   9   one of them is a value that cannot come now, as above, on the record as those before it have left it
+ * One fault anywhere in a frame, and nothing of it takes effect. A node that meets one should stop for good, as above.
+ * Answers 0 or the code of the ending, as above: a frame ends one operation at the most. Writes the record, the first
+ * *length bytes of out, *length, and, only where a scan ended, the view. */
+uint8_t snapshot_node_frame(uint8_t *state, size_t state_len, size_t sender, const uint8_t *frame, size_t frame_len,
+                            uint8_t *out, size_t out_len, size_t *length, uint8_t view[SNAPSHOT_VIEW]);
+
 /* The message at the front of the bytes: how long it is, and where it goes (enum snapshot_route). An output of *length
- * bytes is walked so:
+ * bytes is walked so, and so is a frame:
  *     for (at = 0; at < length; at += k) { snapshot_next(n, out + at, length - at, &k, &route); send out[at] to .. }
  *   1   n is not 1 to 16
  *   7   no message of the layout stands at the front

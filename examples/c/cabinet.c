@@ -1,24 +1,24 @@
 /* One cabinet of a house as a program of its own: cabinet N OWN, the number of cabinets and its own. It steps on what
  * comes in on standard input and writes what is to be sent to standard output; the program around it owns the links.
  *
- * Standard input is a row of commands, standard output one of frames. Lengths have two bytes, high byte first.
+ * Standard input is a row of commands, standard output one of messages. Lengths have two bytes, high byte first.
  *   'u', 8 bytes                           begin an update with this report
  *   's'                                    begin a scan
- *   'm', sender, length, message           a message of that cabinet, 1 to N, has come in
+ *   'm', sender, length, frame             one or more messages of that cabinet, 1 to N, have come in
  *   receiver, length, message              (out) send this message to that cabinet, 1 to N, or to all where it is 0
  *
- * To plug it to links: put each frame that comes out on its link or, for receiver 0, on the links to cabinets 1 to N in
- * turn, before the next frame; the link to the cabinet itself leads back to its own standard input. What a link brings
- * from cabinet s goes in as 'm', s, length, message. Go on reading while you write, or the two may wait for each other.
- * Both ends block: a read waits for input, a write for room.
+ * To plug it to links: put each message that comes out on its link or, for receiver 0, on the links to cabinets 1 to N
+ * in turn, before the next message; the link to the cabinet itself leads back to its own standard input. What a link
+ * brings from cabinet s, one message or some in a frame, goes in as 'm', s, length, frame. Go on reading while you
+ * write, or the two may wait for each other. Both ends block: a read waits for input, a write for room.
  *
  * Endings, and refusals of a begin, are told in a line each on standard error, after all messages of the step are out.
- * A message that is refused was not sent so by a cabinet of this house, or a link has lost something. Then the cabinet
+ * A frame that is refused was not sent so by a cabinet of this house, or a link has lost something. Then the cabinet
  * stops, which the others can bear, for to go on without a message is what they cannot. The record is nowhere but in
  * this process: a cabinet that has ended does not come back.
  *
  * Exit status: 0 at the end of input, 1 for wrong arguments, 2 where input is broken (another command, an end within a
- * command, a message too long, a message that is refused, a failed read), 3 where output cannot be written.
+ * command, a frame too long, a frame that is refused, a failed read), 3 where output cannot be written.
  *
  * Nothing is allocated. */
 #define _POSIX_C_SOURCE 200809L
@@ -33,11 +33,11 @@
 
 enum { ENDED = 0, BAD_ARGUMENTS = 1, BROKEN_INPUT = 2, NO_OUTPUT = 3 }; /* exit status */
 
-#define FRAME_HEAD 3 /* receiver, length */
+#define HEAD 3 /* sender or receiver, length */
 
 static size_t n;
 static uint8_t record[SNAPSHOT_RECORD];
-static uint8_t out[SNAPSHOT_OUTPUT];
+static uint8_t out[SNAPSHOT_FRAME_OUTPUT];
 static size_t length; /* of the messages in out */
 static uint8_t view[SNAPSHOT_VIEW];
 
@@ -47,7 +47,7 @@ static void stop(int status, const char *why)
     exit(status);
 }
 
-/* What a begin or a message may be refused for. The other refusals are of other calls, or of lengths. */
+/* What a begin or a frame may be refused for. The other refusals are of other calls, or of lengths. */
 static const char *reason(uint8_t refusal)
 {
     switch (refusal) {
@@ -60,9 +60,11 @@ static const char *reason(uint8_t refusal)
     case SNAPSHOT_REFUSED_REQUESTS:
         return "too few request numbers are left";
     case SNAPSHOT_REFUSED_LAYOUT:
-        return "the bytes are not one message of the layout";
+        return "the bytes are not messages of the layout";
     case SNAPSHOT_REFUSED_VALUE:
         return "a value came that cannot come now";
+    case SNAPSHOT_REFUSED_FRAME:
+        return "a frame is empty or too long";
     default:
         return "the call was refused";
     }
@@ -108,7 +110,7 @@ static void give(const uint8_t *bytes, size_t count)
     }
 }
 
-/* Writes a frame for each message in out, in their order. `sender` is that of the message handled; a begin has none. */
+/* Writes the messages in out in their order, each after its head. `sender` is the frame's; a begin has none. */
 static void send_output(uint8_t sender)
 {
     size_t count = 0;
@@ -116,12 +118,12 @@ static void send_output(uint8_t sender)
         uint8_t route = SNAPSHOT_TO_ALL;
         if (snapshot_next(n, out + at, length - at, &count, &route) != SNAPSHOT_TAKEN)
             stop(NO_OUTPUT, "the output is not a row of messages");
-        uint8_t frame[FRAME_HEAD + SNAPSHOT_LONGEST];
-        frame[0] = route == SNAPSHOT_TO_SENDER ? sender : 0;
-        frame[1] = (uint8_t)(count >> 8);
-        frame[2] = (uint8_t)(count & 0xff);
-        memcpy(frame + FRAME_HEAD, out + at, count);
-        give(frame, FRAME_HEAD + count);
+        uint8_t message[HEAD + SNAPSHOT_LONGEST];
+        message[0] = route == SNAPSHOT_TO_SENDER ? sender : 0;
+        message[1] = (uint8_t)(count >> 8);
+        message[2] = (uint8_t)(count & 0xff);
+        memcpy(message + HEAD, out + at, count);
+        give(message, HEAD + count);
     }
 }
 
@@ -145,16 +147,15 @@ static void begin_scan(void)
     finish_begin(snapshot_node_begin_scan(record, sizeof record, out, sizeof out, &length));
 }
 
-static void message(void)
+static void messages(void)
 {
-    uint8_t head[FRAME_HEAD], bytes[SNAPSHOT_LONGEST];
+    uint8_t head[HEAD], frame[SNAPSHOT_FRAME];
     take_rest(head, sizeof head);
     size_t count = (size_t)head[1] << 8 | head[2];
-    if (count > sizeof bytes)
-        stop(BROKEN_INPUT, "no message is so long");
-    take_rest(bytes, count);
-    uint8_t code =
-        snapshot_node_message(record, sizeof record, head[0], bytes, count, out, sizeof out, &length, view);
+    if (count > sizeof frame)
+        stop(BROKEN_INPUT, "no frame is so long");
+    take_rest(frame, count);
+    uint8_t code = snapshot_node_frame(record, sizeof record, head[0], frame, count, out, sizeof out, &length, view);
     if (snapshot_is_refusal(code))
         stop(BROKEN_INPUT, reason(code));
     send_output(head[0]);
@@ -195,7 +196,7 @@ int main(int argc, char **argv)
             begin_scan();
             break;
         case 'm':
-            message();
+            messages();
             break;
         default:
             stop(BROKEN_INPUT, "no such command");

@@ -29,15 +29,15 @@ static struct region *const regions[] = {&record, &out,   &length,  &view, &byte
 
 /* What the calls have made so far: the record of a node of n, its messages, oldest first, and a cluster. */
 static size_t n = 1;
-static uint8_t node[SNAPSHOT_RECORD], link[4096], house[SNAPSHOT_CLUSTER(NODES)];
+static uint8_t node[SNAPSHOT_RECORD], link[SNAPSHOT_FRAME_OUTPUT], house[SNAPSHOT_CLUSTER(NODES)];
 static size_t waiting; /* bytes on the link */
 static size_t front;   /* the length of its first message */
 
-enum { NODE_FRESH, NODE_UPDATE, NODE_SCAN, NODE_MESSAGE, NEXT, READ, WRITE, FIGURES };
+enum { NODE_FRESH, NODE_UPDATE, NODE_SCAN, NODE_MESSAGE, NODE_FRAME, NEXT, READ, WRITE, FIGURES };
 enum { FRESH = FIGURES + 1, UPDATE, SCAN, DELIVER, STOP };
 
-static const char *const names[] = {"node fresh", "node update", "node scan", "node message", "next", "read", "write",
-                                    "figures", "fresh", "update", "scan", "deliver", "stop"};
+static const char *const names[] = {"node fresh", "node update", "node scan", "node message", "node frame", "next",
+                                    "read", "write", "figures", "fresh", "update", "scan", "deliver", "stop"};
 
 #define CALLS (sizeof names / sizeof *names)
 
@@ -100,10 +100,10 @@ static void *lend(struct region *r, size_t count, const void *given, size_t give
 /* Lends random bytes. */
 static void *lend_any(struct region *r, size_t count)
 {
-    uint8_t any[SNAPSHOT_OUTPUT + 1];
-    for (size_t i = 0; i < sizeof any; i++)
+    uint8_t any[SNAPSHOT_FRAME_OUTPUT + 1];
+    for (size_t i = 0; i < count; i++)
         any[i] = (uint8_t)below(UINT8_MAX + 1);
-    return lend(r, count, any, sizeof any);
+    return lend(r, count, any, count);
 }
 
 /* The region is as it was from this byte on. */
@@ -161,6 +161,25 @@ static void call_node_begin(bool scan)
     }
 }
 
+/* Takes so many bytes off the link. */
+static void take(size_t count)
+{
+    waiting = waiting < count ? 0 : waiting - count;
+    memmove(link, link + count, waiting);
+}
+
+/* Looks at what a call has left that hands messages over. */
+static void look_at_message(size_t call, uint8_t code)
+{
+    if (accepted(call, code)) {
+        memcpy(node, record.at, sizeof node);
+        kept(&bytes, 0);
+        if (!snapshot_is_scan(code))
+            kept(&view, 0);
+        send_output();
+    }
+}
+
 static void call_node_message(void)
 {
     size_t size = about_length(SNAPSHOT_RECORD), room = about_length(SNAPSHOT_OUTPUT), given = about_length(front);
@@ -168,16 +187,35 @@ static void call_node_message(void)
     uint8_t *r = lend(&record, size, node, sizeof node), *message = lend(&bytes, given, link, front);
     uint8_t *o = lend_any(&out, room), *shown = lend_any(&view, SNAPSHOT_VIEW);
     size_t *count = lend_any(&length, sizeof *count);
-    uint8_t code = snapshot_node_message(r, size, sender, message, given, o, room, count, shown);
-    waiting = waiting < front ? 0 : waiting - front;
-    memmove(link, link + front, waiting);
-    if (accepted(NODE_MESSAGE, code)) {
-        memcpy(node, record.at, sizeof node);
-        kept(&bytes, 0);
-        if (!snapshot_is_scan(code))
-            kept(&view, 0);
-        send_output();
-    }
+    take(front);
+    look_at_message(NODE_MESSAGE, snapshot_node_message(r, size, sender, message, given, o, room, count, shown));
+}
+
+/* Packs the first messages of the link, or the first one over and over, to a full frame or one that is too long. */
+static size_t pack(uint8_t frame[SNAPSHOT_FRAME + SNAPSHOT_LONGEST])
+{
+    size_t packed = 0, count = front;
+    bool over = below(10) == 0;
+    uint8_t to = 0;
+    do {
+        memcpy(frame + packed, over ? link : link + packed, count);
+        packed += count;
+    } while (packed < SNAPSHOT_FRAME &&
+             (over || (packed < waiting && below(16) > 0 &&
+                       snapshot_next(n, link + packed, waiting - packed, &count, &to) == SNAPSHOT_TAKEN)));
+    take(over ? front : packed);
+    return packed;
+}
+
+static void call_node_frame(void)
+{
+    uint8_t frame[SNAPSHOT_FRAME + SNAPSHOT_LONGEST];
+    size_t packed = pack(frame), given = about_length(packed), sender = about(1 + below(n));
+    size_t size = about_length(SNAPSHOT_RECORD), room = about_length(SNAPSHOT_FRAME_OUTPUT);
+    uint8_t *r = lend(&record, size, node, sizeof node), *messages = lend(&bytes, given, frame, packed);
+    uint8_t *o = lend_any(&out, room), *shown = lend_any(&view, SNAPSHOT_VIEW);
+    size_t *count = lend_any(&length, sizeof *count);
+    look_at_message(NODE_FRAME, snapshot_node_frame(r, size, sender, messages, given, o, room, count, shown));
 }
 
 static void call_next(void)
@@ -255,6 +293,8 @@ static void call_some(void)
         call_node_fresh();
     else if (some < 20 || (some < 700 && waiting == 0))
         call_node_begin(below(2) == 0);
+    else if (some < 80)
+        call_node_frame();
     else if (some < 700)
         call_node_message();
     else if (some < 750)

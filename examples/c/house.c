@@ -1,6 +1,7 @@
 /* A house of three cabinets in one program, each a node with a record of its own, and the links between them as queues:
  * what links owe (include/snapshot.h), in code. Node 1 updates; when that is done, node 3 scans. Which link hands over
- * its oldest message next is random, from a fixed seed. It prints the endings and the house figures. */
+ * next is random, from a fixed seed, and so is how many of its oldest messages it packs in a frame. It prints the
+ * endings and the house figures. */
 #include "print.h"
 #include "snapshot.h"
 #include <stdio.h>
@@ -23,7 +24,7 @@ struct link {
 
 static uint8_t records[NODES + 1][SNAPSHOT_RECORD]; /* of node k at k; 0 is not used */
 static struct link links[NODES + 1][NODES + 1];     /* from a node to a node, also to itself */
-static uint8_t out[SNAPSHOT_OUTPUT];
+static uint8_t out[SNAPSHOT_FRAME_OUTPUT];
 static size_t length; /* of the messages in out */
 static uint8_t view[SNAPSHOT_VIEW];
 
@@ -49,7 +50,7 @@ static void put(struct link *link, const uint8_t *bytes, size_t count)
 }
 
 /* Sends what stands in out: the messages in their order, each to all its receivers before the next to any. `asker` is
- * the sender of the message that was handled; a begin has none, and no message for it. */
+ * the sender of the frame that was handled; a begin has none, and no message for it. */
 static void send_output(size_t own, size_t asker)
 {
     size_t count = 0;
@@ -65,16 +66,36 @@ static void send_output(size_t own, size_t asker)
     }
 }
 
-/* Hands the oldest message of a link over. Its ending is told only after all that it gives rise to was sent. */
+/* A number below the bound, by a generator of Lehmer's. */
+static size_t below(size_t bound)
+{
+    static uint32_t state = 2026;
+    state = (uint32_t)((uint64_t)state * 48271 % 2147483647);
+    return state % bound;
+}
+
+/* Packs some of the oldest messages of a link, on which at least one waits. Answers the length of the frame. */
+static size_t pack(struct link *link, uint8_t frame[SNAPSHOT_FRAME])
+{
+    size_t packed = 0;
+    do {
+        const struct message *message = &link->waiting[link->first];
+        memcpy(frame + packed, message->bytes, message->length);
+        packed += message->length;
+        link->first = (link->first + 1) % ROOM;
+        link->count--;
+    } while (link->count > 0 && packed + link->waiting[link->first].length <= SNAPSHOT_FRAME && below(4) > 0);
+    return packed;
+}
+
+/* Hands a frame of a link over. Its ending is told only after all that it gives rise to was sent. */
 static void hand_over(size_t from, size_t to)
 {
-    struct link *link = &links[from][to];
-    const struct message *message = &link->waiting[link->first];
-    uint8_t code = snapshot_node_message(records[to], SNAPSHOT_RECORD, from, message->bytes, message->length, out,
-                                         sizeof out, &length, view);
-    expect_taken("message", code);
-    link->first = (link->first + 1) % ROOM;
-    link->count--;
+    uint8_t frame[SNAPSHOT_FRAME];
+    size_t packed = pack(&links[from][to], frame);
+    uint8_t code =
+        snapshot_node_frame(records[to], SNAPSHOT_RECORD, from, frame, packed, out, sizeof out, &length, view);
+    expect_taken("frame", code);
     send_output(to, from);
     if (snapshot_is_done(code))
         printf("done %zu\n", to);
@@ -83,14 +104,6 @@ static void hand_over(size_t from, size_t to)
         print_view(stdout, NODES, view);
         printf("\n");
     }
-}
-
-/* A number below the bound, by a generator of Lehmer's. */
-static size_t below(size_t bound)
-{
-    static uint32_t state = 2026;
-    state = (uint32_t)((uint64_t)state * 48271 % 2147483647);
-    return state % bound;
 }
 
 /* Hands messages over until none waits: those of a random link on which some do, each time. */

@@ -18,11 +18,11 @@ static uint8_t view[SNAPSHOT_VIEW];
 static size_t n; /* the nodes that run one by one */
 static uint8_t records[SNAPSHOT_NODES][SNAPSHOT_RECORD];
 static size_t own; /* the node that is called */
-static uint8_t out[SNAPSHOT_OUTPUT];
+static uint8_t out[SNAPSHOT_FRAME_OUTPUT];
 static size_t length; /* of the messages in out */
 static uint8_t cluster[SNAPSHOT_CLUSTER(SNAPSHOT_NODES)];
 static size_t from, to; /* the channel of a delivery; a node's message comes from `from` too */
-static const uint8_t *message;
+static const uint8_t *message; /* or a frame */
 static size_t message_length;
 static uint8_t route;
 static uint64_t numbers[4];
@@ -46,6 +46,11 @@ static void node_message(void)
 {
     code = snapshot_node_message(records[own - 1], SNAPSHOT_RECORD, from, message, message_length, out, sizeof out,
                                  &length, view);
+}
+static void node_frame(void)
+{
+    code = snapshot_node_frame(records[own - 1], SNAPSHOT_RECORD, from, message, message_length, out, sizeof out,
+                               &length, view);
 }
 static void size(void) { code = snapshot_size(SNAPSHOT_NODES) != sizeof cluster; }
 static void fresh(void) { code = snapshot_fresh(SNAPSHOT_NODES, cluster, sizeof cluster); }
@@ -71,7 +76,8 @@ static struct call {
     {"snapshot_node_fresh", node_fresh, 200, 0},
     {"snapshot_node_begin_update", node_update, 500, 0},
     {"snapshot_node_begin_scan", node_scan, 500, 0},
-    {"snapshot_node_message", node_message, 3900, 0},
+    {"snapshot_node_message", node_message, 4200, 0},
+    {"snapshot_node_frame", node_frame, 4600, 0},
     {"snapshot_size", size, 200, 0},
     {"snapshot_fresh", fresh, 2200, 0},
     {"snapshot_begin_update", update, 6900, 0},
@@ -171,8 +177,8 @@ static void send_output(void)
     }
 }
 
-/* Begins an operation at node 1 and hands over every message of the nodes, until none is left. */
-static void exchange(void (*begin)(void))
+/* Begins an operation at node 1 and hands over every message of the nodes by this call, until none is left. */
+static void exchange(void (*begin)(void), void (*hand_over)(void))
 {
     own = 1;
     first = last = 0;
@@ -184,20 +190,35 @@ static void exchange(void (*begin)(void))
         from = sent[first].from;
         message = sent[first].bytes;
         message_length = sent[first++].length;
-        expect(node_message);
+        expect(hand_over);
         send_output();
     }
-    message_length = 0;
-    expect_refusal(node_message, SNAPSHOT_REFUSED_LAYOUT);
+    message_length--; /* the last message lacks a byte */
+    expect_refusal(hand_over, SNAPSHOT_REFUSED_LAYOUT);
 }
 
-static void call_nodes(size_t nodes)
+static void call_nodes(size_t nodes, void (*hand_over)(void))
 {
     n = nodes;
     for (own = 1; own <= n; own++)
         expect(node_fresh);
-    exchange(node_update);
-    exchange(node_scan);
+    exchange(node_update, hand_over);
+    exchange(node_scan, hand_over);
+}
+
+/* A frame of as many messages as it can have: reads. */
+static void call_with_reads(void)
+{
+    static uint8_t reads[SNAPSHOT_FRAME];
+    numbers[0] = SNAPSHOT_KIND_READ;
+    numbers[1] = 1;
+    expect(write_one);
+    for (size_t at = 0; at < sizeof reads; at += length)
+        memcpy(reads + at, out, length);
+    own = from = 1;
+    message = reads;
+    message_length = sizeof reads;
+    expect(node_frame);
 }
 
 /* Delivers every message of the cluster, until none waits. */
@@ -215,8 +236,11 @@ static void deliver_all(void)
 static void call_all(void)
 {
     expect(node_size);
-    call_nodes(1);
-    call_nodes(SNAPSHOT_NODES);
+    call_nodes(1, node_message);
+    call_nodes(SNAPSHOT_NODES, node_message);
+    call_nodes(1, node_frame);
+    call_nodes(SNAPSHOT_NODES, node_frame);
+    call_with_reads();
 
     expect(size);
     expect(fresh);

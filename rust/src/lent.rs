@@ -4,7 +4,7 @@
 //! | code | after an event | after another call |
 //! |---|---|---|
 //! | 0, [`TAKEN`] | no operation has ended | what was lent holds the result |
-//! | 1 to 12 | refused: [`Refusal`](crate::Refusal) | the same |
+//! | 1 to 12, 14 | refused: [`Refusal`](crate::Refusal) | the same |
 //! | 13, [`SPENT`] | an update is spent | – |
 //! | 100 to 103, from [`DONE`] on | an update is done | – |
 //! | 110 to 113, from [`SCAN`] on | a scan has ended | – |
@@ -48,7 +48,7 @@ pub const SCAN: u8 = 110;
 /// The route of a message that goes to all nodes, 1 to n in turn, the sending one among them.
 pub const TO_ALL: u8 = 0;
 
-/// The route of a message that goes to the sender of the message that was handled.
+/// The route of a message that goes to the sender of the message, or of the frame, that was handled.
 pub const TO_SENDER: u8 = 1;
 
 /// The bytes to lend for a cluster of n nodes; 0 where there may be none.
@@ -177,8 +177,26 @@ pub fn node_message(
     unsafe { raw::snapshot_node_message(held, held_len, sender, bytes.as_ptr(), bytes.len(), at, room, length, view) }
 }
 
-/// The message at the front of an output: its length goes to `length`, and to `route` [`TO_ALL`] or [`TO_SENDER`].
-/// Refusals: 1, 7.
+/// Handles the messages of a frame from node `sender` in their order, as [`node_message`] does one by one; what is lent
+/// gets what they leave together. Refusals: 12, 2, 3, 14, 7, 9.
+#[inline]
+pub fn node_frame(
+    state: &mut [u8],
+    sender: usize,
+    frame: &[u8],
+    out: &mut [u8],
+    length: &mut usize,
+    view: &mut [u8; VIEW],
+) -> u8 {
+    let (held, held_len) = (state.as_mut_ptr(), state.len());
+    let (at, room) = (out.as_mut_ptr(), out.len());
+    // SAFETY: each pointer with the length of its own slice; all but the frame's bytes are lent by `&mut`, so no two
+    // overlap.
+    unsafe { raw::snapshot_node_frame(held, held_len, sender, frame.as_ptr(), frame.len(), at, room, length, view) }
+}
+
+/// The message at the front of an output or a frame: its length goes to `length`, and to `route` [`TO_ALL`] or
+/// [`TO_SENDER`]. Refusals: 1, 7.
 #[inline]
 pub fn next(n: usize, bytes: &[u8], length: &mut usize, route: &mut u8) -> u8 {
     // SAFETY: pointer and length of one slice; the two numbers are lent by `&mut`, so they are apart from it and from

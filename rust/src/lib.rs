@@ -56,6 +56,9 @@
 //!    itself. It may be moved. A node that has lost its record, or was interrupted in the middle of a call or of
 //!    sending, has stopped and does not come back.
 //! 6. All nodes have the same n and each its own number, and each has started fresh.
+//! 7. A link may hand over its oldest messages together, whole and in their order, as a frame ([`Node::frame`]). Who
+//!    packs messages before they are sent owes rule 2 all the same: no message leaves in a frame for one node before
+//!    all that stand before it have left for the others.
 //!
 //! Fewer than half of the nodes may stop. While no more have, each operation at a node that stands is to end, once all
 //! messages to nodes that stand are handed over. Both are proved of the algorithm on links with room for anything. Of
@@ -84,11 +87,18 @@ pub use view::{figures, Entry, Figures, Report, View};
 /// The bytes of a node's record.
 pub const RECORD: usize = 3168;
 
-/// The bytes of an output: what one step sends never takes more.
+/// The least bytes of an output, but for a frame's: what one begin or one message sends never takes more.
 pub const OUTPUT: usize = 512;
 
 /// The bytes of the longest message, a good one of sixteen nodes.
 pub const LONGEST: usize = 274;
+
+/// The most bytes of a frame: whole messages of one sender, one after the other.
+pub const FRAME: usize = 1500;
+
+/// The bytes of an [`Output`], and the least that are lent for a frame: what its messages give rise to never takes
+/// more.
+pub const FRAME_OUTPUT: usize = 8192;
 
 /// The bytes of a view of sixteen nodes; one of n nodes has 16n.
 pub const VIEW: usize = 256;

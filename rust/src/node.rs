@@ -2,11 +2,12 @@
 use crate::lent;
 use crate::operation::{ending, Ending, Operation};
 use crate::refusal::{accepted, Refusal};
-use crate::{OUTPUT, RECORD, VIEW};
+use crate::{FRAME_OUTPUT, RECORD, VIEW};
 use std::fmt;
 
-/// One node (document 01's cabinet), by its record. It handles begins and messages; what it sends is in an [`Output`],
-/// and the caller's links carry it. What they owe is in [the crate's head](crate#what-the-links-owe).
+/// One node (document 01's cabinet), by its record. It handles begins and messages, these one by one or in frames; what
+/// it sends is in an [`Output`], and the caller's links carry it. What they owe is in
+/// [the crate's head](crate#what-the-links-owe).
 ///
 /// Three nodes on links in memory, to the end of an update and of a scan:
 ///
@@ -136,14 +137,55 @@ impl Node {
     /// Where all keep the rules, none of these is to be expected. A node that meets one should stop for good, which the
     /// others bear: to go on would be to lose a message, which they do not.
     pub fn message(&mut self, sender: usize, bytes: &[u8], out: &mut Output) -> Result<Option<Ending>, Refusal> {
+        self.handle(lent::node_message, sender, bytes, out)
+    }
+
+    /// Handles a frame from node `sender`: one or more whole messages, one after the other, [`FRAME`](crate::FRAME)
+    /// bytes at most. They are handled in their order, each as by [`Node::message`]; what is to be sent of all of them
+    /// is in `out`, and what goes to the sender goes to that of the frame. Answers the ending of an operation that
+    /// ended by one of them: there is one at most.
+    ///
+    /// Refusals: 2 (the record is not usable), 3 (the sender is not 1 to n), 14 (the frame is empty or too long), 7 (a
+    /// message, wherever it stands, is none of the layout), 9 (a message, after those before it, is a value that cannot
+    /// come now). Nothing of the frame has taken effect then, and `out` is empty. A node that meets one should stop for
+    /// good, as for a message.
+    ///
+    /// ```
+    /// use snapshot::{Message, Node, Output, Refusal, To, FRAME};
+    ///
+    /// let mut frame = [0; FRAME];
+    /// let mut length = 0;
+    /// for request in 1..=100 {
+    ///     length += Message::Read { request }.write(3, &[], &mut frame[length..])?;
+    /// }
+    /// assert_eq!(length, FRAME);
+    ///
+    /// let (mut node, mut out) = (Node::fresh(3, 1)?, Output::new());
+    /// assert_eq!(node.frame(2, &frame, &mut out)?, None);
+    /// for (request, (bytes, to)) in (1..=100).zip(&out) {
+    ///     assert_eq!(Message::read(3, bytes)?.0, Message::ReadAnswer { request, tag: 0 });
+    ///     assert_eq!(to, To::Sender); // to node 2
+    /// }
+    /// assert_eq!(out.messages().count(), 100);
+    /// # Ok::<(), Refusal>(())
+    /// ```
+    pub fn frame(&mut self, sender: usize, frame: &[u8], out: &mut Output) -> Result<Option<Ending>, Refusal> {
+        self.handle(lent::node_frame, sender, frame, out)
+    }
+
+    /// Hands bytes over by this call.
+    fn handle(&mut self, call: Call, sender: usize, bytes: &[u8], out: &mut Output) -> Result<Option<Ending>, Refusal> {
         out.length = 0;
         let mut view = [0; VIEW];
-        let code = lent::node_message(&mut self.record, sender, bytes, &mut out.bytes, &mut out.length, &mut view);
+        let code = call(&mut self.record, sender, bytes, &mut out.bytes, &mut out.length, &mut view);
         let told = ending(code, self.nodes(), &view)?;
         out.nodes = self.nodes();
         Ok(told)
     }
 }
+
+/// [`lent::node_message`] or [`lent::node_frame`].
+type Call = fn(&mut [u8], usize, &[u8], &mut [u8], &mut usize, &mut [u8; VIEW]) -> u8;
 
 impl fmt::Debug for Node {
     fn fmt(&self, f: &mut fmt::Formatter) -> fmt::Result {
@@ -156,12 +198,13 @@ impl fmt::Debug for Node {
 pub enum To {
     /// All nodes, 1 to n in turn, the own one too.
     All,
-    /// The sender of the message that was handled.
+    /// The sender of the message, or of the frame, that was handled.
     Sender,
 }
 
-/// What a node sends: the messages of its last begin or message, each once, in the order in which they leave. It is
-/// lent to each call and may serve again.
+/// What a node sends: the messages of its last begin, message or frame, each once, in the order in which they leave. It
+/// is lent to each call and may serve again: it has the [`FRAME_OUTPUT`] bytes that a frame asks, so any call of a node
+/// takes it. Where memory is short, [`lent`] takes [`OUTPUT`](crate::OUTPUT) bytes for a begin or a message.
 ///
 /// ```
 /// use snapshot::{Message, Node, Operation, Output, Refusal, To};
@@ -175,14 +218,14 @@ pub enum To {
 /// ```
 pub struct Output {
     nodes: usize,
-    bytes: [u8; OUTPUT],
+    bytes: [u8; FRAME_OUTPUT],
     length: usize,
 }
 
 impl Output {
     /// One with nothing to send.
     pub fn new() -> Output {
-        Output { nodes: 0, bytes: [0; OUTPUT], length: 0 }
+        Output { nodes: 0, bytes: [0; FRAME_OUTPUT], length: 0 }
     }
 
     /// The messages one after the other, as they stand in memory.

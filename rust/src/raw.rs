@@ -70,5 +70,16 @@ extern "C" {
         length: *mut usize,
         view: *mut [u8; VIEW],
     ) -> u8;
+    pub fn snapshot_node_frame(
+        state: *mut u8,
+        state_len: usize,
+        sender: usize,
+        frame: *const u8,
+        frame_len: usize,
+        out: *mut u8,
+        out_len: usize,
+        length: *mut usize,
+        view: *mut [u8; VIEW],
+    ) -> u8;
     pub fn snapshot_next(n: usize, bytes: *const u8, bytes_len: usize, length: *mut usize, route: *mut u8) -> u8;
 }

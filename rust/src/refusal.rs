@@ -3,9 +3,9 @@ use crate::lent::TAKEN;
 use std::error::Error;
 use std::fmt;
 
-/// Why a call was refused, by document 01's numbers. The first that applies is given, in the order that each call
-/// names, and only on its condition. The record, the cluster and all bytes that were lent are as they were; an
-/// [`Output`](crate::Output) is empty.
+/// Why a call was refused, by the numbers of documents 01 and 02. The first that applies is given, in the order that
+/// each call names, and only on its condition. The record, the cluster and all bytes that were lent are as they were;
+/// an [`Output`](crate::Output) is empty.
 ///
 /// ```
 /// use snapshot::{Node, Refusal};
@@ -42,16 +42,18 @@ pub enum Refusal {
     Full = 11,
     /// Lent bytes of a wrong length, or too few of them.
     Length = 12,
+    /// A frame that is empty, or longer than [`FRAME`](crate::FRAME) bytes. (13 is an ending: an update is spent.)
+    Frame = 14,
 }
 
 use Refusal::*;
 
 impl Refusal {
     /// All of them, in the order of their numbers.
-    pub const ALL: [Refusal; 12] =
-        [Size, Unusable, Node, Stopped, Open, Requests, Layout, Empty, Value, Stops, Full, Length];
+    pub const ALL: [Refusal; 13] =
+        [Size, Unusable, Node, Stopped, Open, Requests, Layout, Empty, Value, Stops, Full, Length, Frame];
 
-    /// Its number in document 01, which is the call's code too.
+    /// Its number, which is the call's code too.
     pub fn number(self) -> u8 {
         self as u8
     }
@@ -90,6 +92,7 @@ impl fmt::Display for Refusal {
             Stops => "one more stop would leave no quorum",
             Full => "a channel would hold more than sixteen messages",
             Length => "the bytes have a wrong length",
+            Frame => "the frame is empty or too long",
         })
     }
 }
@@ -101,12 +104,12 @@ mod tests {
     use super::*;
 
     #[test]
-    fn numbers_are_document_01s() {
-        for (number, refusal) in (1..=12).zip(Refusal::ALL) {
+    fn numbers_are_those_of_the_documents() {
+        for (number, refusal) in (1..=12).chain([14]).zip(Refusal::ALL) {
             assert_eq!(refusal.number(), number);
             assert_eq!(Refusal::from_number(number), Some(refusal));
         }
-        for number in (13..=255).chain([0]) {
+        for number in (15..=255).chain([0, 13]) {
             assert_eq!(Refusal::from_number(number), None);
         }
     }
@@ -114,7 +117,7 @@ mod tests {
     #[test]
     fn each_has_words_of_its_own() {
         let words: std::collections::BTreeSet<String> = Refusal::ALL.iter().map(Refusal::to_string).collect();
-        assert_eq!(words.len(), 12);
+        assert_eq!(words.len(), Refusal::ALL.len());
     }
 
     #[test]
@@ -124,8 +127,8 @@ mod tests {
     }
 
     #[test]
-    #[should_panic(expected = "answers 14")]
+    #[should_panic(expected = "answers 99")]
     fn a_code_without_meaning_is_not_passed_over() {
-        let _ = accepted(14);
+        let _ = accepted(99);
     }
 }

@@ -1,6 +1,7 @@
 //! Each refusal that a user can meet, at a node and in a cluster, by its condition; and that it leaves all as it was.
 use snapshot::{
-    lent, Cluster, Ending, Extent, Message, Node, Operation, Output, Refusal, Report, LONGEST, OUTPUT, RECORD, VIEW,
+    lent, Cluster, Ending, Extent, Message, Node, Operation, Output, Refusal, Report, FRAME, LONGEST, OUTPUT, RECORD,
+    VIEW,
 };
 use std::fmt::Debug;
 
@@ -72,6 +73,7 @@ fn bytes_that_cannot_be_used() {
     assert_eq!(refused_at(&mut node, |node, out| node.begin(UPDATE, out)), Refusal::Unusable);
     assert_eq!(refused_at(&mut node, |node, out| node.begin(Operation::Scan, out)), Refusal::Unusable);
     assert_eq!(refused_at(&mut node, |node, out| node.message(1, &value(3, 1, 1), out)), Refusal::Unusable);
+    assert_eq!(refused_at(&mut node, |node, out| node.frame(1, &value(3, 1, 1), out)), Refusal::Unusable);
 
     let mut bytes = Cluster::fresh(2).unwrap().as_bytes().to_vec();
     bytes[0] = 17;
@@ -87,6 +89,7 @@ fn nodes_that_are_not_there() {
     let mut cluster = Cluster::fresh(3).unwrap();
     for k in [0, 4, 17, usize::MAX] {
         assert_eq!(refused_at(&mut node, |node, out| node.message(k, &value(3, 1, 1), out)), Refusal::Node);
+        assert_eq!(refused_at(&mut node, |node, out| node.frame(k, &value(3, 1, 1), out)), Refusal::Node);
         assert_eq!(refused_in(&mut cluster, |c| c.begin(k, Operation::Scan, WHOLE)), Refusal::Node);
         assert_eq!(refused_in(&mut cluster, |c| c.deliver(k, 1, WHOLE)), Refusal::Node);
         assert_eq!(refused_in(&mut cluster, |c| c.deliver(1, k, WHOLE)), Refusal::Node);
@@ -162,8 +165,15 @@ fn replaced(cluster: &Cluster, bytes: &[u8], by: &[u8]) -> Cluster {
 fn messages_that_are_none() {
     let mut node = Node::fresh(3, 1).unwrap();
     let good = value(3, 1, 1);
-    for bytes in [&[][..], &good[1..], &[&good[..], &[0]].concat(), &value(4, 1, 4)] {
+    for bytes in [&good[1..], &[&good[..], &[0]].concat(), &value(4, 1, 4)] {
         assert_eq!(refused_at(&mut node, |node, out| node.message(1, bytes, out)), Refusal::Layout);
+        assert_eq!(refused_at(&mut node, |node, out| node.frame(1, bytes, out)), Refusal::Layout);
+    }
+    assert_eq!(refused_at(&mut node, |node, out| node.message(1, &[], out)), Refusal::Layout);
+    assert_eq!(refused_at(&mut node, |node, out| node.message(1, &good.repeat(2), out)), Refusal::Layout);
+    assert_eq!(node.frame(1, &good.repeat(2), &mut Output::new()), Ok(None));
+    for bytes in [&[][..], &good.repeat(51), &[0; FRAME + 1]] {
+        assert_eq!(refused_at(&mut node, |node, out| node.frame(1, bytes, out)), Refusal::Frame);
     }
     let mut cluster = Cluster::fresh(1).unwrap();
     cluster.begin(1, UPDATE, WHOLE).unwrap();
@@ -178,6 +188,7 @@ fn values_that_cannot_come() {
     let mut node = Node::fresh(3, 1).unwrap();
     node.message(2, &value(3, 5, 2), &mut Output::new()).unwrap();
     assert_eq!(refused_at(&mut node, |node, out| node.message(2, &value(3, 4, 2), out)), Refusal::Value);
+    assert_eq!(refused_at(&mut node, |node, out| node.frame(2, &value(3, 4, 2), out)), Refusal::Value);
     assert_eq!(refused_at(&mut node, |node, out| node.message(3, &value(3, 6, 2), out)), Refusal::Value);
     assert_eq!(node.message(3, &value(3, 4, 2), &mut Output::new()), Ok(None));
 

@@ -31,7 +31,7 @@ module _ (n : ℕ) (h : n ≤ nodes) where
   Shows r = AbsentPast n (toldView (r .answer))
 
   -- only the ending of a scan shows a view
-  by-ending : (e : Ending) (v : View) → AbsentPast n v → AbsentPast n (toldView (told (result e) v))
+  pub by-ending : (e : Ending) (v : View) → AbsentPast n v → AbsentPast n (toldView (told (result e) v))
   by-ending None v a = none-absent n h
   by-ending (Done r) v a = none-absent n h
   by-ending (Scan r) v a = a

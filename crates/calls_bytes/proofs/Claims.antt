@@ -33,10 +33,12 @@ use Rattle.calls.proofs.Rooms.{Fit, begin-fit, message-fit}
 use Rattle.emit.proofs.Runs.{room-of}
 use Rattle.region.specs.Record.{recordSize, recordOf, codesKnown}
 use Rattle.region.proofs.Back.{sized-of}
-use Rattle.calls_bytes.specs.Entry.{LentResult, accepted, fits, inBytes, atRecord, fresh, begin, message}
+use Rattle.calls_bytes.specs.Entry.{LentResult, accepted, fits, usableIn, inBytes, atRecord, fresh, begin}
+use Rattle.calls_bytes.specs.Entry.{message}
+use Rattle.calls_bytes.specs.Frame.{frameMost, frameOutput, isWhole, orRefused, oneByOne, frame}
 use Rattle.calls_bytes.specs.Walk.{Piece, walk, piecesOf}
 use Rattle.calls_bytes.specs.Claims as claim
-use Rattle.calls_bytes.proofs.Walk.{walked}
+use Rattle.calls_bytes.proofs.Walk.{walked, walk-packed, whole-packed, walk-all, all-read}
 
 -- no answer is an ending and a refusal
 never : {X : Type 0} {x : Ending} {k : ℕ} → _≡_ {A = Answer Ending} (result x) (refused k) → X
@@ -94,7 +96,7 @@ module _ (r out : List ℕ) where
   at-keeps : (call : Node → CallResult) → Leaves out (call (recordOf r)) → claim.Keeps r out (atRecord r out call)
   unfolding atRecord
   at-keeps call h =
-      on-pick (claim.Keeps r out) (fits r (length out)) _ _
+      on-pick (claim.Keeps r out) (fits N.leastOutput r (length out)) _ _
       (λ e. on-pick (claim.Keeps r out) (codesKnown r) _ _ (λ e. in-bytes-keeps (call (recordOf r)) h)
       (λ e k q. (same q, refl, refl, refl)))
       (λ e k q. (same q, refl, refl, refl))
@@ -107,11 +109,33 @@ fresh-keeps n own r =
     (λ e. on-pick (claim.Keeps r []) (eqb (length r) recordSize) _ _ (λ e. kept) (λ e k q. (same q, refl, refl, refl)))
     (λ e. kept)
 
+settled-keeps : (r out : List ℕ) (e : LentResult) (a : Answer Ending) → e .ending ≡ a
+    → claim.Keeps r out (orRefused r out e a)
+settled-keeps r out e (refused j) h k q = (same q, refl, refl, refl)
+settled-keeps r out e (result x) h k q = never (sym h ∙ q)
+
+frame-keeps : (r : List ℕ) (s : ℕ) (b out : List ℕ) → claim.Keeps r out (frame r s b out)
+unfolding frame
+frame-keeps r s b out =
+    let n = recordOf r .n in
+    let K = claim.Keeps r out in
+    on-pick K (fits frameOutput r (length out)) _ _ (λ e.
+    on-pick K (usableIn r) _ _ (λ e.
+    on-pick K (both (leb 1 s) (leb s n)) _ _ (λ e.
+    on-pick K (both (leb 1 (length b)) (leb (length b) frameMost)) _ _ (λ e.
+    on-pick K (isWhole n b) _ _ (λ e. settled-keeps r out (oneByOne r s b out) (oneByOne r s b out .ending) refl)
+    (λ e k q. (same q, refl, refl, refl)))
+    (λ e k q. (same q, refl, refl, refl)))
+    (λ e k q. (same q, refl, refl, refl)))
+    (λ e k q. (same q, refl, refl, refl)))
+    (λ e k q. (same q, refl, refl, refl))
+
 pub refusals-keep : claim.RefusalsKeep
 refusals-keep = record {
   fresh-keeps = fresh-keeps;
   begin-keeps = λ r o out. at-keeps r out (λ c. N.begin c o out) (begin-leaves (recordOf r) o out);
   message-keeps = λ r s b out. at-keeps r out (λ c. N.message c s b out) (message-leaves (recordOf r) s b out);
+  frame-keeps = frame-keeps;
 }
 
 -- ---- the messages of an accepted call are met one by one
@@ -141,7 +165,7 @@ module _ (n : ℕ) (p : List Piece) where
   at-met : (r out : List ℕ) (call : Node → CallResult) → Met (call (recordOf r)) → MetIn (atRecord r out call)
   unfolding atRecord inBytes
   at-met r out call h =
-      on-pick MetIn (fits r (length out)) _ _
+      on-pick MetIn (fits N.leastOutput r (length out)) _ _
       (λ e. on-pick MetIn (codesKnown r) _ _ (λ e. h) (λ e x q. never (sym q)))
       (λ e x q. never (sym q))
 
@@ -201,4 +225,12 @@ pub walks : claim.Walks
 walks = record {
   begin-walk = λ r o out x e. at-met _ _ r out (λ c. N.begin c o out) (begin-met (recordOf r) o out) x e;
   message-walk = λ r s b out x m e d. at-met _ _ r out (λ c. N.message c s b out) (message-met r s b out m d) x e;
+}
+
+-- ---- frames
+
+pub packing : claim.Packing
+packing = record {
+  packs = λ n ms h. (walk-packed n ms h, whole-packed n ms h);
+  unpacks = λ n b h. (walk-all n b h, all-read n b);
 }

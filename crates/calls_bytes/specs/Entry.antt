@@ -9,6 +9,7 @@ use lib.ListN.{length}
 use Rattle.octets.specs.Answer.{Answer, result, refused}
 use Rattle.octets.specs.Test.{pick, both}
 use Rattle.view.specs.View.{noView}
+use Rattle.record.specs.Usable.{usable}
 use Rattle.record.specs.declared.Node.{Node}
 use Rattle.record.specs.declared.Operation.{Operation}
 use Rattle.step.specs.declared.Ending.{Ending}
@@ -44,15 +45,20 @@ inBytes r e =
       out = e .out;
     }
 
--- the lengths that a call asks for: the record's, and at least that of an output buffer
-abbrev pub fits : List ℕ → (room : ℕ) → Bool
-fits r room = both (eqb (length r) recordSize) (leb N.leastOutput room)
+-- the lengths that a call asks for: the record's, and at least so much of an output buffer
+abbrev pub fits : (least : ℕ) → List ℕ → (room : ℕ) → Bool
+fits least r room = both (eqb (length r) recordSize) (leb least room)
+
+-- the bytes are a record that can be used
+abbrev pub usableIn : List ℕ → Bool
+usableIn r = both (codesKnown r) (usable (recordOf r))
 
 -- A call at the record that bytes are. 12: another length than the record's, or an output buffer too short. 2: codes of
 -- the wait that stand for nothing; then what the call refuses.
 unfoldable pub atRecord : (r out : List ℕ) → (Node → CallResult) → LentResult
 atRecord r out call =
-    pick (fits r (length out)) (pick (codesKnown r) (inBytes r (call (recordOf r))) (refuse 2 r out)) (refuse 12 r out)
+    pick (fits N.leastOutput r (length out)) (pick (codesKnown r) (inBytes r (call (recordOf r))) (refuse 2 r out))
+    (refuse 12 r out)
 
 -- 12, 2, 5, 6
 abbrev pub begin : List ℕ → Operation → List ℕ → LentResult

@@ -1,12 +1,13 @@
 -- An output buffer walked message by message, as its reader does: the message at the front, then the rest.
 -- Assumes nothing.
 use Prim.Native.Nat.{ℕ, zero, suc}
+use mathlib.Core.Path.{_≡_}
 use mathlib.Core.List.{List, [], _∷_}
 use lib.ListN.{length, take, drop}
 use Rattle.octets.specs.Answer.{Answer, result, refused}
 use Rattle.view.specs.View.{viewBytes}
 use Rattle.wire.specs.Layout.{encode}
-use Rattle.wire.specs.Codec.{front}
+use Rattle.wire.specs.Codec.{front, decode}
 use Rattle.wire.specs.declared.Message.{Message}
 use Rattle.step.specs.declared.Outbox.{Outbox}
 use Rattle.step.specs.Step.{messages}
@@ -15,6 +16,11 @@ use Rattle.step.specs.Step.{messages}
 pub record Piece : Type 0 where
   pub message : Message
   pub bytes : List ℕ
+
+-- each is the message that its bytes are
+abbrev pub AllRead : (n : ℕ) → List Piece → Type 0
+AllRead n [] = Unit {0}
+AllRead n (p ∷ ps) = (decode n (p .bytes) ≡ result (p .message)) × AllRead n ps
 
 -- the piece at the front of b, by how it was read, and what comes of the rest; it ends where there is none
 abbrev pub onward : (List ℕ → List Piece) → List ℕ → Answer (Message × ℕ) → List Piece

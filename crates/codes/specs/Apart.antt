@@ -18,7 +18,8 @@ use Rattle.events.specs.Event.{Result, fresh, begin, deliver}
 use Rattle.events.specs.Outcome.{toldOf}
 use Rattle.events.specs.Stop.{stop}
 use Rattle.calls_bytes.specs.Entry as L
-use Rattle.codes.specs.Code.{lastRefusal, doneFrom, scanFrom, eventCode, ruleIn, codeOf, lentCode}
+use Rattle.calls_bytes.specs.Frame.{frame}
+use Rattle.codes.specs.Code.{lastRefusal, frameRefusal, doneFrom, scanFrom, eventCode, ruleIn, codeOf, lentCode}
 
 -- What a code means, v the view beside it, and the rule in it. It names no refusal, so that it stands where others
 -- come.
@@ -44,20 +45,28 @@ pub data NodeCall : L.LentResult → Type 0 where
   by-fresh-node : (n own : ℕ) (r : List ℕ) → NodeCall (L.fresh n own r)
   by-begin-node : (r : List ℕ) (o : Operation) (out : List ℕ) → NodeCall (L.begin r o out)
   by-message : (r : List ℕ) (s : ℕ) (b out : List ℕ) → NodeCall (L.message r s b out)
+  by-frame : (r : List ℕ) (s : ℕ) (b out : List ℕ) → NodeCall (frame r s b out)
 
--- If an answer is a refusal, its number is 1 to 12, which is below the codes of done.
-pub record Numbered {A : Type 0} (a : Answer A) : Type 0 where
-  pub number : (k : ℕ) → a ≡ refused k → (1 ≤ k) × (k ≤ lastRefusal) × (k < doneFrom)
+-- The greatest refusal of each: 12, and 14 of a frame.
+abbrev pub lastOf : {e : L.LentResult} → NodeCall e → ℕ
+lastOf (by-fresh-node n own r) = lastRefusal
+lastOf (by-begin-node r o out) = lastRefusal
+lastOf (by-message r s b out) = lastRefusal
+lastOf (by-frame r s b out) = frameRefusal
+
+-- If an answer is a refusal, its number is 1 to `last`, below the codes of done, and not spent's.
+pub record Numbered {A : Type 0} (last : ℕ) (a : Answer A) : Type 0 where
+  pub number : (k : ℕ) → a ≡ refused k → (1 ≤ k) × (k ≤ last) × (k < doneFrom) × (k ≡ spentNumber → ⊥)
 
 pub record Apart : Type 0 where
   -- The refusals of events, each its own code, and those of the other calls, of which 0 says that there is a result.
-  pub refusals : {e : Result} → EventCall e → Numbered (e .answer)
+  pub refusals : {e : Result} → EventCall e → Numbered lastRefusal (e .answer)
   pub own-code : (e : Result) (k : ℕ) → e .answer ≡ refused k → codeOf e ≡ k
-  pub node-refusals : {e : L.LentResult} → NodeCall e → Numbered (e .ending)
-  pub reading : (n : ℕ) (b : List ℕ) → Numbered (decode n b)
-  pub walking : (n : ℕ) (b : List ℕ) → Numbered (front n b)
-  pub writing : (n : ℕ) (m : Message) (v : List ℕ) (room : ℕ) → Numbered (answer n m v room)
-  pub summing : (n : ℕ) (v : List ℕ) → Numbered (figuresOf n v)
+  pub node-refusals : {e : L.LentResult} (c : NodeCall e) → Numbered (lastOf c) (e .ending)
+  pub reading : (n : ℕ) (b : List ℕ) → Numbered lastRefusal (decode n b)
+  pub walking : (n : ℕ) (b : List ℕ) → Numbered lastRefusal (front n b)
+  pub writing : (n : ℕ) (m : Message) (v : List ℕ) (room : ℕ) → Numbered lastRefusal (answer n m v room)
+  pub summing : (n : ℕ) (v : List ℕ) → Numbered lastRefusal (figuresOf n v)
   -- No ending has a refusal's code, nor any other that is left for one: below those of done, and not spent's.
   pub endings : (k : ℕ) → 1 ≤ k → k < doneFrom → (k ≡ spentNumber → ⊥) → (x : Ending) (v : View)
       → eventCode (refusal k) 0 ≡ eventCode (told (result x) v) (ruleIn (result x)) → ⊥

@@ -36,9 +36,13 @@ abbrev pub ruleCode : Rule → ℕ
 ruleCode (Direct i) = min i 3
 ruleCode Borrowed = 0
 
--- The greatest refusal of document 01. Others may come: every refusal stands below the codes of done.
+-- The greatest refusal of document 01, and that of a frame. Others may come: every refusal stands below the codes of
+-- done, and none is 13, which is spent's.
 abbrev pub lastRefusal : ℕ
 lastRefusal = 12
+
+abbrev pub frameRefusal : ℕ
+frameRefusal = 14
 
 -- The first code of done and of a scan, to which the rule is added.
 abbrev pub doneFrom : ℕ

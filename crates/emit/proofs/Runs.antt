@@ -245,7 +245,7 @@ room-of n v w ms room e a b h k =
 
 -- ---- messages none of which is good
 
-either-none : (a b : Bool) → either a b ≡ false → (a ≡ false) × (b ≡ false)
+pub either-none : (a b : Bool) → either a b ≡ false → (a ≡ false) × (b ≡ false)
 either-none false b h = (refl, h)
 either-none true b h = absurd (let z : _≡_ {A = ℕ} 0 1 = cc in omega arith)
 

@@ -18,9 +18,9 @@ use Rattle.calls.specs.CallResult.{CallResult}
 use Rattle.calls.specs.Entry as N
 use Rattle.region.specs.Record.{recordSize, nPlace, ownPlace, recordOf, codesKnown}
 use Rattle.block.specs.Block.{recordSound}
-use Rattle.calls_bytes.specs.Entry.{fits, inBytes, atRecord, refuse}
+use Rattle.calls_bytes.specs.Entry.{fits, usableIn, inBytes, atRecord, refuse}
 use Rattle.calls_bytes.proofs.Cases.{at-12, at-2, at-known}
-use Rattle.node_bytes.specs.Admission.{usableIn, admission}
+use Rattle.node_bytes.specs.Admission.{admission}
 
 -- ---- a record is judged with its own n and number
 
@@ -45,9 +45,9 @@ in-refused k r out = refl
 
 -- ---- admission
 
-pub record Admitted (r out : List ℕ) : Type 0 where
+pub record Admitted (least : ℕ) (r out : List ℕ) : Type 0 where
   pub long : length r ≡ recordSize
-  pub room : N.leastOutput ≤ length out
+  pub room : least ≤ length out
   pub known : codesKnown r ≡ true
   pub can-step : usable (recordOf r) ≡ true
 
@@ -55,16 +55,16 @@ pub record Admitted (r out : List ℕ) : Type 0 where
 number : Bool → Bool → ℕ
 number x y = pick x (pick y 0 2) 12
 
-module _ (r : List ℕ) (room : ℕ) where
-  pub is-12 : fits r room ≡ false → 12 ≡ admission r room
+module _ (least : ℕ) (r : List ℕ) (room : ℕ) where
+  pub is-12 : fits least r room ≡ false → 12 ≡ admission least r room
   unfolding admission
   is-12 h = rw h refl
 
-  pub is-2 : fits r room ≡ true → usableIn r ≡ false → 2 ≡ admission r room
+  pub is-2 : fits least r room ≡ true → usableIn r ≡ false → 2 ≡ admission least r room
   unfolding admission
   is-2 h u = rw (h, u) refl
 
-  pub is-0 : fits r room ≡ true → usableIn r ≡ true → 0 ≡ admission r room
+  pub is-0 : fits least r room ≡ true → usableIn r ≡ true → 0 ≡ admission least r room
   unfolding admission
   is-0 h u = rw (h, u) refl
 
@@ -74,13 +74,13 @@ none-applies true true h = (refl, refl)
 none-applies true false h = absurd (omega arith)
 none-applies false y h = absurd (omega arith)
 
-module _ (r out : List ℕ) where
-  pub admitted : admission r (length out) ≡ 0 → Admitted r out
+module _ (least : ℕ) (r out : List ℕ) where
+  pub admitted : admission least r (length out) ≡ 0 → Admitted least r out
   unfolding admission number
   admitted h =
-      let z = none-applies (fits r (length out)) (usableIn r) h in
+      let z = none-applies (fits least r (length out)) (usableIn r) h in
       let l = eqb (length r) recordSize in
-      let o = leb N.leastOutput (length out) in
+      let o = leb least (length out) in
       record {
         long = eqb-true _ _ (both-left l o (z .0));
         room = leb-true _ _ (both-right l o (z .0));
@@ -88,12 +88,13 @@ module _ (r out : List ℕ) where
         can-step = both-right (codesKnown r) (usable (recordOf r)) (z .1);
       }
 
+module _ (r out : List ℕ) where
   -- the call itself refuses a record that cannot be used
   module _ (call : Node → CallResult)
       (two : N.leastOutput ≤ length out → usable (recordOf r) ≡ false
       → call (recordOf r) ≡ N.refuse 2 (recordOf r) out) where
-    turned-by : (x y z : Bool) → fits r (length out) ≡ x → codesKnown r ≡ y → usable (recordOf r) ≡ z → {k : ℕ}
-        → number x (both y z) ≡ k → (k ≡ 0 → ⊥) → atRecord r out call ≡ refuse k r out
+    turned-by : (x y z : Bool) → fits N.leastOutput r (length out) ≡ x → codesKnown r ≡ y → usable (recordOf r) ≡ z
+        → {k : ℕ} → number x (both y z) ≡ k → (k ≡ 0 → ⊥) → atRecord r out call ≡ refuse k r out
     unfolding number
     turned-by false y z e f g q h = at-12 r out call e ∙ ap (λ j. refuse j r out) q
     turned-by true false z e f g q h = at-2 r out call e f ∙ ap (λ j. refuse j r out) q
@@ -103,13 +104,15 @@ module _ (r out : List ℕ) where
         ∙ ap (λ j. refuse j r out) q
     turned-by true true true e f g q h = absurd (h (sym q))
 
-    pub turned : {k : ℕ} → k ≡ admission r (length out) → (k ≡ 0 → ⊥) → atRecord r out call ≡ refuse k r out
+    pub turned : {k : ℕ} → k ≡ admission N.leastOutput r (length out) → (k ≡ 0 → ⊥)
+        → atRecord r out call ≡ refuse k r out
     unfolding admission number
-    turned q h = turned-by (fits r (length out)) (codesKnown r) (usable (recordOf r)) refl refl refl (sym q) h
+    turned q h =
+        turned-by (fits N.leastOutput r (length out)) (codesKnown r) (usable (recordOf r)) refl refl refl (sym q) h
 
 -- ---- a call that is admitted
 
-module _ (r out : List ℕ) (call : Node → CallResult) (h : Admitted r out) where
+module _ (r out : List ℕ) (call : Node → CallResult) (h : Admitted N.leastOutput r out) where
   pub at-admitted : atRecord r out call ≡ inBytes r (call (recordOf r))
   at-admitted =
       at-known r out call (both-true (eq-eqb (length r) recordSize (h .long)) (le-leb N.leastOutput _ (h .room)))

@@ -97,7 +97,7 @@ module _ (p : Ending → Type 0) where
   at-left r out call h =
       let c = call (recordOf r) in
       let P : LentResult → Type 0 = λ e. (x : Ending) → e .ending ≡ result x → p x × Holds (e .bytes) (c .node) in
-      on-pick P (fits r (length out)) _ _
+      on-pick P (fits N.leastOutput r (length out)) _ _
       (λ e. on-pick P (codesKnown r) _ _ (λ e x q.
       let g = h x q in
       (g .ends, rw q (holds (c .node) (g .can-step) (g .sized)))) (λ e x q. never q))

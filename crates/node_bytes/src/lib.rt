@@ -42,9 +42,9 @@ ghost use Rattle.wire.specs.Layout.{allowed};
 ghost use Rattle.record.specs.Usable.{usable};
 ghost use Rattle.calls.specs.Entry.{leastOutput, taken};
 ghost use Rattle.region.specs.Record.{recordSize, recordOf};
-ghost use Rattle.calls_bytes.specs.Entry.{refuse, inBytes, fresh as freshCall, begin as beginCall};
+ghost use Rattle.calls_bytes.specs.Entry.{refuse, inBytes, usableIn, fresh as freshCall, begin as beginCall};
 ghost use Rattle.calls_bytes.specs.Entry.{message as messageCall};
-ghost use Rattle.node_bytes.specs.Admission.{usableIn, admission as admissionOf};
+ghost use Rattle.node_bytes.specs.Admission.{admission as admissionOf};
 ghost use Rattle.node_bytes.specs.Called.{tells, shows};
 
 // The answer of a call, and how many bytes of messages stand at the start of the output buffer.
@@ -60,7 +60,8 @@ pub fn size() -> usize
     RECORD
 }
 
-fn turned_away(k: u8) -> Called
+// The answer of a call that is refused.
+pub fn turned_away(k: u8) -> Called
     ensures { λ a. ⌜ ((r out : List ℕ) → tells a r out (refuse k r out)) ⌝ }
 {
     Called {
@@ -109,11 +110,12 @@ fn is_usable_in(r: &[u8]) -> bool
     record_sound(r, n, get_word(r, OWN_PLACE) as usize)
 }
 
-// The first of 12 and 2 that refuses a call on these bytes with so much room for output; 0 where none does.
-fn admission(r: &[u8], room: usize) -> u8
-    ensures { λ k. ⌜ k ≡ admissionOf (now (r .entry)) room ⌝ }
+// The first of 12 and 2 that refuses a call on these bytes with so much room for output, of which it asks for at least
+// so much; 0 where none does.
+pub fn admission(r: &[u8], least: usize, room: usize) -> u8
+    ensures { λ k. ⌜ k ≡ admissionOf least (now (r .entry)) room ⌝ }
 {
-    if !and(r.len() == RECORD, OUTPUT <= room) {
+    if !and(r.len() == RECORD, least <= room) {
         return 12;
     }
     if !is_usable_in(r) {
@@ -126,7 +128,7 @@ fn admission(r: &[u8], room: usize) -> u8
 pub fn begin(r: &mut [u8], o: Operation, out: &mut [u8]) -> Called
     ensures { λ a. ⌜ tells a (now (r .exit)) (now (out .exit)) (beginCall (now (r .entry)) o (now (out .entry))) ⌝ }
 {
-    let k = admission(r, out.len());
+    let k = admission(r, OUTPUT, out.len());
     if k != 0 {
         return turned_away(k);
     }
@@ -147,7 +149,7 @@ pub fn begin(r: &mut [u8], o: Operation, out: &mut [u8]) -> Called
 
 // A message that was read is handled, v the bytes of its view, or refused with 9. Where nothing comes after what the
 // handler does, no view is carried about.
-fn take_message(
+pub fn take_message(
     r: &mut [u8],
     n: usize,
     s: usize,
@@ -189,7 +191,7 @@ pub fn message(r: &mut [u8], s: usize, b: &[u8], out: &mut [u8], view: &mut [u8;
     ensures { λ a. ⌜ shows a (now (r .exit)) (now (out .exit)) (now (view .exit))
         (messageCall (now (r .entry)) s (now (b .entry)) (now (out .entry))) (now (view .entry)) ⌝ }
 {
-    let k = admission(r, out.len());
+    let k = admission(r, OUTPUT, out.len());
     if k != 0 {
         return turned_away(k);
     }

@@ -12,6 +12,7 @@
 //   0              no operation has ended       what was lent holds the result
 //   1 to 12        document 01's refusal        document 01's refusal
 //   13             an update is spent
+//   14             the refusal of a frame
 //   100 to 103     an update is done
 //   110 to 113     a scan has ended
 //
@@ -49,6 +50,7 @@ ghost use Rattle.events.specs.Outcome.{toldOf};
 ghost use Rattle.events.specs.Stop.{stop};
 ghost use Rattle.calls_bytes.specs.Entry.{LentResult, fresh as freshNode, begin as beginNode};
 ghost use Rattle.calls_bytes.specs.Entry.{message as messageNode};
+ghost use Rattle.calls_bytes.specs.Frame.{frame as frameNode};
 ghost use Rattle.node_bytes.specs.Called.{tells};
 ghost use Rattle.calls_bytes.specs.Shown.{eventView};
 ghost use Rattle.codes.specs.Code.{extentOf, leaves};
@@ -215,6 +217,27 @@ pub extern "C" fn snapshot_node_message(
         (now (view .entry))) ⌝ }
 {
     let a = node_bytes::message(state, sender, bytes, out, view);
+    node_code(a, length)
+}
+
+// Handles a frame from node `sender`: whole messages, one after the other, as if each were given to the call above in
+// turn.
+#[no_mangle]
+pub extern "C" fn snapshot_node_frame(
+    state: &mut [u8],
+    sender: usize,
+    frame: &[u8],
+    out: &mut [u8],
+    length: &mut usize,
+    view: &mut [u8; VIEW],
+) -> u8
+    ensures { λ r. ⌜ leavesNode r (now (state .exit)) (now (out .exit)) (now (length .exit))
+        (frameNode (now (state .entry)) sender (now (frame .entry)) (now (out .entry))) (now (length .entry))
+        × (now (view .exit) ≡ eventView
+        (frameNode (now (state .entry)) sender (now (frame .entry)) (now (out .entry)) .answer)
+        (now (view .entry))) ⌝ }
+{
+    let a = frame_bytes::frame(state, sender, frame, out, view);
     node_code(a, length)
 }
 

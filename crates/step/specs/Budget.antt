@@ -1,5 +1,4 @@
--- What an open operation may still send, in bytes: a bound that falls by what it sends. A begin sets it, and no message
--- raises it. Assumes nothing.
+-- What an open operation may still send of its own, in bytes, by what it waits for. Assumes nothing.
 use Prim.Native.Nat.{ℕ, _+_, _*_, _≤_}
 use lib.Dec.{eqb}
 use Rattle.octets.specs.Test.{pick}
@@ -44,8 +43,8 @@ budgetMost = valueSize + 4 * twoSize + 2 * goodSize nodes
 abbrev pub BudgetMost : Type 0
 BudgetMost = (n : ℕ) (w : Wait) → n ≤ nodes → budget n w ≤ budgetMost
 
--- A handler answers each byte of a message with at most twoSize / oneSize bytes, as it does a read; what the step sends
--- beyond that is taken from the budget.
+-- What the step of a message sends is paid by the message's bytes, at most twoSize for each oneSize as a read is
+-- answered, and by what the budget falls.
 abbrev pub MessagePays : Type 0
 MessagePays = (f : ℕ) (c : Node) (s : ℕ) (m : Message) (v : View)
     → oneSize * sizes (c .n) (messages (messageStep f c s m v .outbox))

@@ -1,4 +1,4 @@
--- When an operation ends: after a begin at most one ending comes of the messages that follow, until the next begin.
+-- When an operation ends, of one message; so that at most one ending comes of messages until the next begin.
 -- Assumes nothing.
 use mathlib.Core.Path.{_≡_}
 use mathlib.Core.Bool.{true, false}

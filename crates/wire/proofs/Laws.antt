@@ -1,6 +1,6 @@
 -- The claims of specs/Laws hold.
 use mathlib.Core.Path.{_≡_, refl, sym, ap, _∙_}
-use mathlib.Core.List.{List, [], append-nil}
+use mathlib.Core.List.{[], append-nil}
 use Prim.Native.Nat.{ℕ, _-_}
 use native.Mathlib.Omega.{arith}
 use lib.ListN.{drop}
@@ -28,6 +28,17 @@ front-view-back = trip.front-view-back
 
 pub front-back : claim.FrontBack
 front-back = trip.front-back
+
+pub front-same : claim.FrontSame
+front-same n b c m k e p =
+    (trip.front-same n b m k e c p, trip.own-front n b m k e c p ∙ sym (trip.own-front n b m k e b refl))
+
+pub front-alone : claim.FrontAlone
+front-alone n b m k e =
+    (trip.front-some n b m k e, trip.front-within n b m k e, trip.front-alone n b m k e, trip.alone-view n b m k e)
+
+pub nothing-after : claim.NothingAfter
+nothing-after = trip.nothing-after
 
 pub write-back : claim.WriteBack
 write-back n b m e = let w = trip.read-only n b m e in (w .sized, w .allowed-is, w .bytes)

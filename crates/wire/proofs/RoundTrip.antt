@@ -1,14 +1,14 @@
 -- Reading gives back what was written, and only what could have been written is read. For every n from 1 to 16.
-use Prim.Native.Nat.{ℕ, _-_}
+use Prim.Native.Nat.{ℕ, _-_, _≤_}
 use mathlib.Core.Path.{_≡_, refl, sym, ap, ap₂, _∙_}
 use mathlib.Core.Bool.{Bool, true, false}
 use mathlib.Core.List.{List, [], _++_, append-nil}
 use mathlib.Core.Logic.{_↔_}
 use native.Mathlib.Omega.{arith}
-use lib.ListN.{length, take, drop, take-append-drop}
+use lib.ListN.{length, take, drop, take-append-drop, length-take, length-append}
 use lib.Seq.{take-at, take-length}
 use lib.Dec.{eqb}
-use borrow.Author.Tests.{eq-eqb, eqb-true}
+use borrow.Author.Tests.{eq-eqb, eqb-true, ne-eqb}
 use Rattle.octets.specs.Answer.{Answer, result, refused}
 use Rattle.octets.specs.Test.{pick, both}
 use Rattle.octets.specs.Bytes.{part}
@@ -147,15 +147,49 @@ front-only n b m k e =
           (ap (λ (y : Message). begins b (encode y v)) f ∙ both-left (begins b (encode x v)) (allowed n x v) (q .0));
     }
 
--- equal fronts are read alike
-pub front-same : (n : ℕ) (b c : List ℕ) (m : Message) (k : ℕ) → front n b ≡ result (m, k) → take k c ≡ take k b
-    → front n c ≡ result (m, k)
-front-same n b c m k e p =
-    let f = front-only n b m k e in
-    let v = viewAt n b in
-    ap (λ (t : List ℕ). front n t)
-    (sym (ap (λ (t : List ℕ). t ++ drop k c) (sym (p ∙ f .bytes)) ∙ take-append-drop k c))
-    ∙ front-back n m v (drop k c) (f .sized) (f .allowed-is) ∙ ap (λ (j : ℕ). result (m, j)) (sym (f .long))
+-- no message is empty
+pub not-empty : (m : Message) (v : List ℕ) → 1 ≤ length (encode m v)
+unfolding encode
+not-empty (Read q) v = omega arith
+not-empty (ReadAnswer q t) v = omega arith
+not-empty (Write q t) v = omega arith
+not-empty (WriteAnswer q t) v = omega arith
+not-empty (Echo t) v = omega arith
+not-empty (Value t w p) v = omega arith
+not-empty (Good t) v = omega arith
+
+-- a message at the front, whatever follows it
+module _ (n : ℕ) (b : List ℕ) (m : Message) (k : ℕ) (e : front n b ≡ result (m, k)) where
+  abbrev v : List ℕ
+  v = viewAt n b
+
+  abbrev f : Front n b m k
+  f = front-only n b m k e
+
+  -- bytes that are the same up to its end
+  split : (c : List ℕ) → take k c ≡ take k b → c ≡ encode m v ++ drop k c
+  split c p = sym (ap (λ (t : List ℕ). t ++ drop k c) (sym (p ∙ f .bytes)) ∙ take-append-drop k c)
+
+  pub front-same : (c : List ℕ) → take k c ≡ take k b → front n c ≡ result (m, k)
+  front-same c p =
+      ap (front n) (split c p) ∙ front-back n m v (drop k c) (f .sized) (f .allowed-is)
+      ∙ ap (λ (j : ℕ). result (m, j)) (sym (f .long))
+
+  pub own-front : (c : List ℕ) → take k c ≡ take k b → frontPart n c ≡ viewIn m v
+  own-front c p = ap (frontPart n) (split c p) ∙ front-view-back n m v (drop k c) (f .sized) (f .allowed-is)
+
+  pub front-some : 1 ≤ k
+  front-some = let l = f .long in let o = not-empty m v in omega (arith, l, o)
+
+  pub front-within : k ≤ length b
+  front-within =
+      let l = sym (length-take k b) ∙ ap (λ (x : List ℕ). length x) (f .bytes) ∙ sym (f .long) in omega (arith, l)
+
+  pub front-alone : decode n (take k b) ≡ result m
+  front-alone = ap (decode n) (f .bytes) ∙ read-back n m v (f .sized) (f .allowed-is)
+
+  pub alone-view : viewPart n (take k b) ≡ frontPart n b
+  alone-view = ap (viewPart n) (f .bytes) ∙ view-back n m v (f .sized) (f .allowed-is) ∙ sym (own-front b refl)
 
 whole-got : (k : ℕ) (a : Answer (Message × ℕ)) (m : Message) → whole k a ≡ result m → a ≡ result (m, k)
 whole-got k (result p) m e =
@@ -199,6 +233,18 @@ read-only n b m e =
     placed n b m (f .sized) (f .allowed-is) (sym (take-length b) ∙ f .bytes)
 
 -- bytes are read as m just where they are what is written of m, allowed, with some view
+-- with more bytes after it, it is not the message that they are
+pub nothing-after : (n : ℕ) (b rest : List ℕ) (m : Message) → decode n b ≡ result m → 1 ≤ length rest
+    → decode n (b ++ rest) ≡ refused 7
+unfolding decode
+nothing-after n b rest m e l =
+    let w = read-only n b m e in
+    let f : front n (b ++ rest) ≡ result (m, length b) =
+    ap (λ (z : List ℕ). front n (z ++ rest)) (w .bytes) ∙ front-back n m (viewPart n b) rest (w .sized) (w .allowed-is)
+    ∙ ap (λ (z : List ℕ). result (m, length z)) (sym (w .bytes)) in
+    rw f (rw (ne-eqb (length b) (length (b ++ rest)) (λ h.
+    let i = length-append b rest in omega (arith, h, i, l))) refl)
+
 pub accepts : (n : ℕ) (b : List ℕ) (m : Message) → isSize n ≡ true
     → (decode n b ≡ result m) ↔ ((v : List ℕ) × (allowed n m v ≡ true) × (b ≡ encode m v))
 accepts n b m s = (

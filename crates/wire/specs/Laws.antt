@@ -5,7 +5,7 @@ use mathlib.Core.Path.{_≡_}
 use mathlib.Core.Bool.{true, false}
 use mathlib.Core.List.{List, [], _++_}
 use mathlib.Core.Logic.{_↔_}
-use lib.ListN.{length}
+use lib.ListN.{length, take}
 use Rattle.octets.specs.Answer.{result, refused}
 use Rattle.octets.specs.Bytes.{part}
 use Rattle.view.specs.Size.{isSize, viewSize}
@@ -30,6 +30,21 @@ FrontViewBack = (n : ℕ) (m : Message) (v rest : List ℕ) → isSize n ≡ tru
 abbrev pub FrontBack : Type 0
 FrontBack = (n : ℕ) (m : Message) (v rest : List ℕ) → isSize n ≡ true → allowed n m v ≡ true
     → front n (encode m v ++ rest) ≡ result (m, length (encode m v))
+
+-- No byte past the end of a message is judged: other bytes that are the same up to there have the same message at
+-- their front, which ends at the same place, with the same view; and without what follows they are that message.
+abbrev pub FrontSame : Type 0
+FrontSame = (n : ℕ) (b c : List ℕ) (m : Message) (k : ℕ) → front n b ≡ result (m, k) → take k c ≡ take k b
+    → (front n c ≡ result (m, k)) × (frontPart n c ≡ frontPart n b)
+
+abbrev pub FrontAlone : Type 0
+FrontAlone = (n : ℕ) (b : List ℕ) (m : Message) (k : ℕ) → front n b ≡ result (m, k)
+    → (1 ≤ k) × (k ≤ length b) × (decode n (take k b) ≡ result m) × (viewPart n (take k b) ≡ frontPart n b)
+
+-- Bytes that are to be one message have none after it.
+abbrev pub NothingAfter : Type 0
+NothingAfter = (n : ℕ) (b rest : List ℕ) (m : Message) → decode n b ≡ result m → 1 ≤ length rest
+    → decode n (b ++ rest) ≡ refused 7
 
 -- What was read is written back, and the layout allows it.
 abbrev pub WriteBack : Type 0

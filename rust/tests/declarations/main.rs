@@ -59,10 +59,12 @@ fn file(path: &str) -> Parsed<String> {
 }
 
 /// The sizes of this crate, by their names.
-const SIZES: [(&str, usize); 5] = [
+const SIZES: [(&str, usize); 7] = [
     ("RECORD", snapshot::RECORD),
     ("OUTPUT", snapshot::OUTPUT),
     ("LONGEST", snapshot::LONGEST),
+    ("FRAME", snapshot::FRAME),
+    ("FRAME_OUTPUT", snapshot::FRAME_OUTPUT),
     ("VIEW", snapshot::VIEW),
     ("REPORT", snapshot::REPORT),
 ];
@@ -89,7 +91,7 @@ fn the_three_texts_declare_the_same() {
             assert!(proved.contains_key(name), "{name} of {other} is not in lib.rt");
         }
     }
-    assert_eq!(proved.len(), 15);
+    assert_eq!(proved.len(), 16);
 }
 
 #[test]
@@ -112,12 +114,14 @@ fn the_header_has_the_sizes_of_the_proved_code() {
         ("RECORD", "region/src/places"),
         ("OUTPUT", "calls/src/lib"),
         ("LONGEST", "wire/src/lib"),
+        ("FRAME", "calls_bytes/src/lib"),
+        ("FRAME_OUTPUT", "calls_bytes/src/lib"),
     ] {
         let text = without_comments(&file(&format!("crates/{module}.rt")).unwrap()).unwrap();
         let size = rattle::constant(&text, name).unwrap();
         assert_eq!(header.numbers.get(&format!("SNAPSHOT_{name}")), Some(&size), "{name}");
     }
-    assert_eq!(header.numbers.len(), 7);
+    assert_eq!(header.numbers.len(), 9);
     assert!(file("include/snapshot.h").unwrap().contains("#define SNAPSHOT_CLUSTER(n) (1 + 73345 * (n))\n"));
     assert!((1..=16).all(|n| snapshot::lent::size(n) == 1 + 73345 * n));
 }

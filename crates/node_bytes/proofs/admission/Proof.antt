@@ -13,7 +13,8 @@ use Rattle.node_bytes.proofs.admission.Tie as tie
 returns : tie.Need-returns
 returns c =
     let c3 = c .before .before .before in
-    is-12 (c3 .args .r .now) (c3 .args .room) (sym (c .before .and .ensures) ∙ not-true _ (c .if1 .taken))
+    is-12 (c3 .args .least) (c3 .args .r .now) (c3 .args .room)
+    (sym (c .before .and .ensures) ∙ not-true _ (c .if1 .taken))
 
 is-usable-in-requires : tie.Need-is-usable-in-requires
 is-usable-in-requires c κs =
@@ -26,7 +27,7 @@ returns-2 c =
     let c2 = c .before .before in
     let c3 = c2 .before in
     let c5 = c3 .before .before in
-    is-2 (c5 .args .r .now) (c5 .args .room) (sym (c3 .and .ensures) ∙ not-false _ (c2 .if1 .left))
+    is-2 (c5 .args .least) (c5 .args .r .now) (c5 .args .room) (sym (c3 .and .ensures) ∙ not-false _ (c2 .if1 .left))
     (sym (c .before .is-usable-in .ensures) ∙ not-true _ (c .if2 .taken))
 
 returns-3 : tie.Need-returns-3
@@ -34,7 +35,7 @@ returns-3 c =
     let c2 = c .before .before in
     let c3 = c2 .before in
     let c5 = c3 .before .before in
-    is-0 (c5 .args .r .now) (c5 .args .room) (sym (c3 .and .ensures) ∙ not-false _ (c2 .if1 .left))
+    is-0 (c5 .args .least) (c5 .args .r .now) (c5 .args .room) (sym (c3 .and .ensures) ∙ not-false _ (c2 .if1 .left))
     (sym (c .before .is-usable-in .ensures) ∙ not-false _ (c .if2 .left))
 
 pub admission-spec : {M : Type 1} → statement M

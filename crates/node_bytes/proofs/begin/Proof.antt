@@ -31,7 +31,7 @@ returns c =
 is-open-in-requires : tie.Need-is-open-in-requires
 is-open-in-requires c κs =
     let c6 = c .before .before .before .before .before .before in
-    admitted (c6 .args .r .now) (c6 .args .out .now) (sym (c .before .before .admission .ensures) ∙
+    admitted N.leastOutput (c6 .args .r .now) (c6 .args .out .now) (sym (c .before .before .admission .ensures) ∙
     c .before .if1 .left) .long
 
 returns-2 : tie.Need-returns-2
@@ -40,7 +40,7 @@ returns-2 c =
     let c5 = c4 .before in
     let c9 = c5 .before .before .before .before in
     let a = c9 .args in
-    let h = admitted (a .r .now) (a .out .now) (sym (c5 .admission .ensures) ∙ c4 .if1 .left) in
+    let h = admitted N.leastOutput (a .r .now) (a .out .now) (sym (c5 .admission .ensures) ∙ c4 .if1 .left) in
     becomes (c .turned-away2 .result) _ _ (refused-at (a .r .now) (a .out .now) (λ d. N.begin d (a .o) (a .out .now)) h
     (begin-5 _ (a .o) (a .out .now) (le-ltb _ _ (h .room)) (h .can-step) (sym (c .before .before .is-open-in .ensures)
     ∙ c .before .if2 .taken)))
@@ -51,7 +51,7 @@ is-full-in-requires c κs =
     let c4 = c .before .before .before .before in
     let c5 = c4 .before in
     let c9 = c5 .before .before .before .before in
-    admitted (c9 .args .r .now) (c9 .args .out .now) (sym (c5 .admission .ensures) ∙ c4 .if1 .left) .long
+    admitted N.leastOutput (c9 .args .r .now) (c9 .args .out .now) (sym (c5 .admission .ensures) ∙ c4 .if1 .left) .long
 
 returns-3 : tie.Need-returns-3
 returns-3 c =
@@ -61,7 +61,7 @@ returns-3 c =
     let c8 = c7 .before in
     let c12 = c8 .before .before .before .before in
     let a = c12 .args in
-    let h = admitted (a .r .now) (a .out .now) (sym (c8 .admission .ensures) ∙ c7 .if1 .left) in
+    let h = admitted N.leastOutput (a .r .now) (a .out .now) (sym (c8 .admission .ensures) ∙ c7 .if1 .left) in
     becomes (c .turned-away3 .result) _ _ (refused-at (a .r .now) (a .out .now) (λ d. N.begin d (a .o) (a .out .now)) h
     (begin-6 _ (a .o) (a .out .now) (le-ltb _ _ (h .room)) (h .can-step) (sym (c5 .is-open-in .ensures) ∙ c4 .if2 .left)
     (sym (c .before .before .is-full-in .ensures) ∙ c .before .if3 .taken)))
@@ -72,7 +72,7 @@ get-word-requires c κs =
     let c7 = c .before .before .before .before .before .before .before in
     let c8 = c7 .before in
     let c12 = c8 .before .before .before .before in
-    let long = admitted (c12 .args .r .now) (c12 .args .out .now) (sym (c8 .admission .ensures)
+    let long = admitted N.leastOutput (c12 .args .r .now) (c12 .args .out .now) (sym (c8 .admission .ensures)
     ∙ c7 .if1 .left) .long in search needs
 
 ask-in-requires : tie.Need-ask-in-requires
@@ -80,7 +80,8 @@ ask-in-requires c κs =
     let c9 = c .before .before .before .before .before .before .before .before .before in
     let c10 = c9 .before in
     let c14 = c10 .before .before .before .before in
-    let h = admitted (c14 .args .r .now) (c14 .args .out .now) (sym (c10 .admission .ensures) ∙ c9 .if1 .left) in
+    let h = admitted N.leastOutput (c14 .args .r .now) (c14 .args .out .now) (sym (c10 .admission .ensures) ∙ c9 .if1
+    .left) in
     (h .long, parts _ (h .can-step) .request-high)
 
 emit-handler-requires : tie.Need-emit-handler-requires
@@ -95,7 +96,7 @@ emit-handler-requires c κs =
     let c14 = c13 .before in
     let c18 = c14 .before .before .before .before in
     let a = c18 .args in
-    let h = admitted (a .r .now) (a .out .now) (sym (c14 .admission .ensures) ∙ c13 .if1 .left) in
+    let h = admitted N.leastOutput (a .r .now) (a .out .now) (sym (c14 .admission .ensures) ∙ c13 .if1 .left) in
     let d = recordOf (a .r .now) in
     let f = faultsOf d in
     let s = begun d (a .o) in
@@ -119,7 +120,7 @@ returns-4 c =
     let c17 = c16 .before in
     let c21 = c17 .before .before .before .before in
     let a = c21 .args in
-    let h = admitted (a .r .now) (a .out .now) (sym (c17 .admission .ensures) ∙ c16 .if1 .left) in
+    let h = admitted N.leastOutput (a .r .now) (a .out .now) (sym (c17 .admission .ensures) ∙ c16 .if1 .left) in
     let d = recordOf (a .r .now) in
     let f = faultsOf d in
     let s = begun d (a .o) in

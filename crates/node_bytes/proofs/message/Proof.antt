@@ -37,7 +37,7 @@ get-word-requires : tie.Need-get-word-requires
 get-word-requires c κs =
     let c2 = c .before .before in
     let c7 = c2 .before .before .before .before .before in
-    let long = admitted (c7 .args .r .now) (c7 .args .out .now) (sym (c2 .admission .ensures)
+    let long = admitted N.leastOutput (c7 .args .r .now) (c7 .args .out .now) (sym (c2 .admission .ensures)
     ∙ c .before .if1 .left) .long in search needs
 
 returns-2 : tie.Need-returns-2
@@ -49,7 +49,7 @@ returns-2 c =
     let c6 = c5 .before in
     let c11 = c6 .before .before .before .before .before in
     let a = c11 .args in
-    let h = admitted (a .r .now) (a .out .now) (sym (c6 .admission .ensures) ∙ c5 .if1 .left) in
+    let h = admitted N.leastOutput (a .r .now) (a .out .now) (sym (c6 .admission .ensures) ∙ c5 .if1 .left) in
     let d = recordOf (a .r .now) in
     let e = own-n (a .r .now) (c3 .get-word .ensures) in
     becomes-shown (c .turned-away2 .result) _ _ _ _ (refused-at (a .r .now) (a .out .now) (λ d. N.message d (a .s)
@@ -80,7 +80,7 @@ take-message-requires c κs =
     let c13 = c12 .before in
     let c18 = c13 .before .before .before .before .before in
     let a = c18 .args in
-    let h = admitted (a .r .now) (a .out .now) (sym (c13 .admission .ensures) ∙ c12 .if1 .left) in
+    let h = admitted N.leastOutput (a .r .now) (a .out .now) (sym (c13 .admission .ensures) ∙ c12 .if1 .left) in
     let d = recordOf (a .r .now) in
     let e = own-n (a .r .now) (c10 .get-word .ensures) in
     let n = c10 .get-word .result in
@@ -113,7 +113,7 @@ returns-3 c =
     let c18 = c17 .before in
     let c23 = c18 .before .before .before .before .before in
     let a = c23 .args in
-    let h = admitted (a .r .now) (a .out .now) (sym (c18 .admission .ensures) ∙ c17 .if1 .left) in
+    let h = admitted N.leastOutput (a .r .now) (a .out .now) (sym (c18 .admission .ensures) ∙ c17 .if1 .left) in
     let d = recordOf (a .r .now) in
     let e = own-n (a .r .now) (c15 .get-word .ensures) in
     let sender = sym (c14 .and .ensures ∙ ap (λ (j : ℕ). both (leb 1 (a .s)) (leb (a .s) j)) (sym e)) ∙ not-false _
@@ -142,7 +142,7 @@ returns-4 c =
     let c9 = c8 .before in
     let c14 = c9 .before .before .before .before .before in
     let a = c14 .args in
-    let h = admitted (a .r .now) (a .out .now) (sym (c9 .admission .ensures) ∙ c8 .if1 .left) in
+    let h = admitted N.leastOutput (a .r .now) (a .out .now) (sym (c9 .admission .ensures) ∙ c8 .if1 .left) in
     let d = recordOf (a .r .now) in
     let e = own-n (a .r .now) (c6 .get-word .ensures) in
     let sender = sym (c5 .and .ensures ∙ ap (λ (j : ℕ). both (leb 1 (a .s)) (leb (a .s) j)) (sym e)) ∙ not-false _
