@@ -6,7 +6,7 @@ use crate::dice::Dice;
 use crate::habits::{Habits, Weather};
 use crate::message::{Message, NodeId, LIMIT};
 use crate::node::{Ending, Operation, Rule, Step};
-use crate::record::{Record, LEAST_OUTPUT, NODES};
+use crate::record::{Record, LEAST_FRAME_OUTPUT, LEAST_OUTPUT, LONGEST_FRAME, NODES};
 use crate::wire;
 use std::collections::VecDeque;
 
@@ -14,6 +14,8 @@ pub struct Network {
     pub dice: Dice,
     habits: Habits,
     weather: Weather,
+    /// How often, in a thousand deliveries, a link hands over several messages in a frame, if so many wait.
+    frames: usize,
     n: usize,
     /// Index 0 is unused, here and in the links.
     records: Vec<Option<Record>>,
@@ -25,8 +27,8 @@ pub struct Network {
 /// One event as it went.
 pub struct Happening {
     pub event: Event,
-    /// The message of a delivery.
-    pub message: Option<Message>,
+    /// The messages of a delivery: one, or those of a frame.
+    pub messages: Vec<Message>,
     /// All that the step gave, and what of it was let out; nothing where a node only stops.
     pub step: Step,
     pub let_out: Vec<(NodeId, Message)>,
@@ -47,8 +49,9 @@ impl Network {
         let records = (0..=n).map(&mut record).collect();
         let habits = Habits::draw(&mut dice, n);
         let weather = Weather::draw(&mut dice, n);
+        let frames = dice.pick(&[0, 100, 500, 1000]);
         let links = vec![vec![VecDeque::new(); n + 1]; n + 1];
-        Network { dice, habits, weather, n, records, stopped: vec![false; n + 1], links }
+        Network { dice, habits, weather, frames, n, records, stopped: vec![false; n + 1], links }
     }
 
     pub fn n(&self) -> usize {
@@ -69,14 +72,14 @@ impl Network {
         if self.dice.chance(self.habits.changes) {
             self.weather = Weather::draw(&mut self.dice, self.n);
         }
-        let event = self.choose()?;
+        let (event, count) = self.choose()?;
         let node = event.node();
-        let mut message = None;
+        let mut messages = vec![];
         let (step, extent) = match event {
             Event::Begin { operation, extent, .. } => (self.begun(node, operation), extent),
             Event::Deliver { from, extent, .. } => {
-                let step = self.delivered(from, node);
-                message = self.links[from][node].pop_front();
+                let step = self.delivered(from, node, count);
+                messages.extend(self.links[from][node].drain(..count));
                 (step, extent)
             }
             Event::Stop { .. } => ((self.record(node).clone(), Step::default()), Extent::Whole),
@@ -94,7 +97,7 @@ impl Network {
         if event.stops() {
             (1..=self.n).for_each(|from| self.links[from][node].clear());
         }
-        Some(Happening { event, message, step, let_out })
+        Some(Happening { event, messages, step, let_out })
     }
 
     /// What a begin leaves of its node's record, and gives.
@@ -104,19 +107,23 @@ impl Network {
         (after, step)
     }
 
-    /// The same of a delivery.
-    fn delivered(&self, from: NodeId, to: NodeId) -> (Record, Step) {
-        let bytes = wire::write(&self.links[from][to][0]);
+    /// The same of a delivery of so many messages.
+    fn delivered(&self, from: NodeId, to: NodeId, count: usize) -> (Record, Step) {
+        let bytes: Vec<u8> = self.links[from][to].iter().take(count).flat_map(wire::write).collect();
         let mut after = self.record(to).clone();
-        let step = after.message(from, &bytes, LEAST_OUTPUT).expect("what a link brings is never refused");
-        (after, step)
+        let step = match count {
+            1 => after.message(from, &bytes, LEAST_OUTPUT),
+            _ => after.frame(from, &bytes, LEAST_FRAME_OUTPUT).map(|steps| Step::joined(&steps)),
+        };
+        (after, step.expect("what a link brings is never refused"))
     }
 
-    fn choose(&mut self) -> Option<Event> {
+    /// What happens next, and how many messages are delivered by it.
+    fn choose(&mut self) -> Option<(Event, usize)> {
         let stoppable = 2 * (self.stopped.iter().filter(|&&stopped| stopped).count() + 1) < self.n;
         if stoppable && self.dice.chance(self.habits.stops) {
             let standing: Vec<NodeId> = (1..=self.n).filter(|&node| !self.stopped[node]).collect();
-            return Some(Event::Stop { node: self.dice.pick(&standing) });
+            return Some((Event::Stop { node: self.dice.pick(&standing) }, 0));
         }
         let ready = |&node: &NodeId| {
             let record = self.record(node);
@@ -130,11 +137,33 @@ impl Network {
             let update = self.dice.chance(self.habits.updates);
             let operation = if update { Operation::Update(self.dice.number()) } else { Operation::Scan };
             let extent = self.extent(stoppable, |network| network.begun(node, operation).1);
-            return Some(Event::Begin { node, operation, extent });
+            return Some((Event::Begin { node, operation, extent }, 0));
         }
         let (from, to) = self.pick(&waiting)?;
-        let extent = self.extent(stoppable, |network| network.delivered(from, to).1);
-        Some(Event::Deliver { from, to, extent })
+        let count = self.count(from, to);
+        let extent = self.extent(stoppable, |network| network.delivered(from, to, count).1);
+        Some((Event::Deliver { from, to, extent }, count))
+    }
+
+    /// How many messages the link hands over: one, or as many as a frame has room for, or some of these. The victim is
+    /// spared what would end its operation by a round here too.
+    fn count(&mut self, from: NodeId, to: NodeId) -> usize {
+        if !self.dice.chance(self.frames) {
+            return 1;
+        }
+        let mut size = 0;
+        let has_room = |message: &&Message| {
+            size += wire::write(message).len();
+            size <= LONGEST_FRAME
+        };
+        let most = self.links[from][to].iter().take_while(has_room).count();
+        let some = 1 + self.dice.below(most);
+        let count = self.dice.pick(&[some, most]);
+        if self.habits.victim == Some(to) && self.ends_by_a_round(from, to, count) {
+            1
+        } else {
+            count
+        }
     }
 
     /// Now and then a cut, within the entries of the step.
@@ -165,15 +194,15 @@ impl Network {
             let place = place.or_else(|| (!waiting.is_empty()).then(|| self.dice.below(waiting.len())));
             picked = place.map(|place| waiting[place]);
             match picked {
-                Some((from, to)) if self.habits.victim == Some(to) && self.ends_by_a_round(from, to) => (),
+                Some((from, to)) if self.habits.victim == Some(to) && self.ends_by_a_round(from, to, 1) => (),
                 _ => break,
             }
         }
         picked
     }
 
-    fn ends_by_a_round(&self, from: NodeId, to: NodeId) -> bool {
-        let ending = self.delivered(from, to).1.ending;
+    fn ends_by_a_round(&self, from: NodeId, to: NodeId, count: usize) -> bool {
+        let ending = self.delivered(from, to, count).1.ending;
         matches!(ending, Some(Ending::Done(Rule::Round(_), _) | Ending::Scan(Rule::Round(_), _)))
     }
 }

@@ -58,6 +58,14 @@ pub struct Step {
 }
 
 impl Step {
+    /// All that the messages of a frame gave, in turn. At most one of them ends an operation, since none begins one.
+    pub fn joined(steps: &[Step]) -> Step {
+        let mut endings = steps.iter().filter_map(|step| step.ending.clone());
+        let ending = endings.next();
+        assert_eq!(endings.next(), None, "an operation ends once");
+        Step { sent: steps.iter().flat_map(|step| step.sent.clone()).collect(), ending }
+    }
+
     pub(crate) fn send(&mut self, to: To, message: Message) {
         self.sent.push((to, message));
     }

@@ -1,11 +1,14 @@
 //! One node's bounded record, as document 01 words it under "What a cabinet remembers", with its calls and its step. It
-//! is made of values that suit Rust and knows of no layout. A record may hold anything; `usable` tells which are usable.
+//! is made of values that suit Rust and knows of no layout. A record may hold anything; `usable` tells which can be
+//! used, and `frame` has the call for several messages at once.
+mod frame;
 mod usable;
 
 use crate::cluster::{demand, Refusal, NO_SUCH_NODE, OPERATION_OPEN, REQUESTS, REQUESTS_USED_UP};
 use crate::message::{Message, NodeId, Report, Tag, Value, View, LIMIT};
 use crate::node::{Ending, Operation, Rule, Step, To};
 use crate::wire;
+pub use frame::{BAD_FRAME, LEAST_FRAME_OUTPUT, LONGEST_FRAME};
 use std::collections::{BTreeMap, BTreeSet};
 pub use usable::Fault;
 
@@ -18,7 +21,7 @@ pub const BAD_LENGTH: Refusal = Refusal(12);
 /// The most nodes. Tables have a place for each of so many, whatever n is.
 pub const NODES: usize = 16;
 
-/// The shortest output buffer that a call takes.
+/// The shortest output buffer that a begin or a message takes.
 pub const LEAST_OUTPUT: usize = 512;
 
 /// At most one report for each writer, with its tag. A writer without one is not in it; an entry with tag 0 has bytes

@@ -1,5 +1,6 @@
 //! What the oracle is trusted for, told as small stories.
 
+mod frame;
 mod record;
 
 use crate::cluster::{Event, Extent, Refusal};

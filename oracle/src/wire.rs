@@ -42,6 +42,17 @@ pub fn front(n: usize, bytes: &[u8]) -> Option<(Message, usize)> {
     Some((message, bytes.len() - fields.0.len()))
 }
 
+/// The bytes of each of the messages that a frame is, among n nodes, one after the other.
+pub fn split(n: usize, frame: &[u8]) -> Option<Vec<&[u8]>> {
+    let (mut messages, mut rest) = (vec![], frame);
+    while !rest.is_empty() {
+        let (message, more) = rest.split_at(front(n, rest)?.1);
+        messages.push(message);
+        rest = more;
+    }
+    Some(messages)
+}
+
 /// The fields that are still to be read.
 struct Fields<'a>(&'a [u8]);
 

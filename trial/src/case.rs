@@ -5,16 +5,29 @@ use crate::stored;
 use oracle::cluster::Refusal;
 use oracle::dice::Dice;
 use oracle::node::{Ending, Operation, Rule, Step, To};
-use oracle::record::{Fault, Record, BAD_LENGTH, BAD_NUMBER, LEAST_OUTPUT, NODES, NOT_OF_THE_LAYOUT, UNUSABLE};
+use oracle::record::{
+    Fault, Record, BAD_LENGTH, BAD_NUMBER, LEAST_FRAME_OUTPUT, LEAST_OUTPUT, NODES, NOT_OF_THE_LAYOUT, UNUSABLE,
+};
 use oracle::wire;
 use snapshot::{lent, VIEW};
 use std::fmt::Write;
 
-/// A begin or a message at a node.
+/// A begin, a message or a frame at a node.
 #[derive(Clone, Debug)]
 pub enum Call {
     Begin(Operation),
     Message { sender: usize, bytes: Vec<u8> },
+    Frame { sender: usize, bytes: Vec<u8> },
+}
+
+impl Call {
+    /// The shortest output buffer that it takes.
+    pub fn least_output(&self) -> usize {
+        match self {
+            Call::Begin(_) | Call::Message { .. } => LEAST_OUTPUT,
+            Call::Frame { .. } => LEAST_FRAME_OUTPUT,
+        }
+    }
 }
 
 /// A call on a record, with so many bytes for its output.
@@ -38,8 +51,10 @@ struct Left {
 pub struct Agreed {
     pub code: u8,
     pub record: Vec<u8>,
-    /// The oracle's step, where the call was not refused.
-    pub step: Option<Step>,
+    /// The bytes of output.
+    pub length: usize,
+    /// The oracle's steps, one for each message, where the call was not refused; a begin is one too.
+    pub steps: Option<Vec<Step>>,
     /// The record before, where its bytes are one, and the clauses by which it is unusable.
     pub before: Option<(Record, Vec<Fault>)>,
 }
@@ -53,18 +68,18 @@ impl Case {
         let lent = Left { code: 0, record, out: noise(dice, self.output), length: dice.number() as usize, view };
         let proved = self.proved(lent.clone());
         let before = stored::words(&self.record).and_then(|words| stored::read(&words));
-        let (expected, step) = self.expected(lent, before.clone());
+        let (expected, steps) = self.expected(lent, before.clone());
         if proved != expected {
             return Err(self.difference(&proved, &expected));
         }
-        if let (Some(step), Some(record)) = (&step, &before) {
-            self.walk(record.n, step, &proved.out[..proved.length])?;
+        if let (Some(steps), Some(record)) = (&steps, &before) {
+            self.walk(record.n, steps, &proved.out[..proved.length])?;
         }
         let before = before.map(|record| {
             let faults = record.faults();
             (record, faults)
         });
-        Ok(Agreed { code: proved.code, record: proved.record, step, before })
+        Ok(Agreed { code: proved.code, record: proved.record, length: proved.length, steps, before })
     }
 
     fn proved(&self, mut lent: Left) -> Left {
@@ -75,18 +90,20 @@ impl Case {
             }
             Call::Begin(Operation::Scan) => lent::node_begin_scan(record, out, length),
             Call::Message { sender, bytes } => lent::node_message(record, *sender, bytes, out, length, view),
+            Call::Frame { sender, bytes } => lent::node_frame(record, *sender, bytes, out, length, view),
         };
         lent
     }
 
     /// The same by the oracle. A refusal changes nothing.
-    fn expected(&self, mut lent: Left, before: Option<Record>) -> (Left, Option<Step>) {
+    fn expected(&self, mut lent: Left, before: Option<Record>) -> (Left, Option<Vec<Step>>) {
         match self.oracle(before) {
             Err(Refusal(number)) => {
                 lent.code = number;
                 (lent, None)
             }
-            Ok((after, step)) => {
+            Ok((after, steps)) => {
+                let step = Step::joined(&steps);
                 lent.code = code(&step.ending);
                 lent.record = stored::bytes(&stored::write(&after));
                 let sent: Vec<u8> = step.sent.iter().flat_map(|(_, message)| wire::write(message)).collect();
@@ -97,33 +114,34 @@ impl Case {
                     lent.view = [0; VIEW];
                     lent.view[..shown.len()].copy_from_slice(&shown);
                 }
-                (lent, Some(step))
+                (lent, Some(steps))
             }
         }
     }
 
-    fn oracle(&self, before: Option<Record>) -> Result<(Record, Step), Refusal> {
-        if self.record.len() != stored::SIZE || self.output < LEAST_OUTPUT {
+    fn oracle(&self, before: Option<Record>) -> Result<(Record, Vec<Step>), Refusal> {
+        if self.record.len() != stored::SIZE || self.output < self.call.least_output() {
             return Err(BAD_LENGTH);
         }
         let mut record = before.ok_or(UNUSABLE)?;
-        let step = match &self.call {
-            Call::Begin(operation) => record.begin(*operation, self.output)?,
-            Call::Message { sender, bytes } => record.message(*sender, bytes, self.output)?,
+        let steps = match &self.call {
+            Call::Begin(operation) => vec![record.begin(*operation, self.output)?],
+            Call::Message { sender, bytes } => vec![record.message(*sender, bytes, self.output)?],
+            Call::Frame { sender, bytes } => record.frame(*sender, bytes, self.output)?,
         };
-        Ok((record, step))
+        Ok((record, steps))
     }
 
     /// The output is walked message by message: each is found with its length and with who gets it.
-    fn walk(&self, n: usize, step: &Step, mut rest: &[u8]) -> Result<(), String> {
-        for (to, message) in &step.sent {
+    fn walk(&self, n: usize, steps: &[Step], mut rest: &[u8]) -> Result<(), String> {
+        for (to, message) in steps.iter().flat_map(|step| &step.sent) {
             let (mut length, mut route) = (0, 0);
             let code = lent::next(n, rest, &mut length, &mut route);
             let expected = (0, wire::write(message).len(), u8::from(*to != To::All));
             if (code, length, route) != expected {
                 return Err(format!("walking an output: {:?}, not {expected:?}", (code, length, route)));
             }
-            if let (To::One(receiver), Call::Message { sender, .. }) = (to, &self.call) {
+            if let (To::One(receiver), Call::Message { sender, .. } | Call::Frame { sender, .. }) = (to, &self.call) {
                 assert_eq!(receiver, sender, "an answer goes to the sender of the message handled");
             }
             rest = &rest[length..];

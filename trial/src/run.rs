@@ -3,7 +3,7 @@
 
 use crate::case::{Call, Case};
 use crate::stored::{self, SIZE};
-use crate::tally::CUT_HALFWAY;
+use crate::tally::{CUT_HALFWAY, RUN, RUN_FRAME};
 use crate::throw::Trial;
 use oracle::cluster::{entries, Accepted, Event};
 use oracle::dice::Dice;
@@ -11,7 +11,6 @@ use oracle::message::{Message, NodeId};
 use oracle::network::{Happening, Network};
 use oracle::node::{Node, Step};
 use oracle::order;
-use oracle::record::LEAST_OUTPUT;
 use oracle::session::Played;
 use oracle::wire;
 
@@ -77,24 +76,38 @@ fn start(trial: &mut Trial, network: &Network) -> Option<Nodes> {
 /// One event of the network by the two other roads.
 fn step(trial: &mut Trial, network: &Network, nodes: &mut Nodes, happening: &Happening) -> Option<()> {
     let node = happening.event.node();
-    let (call, by_sets) = match (happening.event, &happening.message) {
-        (Event::Begin { operation, .. }, _) => (Call::Begin(operation), nodes.sets[node].begin(operation)),
-        (Event::Deliver { from, .. }, Some(message)) => {
-            let bytes = wire::write(message);
-            (Call::Message { sender: from, bytes }, nodes.sets[node].receive(from, message.clone()))
+    let (call, by_sets) = match happening.event {
+        Event::Begin { operation, .. } => (Call::Begin(operation), vec![nodes.sets[node].begin(operation)]),
+        Event::Deliver { from, .. } => {
+            let received = happening.messages.iter().map(|message| nodes.sets[node].receive(from, message.clone()));
+            (delivery(&mut trial.dice, from, &happening.messages), received.collect())
         }
-        _ => return Some(()),
+        Event::Stop { .. } => return Some(()),
     };
-    let agreed = trial.call(&Case { record: nodes.records[node].clone(), call, output: LEAST_OUTPUT })?;
-    trial.tally.count(format!("run: {}", agreed.code));
+    let (framed, output) = (matches!(call, Call::Frame { .. }), call.least_output());
+    let agreed = trial.call(&Case { record: nodes.records[node].clone(), call, output })?;
+    trial.tally.count(format!("{RUN}: {}", agreed.code));
+    if framed {
+        trial.tally.count(format!("{RUN_FRAME}: {}", agreed.code));
+    }
     nodes.records[node] = agreed.record;
-    let same = |step: &Option<Step>| step.as_ref() == Some(&happening.step) && by_sets == happening.step;
+    let same = agreed.steps.as_ref() == Some(&by_sets) && Step::joined(&by_sets) == happening.step;
     let kept = nodes.records[node] == stored::bytes(&stored::write(network.record(node)));
-    if same(&agreed.step) && kept {
+    if same && kept {
         return Some(());
     }
-    let difference = format!("a step of a network: {:?}, by sets {by_sets:?}", agreed.step);
+    let difference = format!("a step of a network: {:?}, by sets {by_sets:?}", agreed.steps);
     trial.keep(Err(difference))
+}
+
+/// How what is delivered crosses: several messages in a frame, one by itself or, now and then, in a frame too.
+fn delivery(dice: &mut Dice, sender: NodeId, messages: &[Message]) -> Call {
+    let bytes = messages.iter().flat_map(wire::write).collect();
+    if messages.len() > 1 || dice.chance(50) {
+        Call::Frame { sender, bytes }
+    } else {
+        Call::Message { sender, bytes }
+    }
 }
 
 /// What waits for a node, the oldest of each link, with its sender.

@@ -1,4 +1,5 @@
 //! What has occurred, counted; and what must have.
+mod frame;
 
 use crate::case::{Agreed, Call, Case};
 use crate::limits::{limited, wait_name, waits, LIMITED};
@@ -12,17 +13,27 @@ const ENDINGS: [u8; 10] = [0, 13, 100, 101, 102, 103, 110, 111, 112, 113];
 
 const NO_RECORD: &str = "unusable: no such wait or kind";
 
+/// A step of a network, and one whose messages came in a frame.
+pub const RUN: &str = "run";
+pub const RUN_FRAME: &str = "run, in a frame";
+
 /// A node of a network stopped halfway through a list.
 pub const CUT_HALFWAY: &str = "run: cut halfway";
 
 #[derive(Default)]
 pub struct Tally {
     counts: BTreeMap<String, usize>,
+    /// The bytes of the longest output of a frame.
+    longest: usize,
 }
 
 impl Tally {
     pub fn count(&mut self, name: impl Into<String>) {
-        *self.counts.entry(name.into()).or_default() += 1;
+        self.add(name, 1);
+    }
+
+    fn add(&mut self, name: impl Into<String>, more: usize) {
+        *self.counts.entry(name.into()).or_default() += more;
     }
 
     /// Counts a case by its answer and by how close its record came to being unusable, or usable.
@@ -30,11 +41,17 @@ impl Tally {
         let name = match case.call {
             Call::Begin(_) => "begin",
             Call::Message { .. } => "message",
+            Call::Frame { .. } => "frame",
         };
         self.count(format!("{name}: {}", agreed.code));
         match &agreed.before {
             None if agreed.code == 2 => self.count(NO_RECORD),
-            Some((record, faults)) if agreed.code != 12 => self.see_record(record, faults),
+            Some((record, faults)) if agreed.code != 12 => {
+                self.see_record(record, faults);
+                if let Call::Frame { sender, bytes } = &case.call {
+                    self.see_frame(record, *sender, bytes, agreed);
+                }
+            }
             _ => (),
         }
     }
@@ -100,10 +117,14 @@ fn needed() -> Vec<String> {
     [
         codes("message", &[12, 2, 3, 7, 9]),
         codes("message", &ENDINGS),
+        codes("frame", &[12, 2, 3, 14, 7, 9]),
+        codes("frame", &ENDINGS),
+        frame::needed(),
         codes("begin", &[0, 12, 2, 5, 6]),
         codes("fresh", &[0, 1, 12]),
         codes("next", &[0, 1, 7]),
-        codes("run", &ENDINGS),
+        codes(RUN, &ENDINGS),
+        codes(RUN_FRAME, &[0, 13, 101, 102, 111, 112]),
         faults.map(alone).to_vec(),
         vec![NO_RECORD.to_string(), CUT_HALFWAY.to_string()],
         LIMITED.map(just_at).to_vec(),
@@ -116,6 +137,7 @@ fn needed() -> Vec<String> {
 
 impl fmt::Display for Tally {
     fn fmt(&self, f: &mut fmt::Formatter<'_>) -> fmt::Result {
-        self.counts.iter().try_for_each(|(name, count)| writeln!(f, "{count:>9}  {name}"))
+        self.counts.iter().try_for_each(|(name, count)| writeln!(f, "{count:>9}  {name}"))?;
+        writeln!(f, "{:>9}  bytes in the longest output of a frame", self.longest)
     }
 }

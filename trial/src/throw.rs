@@ -5,7 +5,7 @@ use crate::chance::report;
 use crate::records::{crowded, nodes, set_wait, wild};
 use crate::stored::{self, Words, CODE, IDLE, SIZE};
 use crate::tally::Tally;
-use crate::{messages, records};
+use crate::{frames, messages, records};
 use oracle::dice::Dice;
 use oracle::message::Message;
 use oracle::node::Operation;
@@ -100,21 +100,24 @@ impl Trial {
 
     fn throw_call(&mut self, record: &[u8], waiting: &[(usize, Message)]) {
         let mut words = if self.dice.chance(40) { wild(&mut self.dice) } else { self.base(record) };
-        let call = if self.dice.chance(200) {
-            self.begin(&mut words)
-        } else {
-            let (n, dice) = (nodes(&words), &mut self.dice);
-            let any = [0, n + 1, NODES, NODES + 1, 256 + 1, (1 << 32) + 1, usize::MAX];
-            let sender = if dice.chance(950) { 1 + dice.below(n) } else { dice.pick(&any) };
-            let (sender, bytes) = self.message(&words, sender, waiting);
-            Call::Message { sender, bytes }
+        let call = match self.dice.below(10) {
+            0 | 1 => self.begin(&mut words),
+            2 => {
+                let sender = self.sender(&words);
+                Call::Frame { sender, bytes: frames::frame(&mut self.dice, &words, sender) }
+            }
+            _ => {
+                let sender = self.sender(&words);
+                let (sender, bytes) = self.message(&words, sender, waiting);
+                Call::Message { sender, bytes }
+            }
         };
         for _ in 0..self.dice.pick(&[0, 0, 1, 1, 1, 1, 2, 4]) {
             records::damage(&mut self.dice, &mut words);
         }
         let mut record = stored::bytes(&words);
         record.resize(self.record_size(), self.dice.number() as u8);
-        let output = self.output_size();
+        let output = self.output_size(call.least_output());
         self.call(&Case { record, call, output });
     }
 
@@ -125,6 +128,17 @@ impl Trial {
             words[CODE] = IDLE;
         }
         Call::Begin(if dice.chance(500) { Operation::Scan } else { Operation::Update(report(dice)) })
+    }
+
+    /// A sender, mostly one of the nodes.
+    fn sender(&mut self, words: &Words) -> usize {
+        let (n, dice) = (nodes(words), &mut self.dice);
+        let any = [0, n + 1, NODES, NODES + 1, 256 + 1, (1 << 32) + 1, usize::MAX];
+        if dice.chance(950) {
+            1 + dice.below(n)
+        } else {
+            dice.pick(&any)
+        }
     }
 
     /// Where a case starts: the record of the run, as it is or in another wait, or a crowded one.
@@ -164,13 +178,13 @@ impl Trial {
         }
     }
 
-    /// The bytes lent for an output: mostly enough.
-    fn output_size(&mut self) -> usize {
+    /// The bytes lent for an output that has so many at least: mostly enough.
+    fn output_size(&mut self, least: usize) -> usize {
         let any = self.dice.below(2 * LEAST_OUTPUT);
         match self.dice.below(20) {
-            0 => self.dice.pick(&[0, 1, LEAST_OUTPUT - 1, LEAST_OUTPUT - 1, any]),
-            1..=4 => self.dice.pick(&[LEAST_OUTPUT + 1, LEAST_OUTPUT + any]),
-            _ => LEAST_OUTPUT,
+            0 => self.dice.pick(&[0, 1, least - 1, least - 1, any]),
+            1..=4 => self.dice.pick(&[least + 1, least + any, least + 2 * any]),
+            _ => least,
         }
     }
 }

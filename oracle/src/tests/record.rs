@@ -22,10 +22,13 @@ fn the_record_does_what_the_sets_do() {
             let Some(happening) = network.next_event() else { break };
             let id = happening.event.node();
             let node = &mut nodes[id];
-            let step = match (happening.event, happening.message) {
-                (Event::Begin { operation, .. }, _) => node.begin(operation),
-                (Event::Deliver { from, .. }, Some(message)) => node.receive(from, message),
-                _ => Step::default(),
+            let step = match happening.event {
+                Event::Begin { operation, .. } => node.begin(operation),
+                Event::Deliver { from, .. } => {
+                    let received = happening.messages.into_iter().map(|message| node.receive(from, message));
+                    Step::joined(&received.collect::<Vec<_>>())
+                }
+                Event::Stop { .. } => Step::default(),
             };
             assert_eq!(happening.step, step, "seed {seed}, event {event}");
             let record = network.record(id);
