@@ -272,16 +272,19 @@ pub fn check(seeds: u64) {
         strange_bytes(seed, &mut events);
     }
     assert_eq!(Proved::node_size(), Plain::node_size());
-    let mut calls: Tally = [0; 256];
+    let mut answers = node::Answers { frames: [0; 256], others: [0; 256] };
     for seed in 0..seeds {
         for n in 1..=16 {
-            node::network(n, 1000 * seed + n as u64, 5000, seed % 2 == 1, &mut calls);
+            node::network(n, 1000 * seed + n as u64, 5000, seed % 2 == 1, &mut answers);
         }
-        node::strange_nodes(seed, &mut calls);
+        node::strange_nodes(seed, &mut answers.others);
     }
     let mut messages: Tally = [0; 256];
     codec(1, 200_000, &mut messages);
-    for (what, tally) in [("cluster events", events), ("one node", calls), ("messages and figures", messages)] {
+    let node::Answers { frames, others } = answers;
+    let tallies =
+        [("cluster events", events), ("one node", others), ("frames", frames), ("messages and figures", messages)];
+    for (what, tally) in tallies {
         println!("{what}: {} answers, all the same", tally.iter().sum::<u64>());
         for (code, count) in tally.iter().enumerate().filter(|(_, &count)| count > 0) {
             println!("  answer {code:2}: {count}");

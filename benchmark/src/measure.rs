@@ -1,6 +1,7 @@
 //! The measurements: both sides in turn on the same input, the best of several runs of each.
 mod codec;
 mod events;
+mod frame;
 mod node;
 
 /// How often each side runs at least, and for how many seconds both together; the best time counts. What takes less
@@ -10,6 +11,21 @@ const SECONDS: f64 = 0.2;
 
 /// What the proved code may take, as a multiple of plain Rust's time.
 const TARGET: f64 = 1.2;
+
+/// The best time of each work, in seconds; they run in turn.
+fn best<const K: usize>(mut works: [&mut dyn FnMut() -> f64; K]) -> [f64; K] {
+    let mut best = [f64::MAX; K];
+    let (mut runs, mut spent) = (0, 0.0);
+    while runs < RUNS || spent < SECONDS {
+        for (best, work) in best.iter_mut().zip(&mut works) {
+            let time = work();
+            *best = best.min(time);
+            spent += time;
+        }
+        runs += 1;
+    }
+    best
+}
 
 /// Seconds that each side takes, the best of the runs.
 struct Times {
@@ -21,14 +37,8 @@ impl Times {
     const NONE: Times = Times { proved: 0.0, plain: 0.0 };
 
     fn of(mut proved: impl FnMut() -> f64, mut plain: impl FnMut() -> f64) -> Times {
-        let mut best = Times { proved: f64::MAX, plain: f64::MAX };
-        let (mut runs, mut spent) = (0, 0.0);
-        while runs < RUNS || spent < SECONDS {
-            let (a, b) = (proved(), plain());
-            best = Times { proved: best.proved.min(a), plain: best.plain.min(b) };
-            (runs, spent) = (runs + 1, spent + a + b);
-        }
-        best
+        let [proved, plain] = best([&mut proved, &mut plain]);
+        Times { proved, plain }
     }
 
     fn ratio(&self) -> f64 {
@@ -48,14 +58,17 @@ pub fn all(longest: usize) {
     println!();
     let node = node::calls();
     println!();
+    let (to_calls, frames) = frame::frames();
+    println!();
     let (codec, by_kind) = codec::messages();
     println!();
     let figures = codec::figures();
     println!();
     events::growth_with_length(longest);
     println!(
-        "\nlargest ratios: events {events:.2}, one node {node:.2}, messages {codec:.2} (one kind alone {by_kind:.2}), \
-         figures {figures:.2}; the target is {TARGET:.2}"
+        "\nlargest ratios: events {events:.2}, one node {node:.2}, frames {frames:.2}, messages {codec:.2} (one kind \
+         alone {by_kind:.2}), figures {figures:.2}; the target is {TARGET:.2}\n\
+         frames beside a call for each of their messages: at most {to_calls:.2}"
     );
 }
 

@@ -50,6 +50,14 @@ pub trait Side {
         length: &mut usize,
         view: &mut View,
     ) -> u8;
+    fn node_frame(
+        record: &mut [u8],
+        sender: usize,
+        frame: &[u8],
+        out: &mut [u8],
+        length: &mut usize,
+        view: &mut View,
+    ) -> u8;
     fn next(n: usize, bytes: &[u8], length: &mut usize, route: &mut u8) -> u8;
 }
 
@@ -122,6 +130,17 @@ impl Side for Proved {
         lent::node_message(record, sender, bytes, out, length, view)
     }
 
+    fn node_frame(
+        record: &mut [u8],
+        sender: usize,
+        frame: &[u8],
+        out: &mut [u8],
+        length: &mut usize,
+        view: &mut View,
+    ) -> u8 {
+        lent::node_frame(record, sender, frame, out, length, view)
+    }
+
     fn next(n: usize, bytes: &[u8], length: &mut usize, route: &mut u8) -> u8 {
         lent::next(n, bytes, length, route)
     }
@@ -142,6 +161,14 @@ fn code(answer: Result<Ending, Refusal>) -> u8 {
         Ok(Ending::Done(r)) => DONE + rule(r),
         Ok(Ending::Scan(r)) => SCAN + rule(r),
     }
+}
+
+/// The code of a call that also answers how many bytes it sends.
+fn sent(answer: Result<(Ending, usize), Refusal>, length: &mut usize) -> u8 {
+    code(answer.map(|(ending, k)| {
+        *length = k;
+        ending
+    }))
 }
 
 // Called and not inlined, as a static library's functions are.
@@ -230,13 +257,7 @@ impl Side for Plain {
 
     #[inline(never)]
     fn node_begin(record: &mut [u8], operation: &Operation, out: &mut [u8], length: &mut usize) -> u8 {
-        match node::begin(record, *operation, out) {
-            Ok(k) => {
-                *length = k;
-                0
-            }
-            Err(refusal) => refusal,
-        }
+        sent(node::begin(record, *operation, out).map(|k| (Ending::None, k)), length)
     }
 
     #[inline(never)]
@@ -248,13 +269,19 @@ impl Side for Plain {
         length: &mut usize,
         view: &mut View,
     ) -> u8 {
-        match node::message(record, sender, bytes, out, view) {
-            Ok((ending, k)) => {
-                *length = k;
-                code(Ok(ending))
-            }
-            Err(refusal) => refusal,
-        }
+        sent(node::message(record, sender, bytes, out, view), length)
+    }
+
+    #[inline(never)]
+    fn node_frame(
+        record: &mut [u8],
+        sender: usize,
+        frame: &[u8],
+        out: &mut [u8],
+        length: &mut usize,
+        view: &mut View,
+    ) -> u8 {
+        sent(node::frame(record, sender, frame, out, view), length)
     }
 
     #[inline(never)]

@@ -1,35 +1,48 @@
 //! The differential run at one node: both sides get the same calls on their own copy of a record.
 use super::{age, damage_record, odd_number, Tally};
 use crate::dice::Dice;
-use crate::network::{Input, Lent, Network};
+use crate::network::{Input, Lent, Network, Packing, READ};
 use crate::side::{is_refusal, Operation, Plain, Proved, Side};
 
+/// The answers to frames, and those to all other calls.
+pub struct Answers {
+    pub frames: Tally,
+    pub others: Tally,
+}
+
 /// Gives the input to both sides.
-fn give_both(input: &Input, record: &mut [u8], lent: &mut Lent) -> u8 {
+fn give_both(input: &Input, record: &mut [u8], lent: &mut Lent, answers: &mut Answers) -> u8 {
     let (mut other_record, mut other_lent) = (record.to_vec(), lent.clone());
     let told = (input.give::<Proved>(record, lent), input.give::<Plain>(&mut other_record, &mut other_lent));
     assert_eq!(told.0, told.1, "another answer to {input:?}");
     assert!(record == other_record, "another record after {input:?}");
     assert!(*lent == other_lent, "another output or view after {input:?}");
+    let tally = if let Input::Frame { .. } = input { &mut answers.frames } else { &mut answers.others };
+    tally[told.0 as usize] += 1;
     told.0
 }
 
 /// A network of nodes from fresh; some are made old at once. Where `damaged`, some calls come upon a copy of a record.
-pub fn network(n: usize, seed: u64, calls: usize, damaged: bool, tally: &mut Tally) {
+pub fn network(n: usize, seed: u64, calls: usize, damaged: bool, answers: &mut Answers) {
     let mut dice = Dice::new(seed);
-    let mut network = Network::new(n, dice.number());
+    let packing = match dice.below(4) {
+        0 => Packing::Single,
+        // Two of three nodes go on while the third waits for its frames.
+        1 | 2 if n >= 3 => Packing::Full(1 + dice.below(70)),
+        _ => Packing::UpTo(2 + dice.below(10)),
+    };
+    let mut network = Network::new(n, dice.number(), packing);
     if dice.chance(250) {
         network.records.iter_mut().for_each(|record| age(&mut dice, record));
     }
     for _ in 0..calls {
         let code = network.step(|_, input, record, lent| {
             if damaged && dice.chance(300) {
-                strange_calls(&mut dice, n, input, record, tally);
+                strange_calls(&mut dice, n, input, record, answers);
             }
-            let code = give_both(input, record, lent);
-            tally[code as usize] += 1;
+            let code = give_both(input, record, lent, answers);
             if !is_refusal(code) {
-                walk(n, &lent.out[..lent.length], tally);
+                walk(n, &lent.out[..lent.length], &mut answers.others);
             }
             code
         });
@@ -37,8 +50,8 @@ pub fn network(n: usize, seed: u64, calls: usize, damaged: bool, tally: &mut Tal
     }
 }
 
-/// Calls on a damaged copy of a record, the messages damaged too or made up, the output often too short.
-fn strange_calls(dice: &mut Dice, n: usize, input: &Input, record: &[u8], tally: &mut Tally) {
+/// Calls on a damaged copy of a record, the messages and frames damaged too or made up, the output often too short.
+fn strange_calls(dice: &mut Dice, n: usize, input: &Input, record: &[u8], answers: &mut Answers) {
     let mut record = record.to_vec();
     for _ in 0..dice.below(3) {
         damage_record(dice, n, &mut record);
@@ -47,17 +60,28 @@ fn strange_calls(dice: &mut Dice, n: usize, input: &Input, record: &[u8], tally:
         record.resize(dice.below(2 * record.len()), 0);
     }
     for _ in 0..=dice.below(4) {
-        let mut lent = Lent::new(if dice.chance(50) { dice.below(600) } else { 512 });
-        let input = match dice.below(8) {
+        let sender = if dice.chance(30) { odd_number(dice) as usize } else { dice.below(n) + 1 };
+        let input = match dice.below(10) {
             0 => Input::Begin(Operation::Scan),
             1 => Input::Begin(Operation::Update(dice.number().to_be_bytes())),
             2 | 3 => input.clone(),
-            _ => {
-                let sender = if dice.chance(30) { odd_number(dice) as usize } else { dice.below(n) + 1 };
-                Input::Message { sender, bytes: made_up(dice, n, &record) }
-            }
+            4 | 5 => Input::Frame { sender, bytes: made_up_frame(dice, n, &record) },
+            _ => Input::Message { sender, bytes: made_up(dice, n, &record) },
         };
-        tally[give_both(&input, &mut record, &mut lent) as usize] += 1;
+        let room = input.room();
+        let mut lent = Lent::new(if dice.chance(50) { dice.below(room + 100) } else { room });
+        give_both(&input, &mut record, &mut lent, answers);
+    }
+}
+
+/// Some messages one after the other, damaged or not, and perhaps reads before or behind them, up to too many.
+fn made_up_frame(dice: &mut Dice, n: usize, record: &[u8]) -> Vec<u8> {
+    let made_up: Vec<u8> = (0..dice.below(6)).flat_map(|_| made_up(dice, n, record)).collect();
+    let reads = READ.repeat(if dice.chance(200) { dice.below(110) } else { 0 });
+    if dice.chance(500) {
+        [reads, made_up].concat()
+    } else {
+        [made_up, reads].concat()
     }
 }
 

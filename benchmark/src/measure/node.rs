@@ -1,7 +1,7 @@
 //! One node: a begin, and a stream of messages.
 use super::Times;
 use crate::clock::seconds;
-use crate::network::{Input, Lent, Network};
+use crate::network::{Input, Lent, Network, Packing};
 use crate::side::{is_refusal, Plain, Proved, Side};
 use std::hint::black_box;
 
@@ -17,7 +17,7 @@ struct Stream {
 }
 
 fn stream(n: usize) -> Stream {
-    let mut network = Network::new(n, 13);
+    let mut network = Network::new(n, 13, Packing::Single);
     for _ in 0..100 * n {
         network.step(|_, input, record, lent| input.give::<Plain>(record, lent));
     }
