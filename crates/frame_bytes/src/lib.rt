@@ -31,6 +31,8 @@ ghost use lib.ListN.{length};
 ghost use Rattle.octets.specs.Answer.{result};
 ghost use Rattle.octets.specs.Test.{pick};
 ghost use Rattle.view.specs.Size.{nodes};
+ghost use Rattle.wire.specs.Codec.{front};
+ghost use Rattle.wire.specs.Outcome.{found};
 ghost use Rattle.step.specs.declared.Ending.{Ending};
 ghost use Rattle.events.specs.Outcome.{answerOf};
 ghost use Rattle.region.specs.Record.{recordSize, recordOf};
@@ -39,23 +41,26 @@ ghost use Rattle.node_bytes.specs.Called.{shows};
 ghost use Rattle.frame_bytes.specs.Judged.{verdict, Goes};
 
 // What refuses the messages of a frame, taken in turn on this record: 7 if any is not of the layout, else 9 if any is
-// given it; 0 where nothing does.
-fn judge(r: &[u8], n: usize, s: usize, b: &[u8]) -> u8
-    requires { ⌜ (length (now r) ≡ recordSize) × (1 ≤ n) × (n ≤ nodes) × (1 ≤ s) × (s ≤ n) ⌝ }
+// given it; 0 where nothing does. `first` is what was found at its front.
+fn judge(r: &[u8], n: usize, s: usize, b: &[u8], first: Found) -> u8
+    requires { ⌜ (length (now r) ≡ recordSize) × (1 ≤ n) × (n ≤ nodes) × (1 ≤ s) × (s ≤ n)
+        × (found first ≡ front n (now b)) ⌝ }
     ensures { λ k. ⌜ k ≡ verdict n s (recordOf (now (r .entry))) (now (b .entry)) ⌝ }
 {
     let mut heard = heard_from(r, n, s);
     let mut last = last_tags(r, n);
     let mut top = get_word(r, MAXTAG_PLACE);
     let mut t = b;
+    let mut f = first;
     let mut stale = false;
     while 0 < t.len() {
-        match parse_prefix(n, t) {
+        match f {
             Found::At(m, k) => {
                 stale = or(stale, is_late(&heard, &last, top, m));
                 note(&mut heard, &mut last, m);
                 top = top_after(top, m);
                 t = &t[k..];
+                f = parse_prefix(n, t);
             }
             Found::Refused(_) => return 7,
         }
@@ -79,24 +84,25 @@ fn first_ending(x: Ending, later: Outcome) -> Ending
 }
 
 // Handles the messages of a frame that nothing refuses, one after the other; each writes after what those before it
-// have sent.
+// have sent. `first` is what was found at its front.
 fn take_all(
     r: &mut [u8],
     n: usize,
     s: usize,
     b: &[u8],
+    first: Found,
     out: &mut [u8],
     view: &mut [u8; VIEW],
 ) -> Called
-    requires { ⌜ Goes (now r) n s (now b) (now out) ⌝ }
+    requires { ⌜ Goes (now r) n s (now b) (now out) × (found first ≡ front n (now b)) ⌝ }
     ensures { λ a. ⌜ shows a (now (r .exit)) (now (out .exit)) (now (view .exit))
         (oneByOne (now (r .entry)) s (now (b .entry)) (now (out .entry))) (now (view .entry)) ⌝ }
 {
     let mut t = b;
+    let mut f = first;
     let mut at = 0;
     let mut ending = Ending::None;
     while 0 < t.len() {
-        let f = parse_prefix(n, t);
         match f {
             Found::At(m, k) => {
                 let a = take_message(r, n, s, found_view(t, f), m, &mut out[at..], view);
@@ -104,6 +110,7 @@ fn take_all(
                 let later = a.outcome;
                 ending = first_ending(ending, later);
                 t = &t[k..];
+                f = parse_prefix(n, t);
             }
             Found::Refused(_) => return turned_away(7),
         }
@@ -138,11 +145,11 @@ pub fn frame(r: &mut [u8], s: usize, b: &[u8], out: &mut [u8], view: &mut [u8; V
             if end == b.len() {
                 return take_message(r, n, s, found_view(b, f), m, out, view);
             }
-            let fault = judge(r, n, s, b);
+            let fault = judge(r, n, s, b, f);
             if fault != 0 {
                 return turned_away(fault);
             }
-            take_all(r, n, s, b, out, view)
+            take_all(r, n, s, b, f, out, view)
         }
         Found::Refused(_) => turned_away(7),
     }

@@ -149,7 +149,9 @@ returns-4 c =
 
 judge-requires : tie.Need-judge-requires
 judge-requires c κs =
-    let c8 = c .before .before .before .before .before .before .before .before in
+    let c3 = c .before .before .before in
+    let c5 = c3 .before .before in
+    let c8 = c5 .before .before .before in
     let c9 = c8 .before in
     let c10 = c9 .before in
     let c12 = c10 .before .before in
@@ -166,6 +168,7 @@ judge-requires c κs =
       small-n (a .r .now) (h .can-step) e,
       leb-true _ _ (both-left low high sender),
       leb-true _ _ (both-right low high sender),
+      ap found (sym (c3 .f .given .1)) ∙ c5 .parse-prefix .ensures,
     )
 
 returns-5 : tie.Need-returns-5
@@ -195,7 +198,9 @@ take-all-requires : tie.Need-take-all-requires
 take-all-requires c κs =
     let c3 = c .before .before .before in
     let c4 = c3 .before in
-    let c11 = c4 .before .before .before .before .before .before .before in
+    let c8 = c4 .before .before .before .before in
+    let c10 = c8 .before .before in
+    let c11 = c10 .before in
     let c12 = c11 .before in
     let c13 = c12 .before in
     let c14 = c13 .before in
@@ -209,10 +214,13 @@ take-all-requires c κs =
     let e = own-n (a .r .now) (c15 .get-word .ensures) in
     let sender = sym (c14 .and .ensures ∙ ap (λ (j : ℕ). both (leb 1 (a .s)) (leb (a .s) j)) (sym e)) ∙ not-false _
     (c13 .if2 .left) in
-    let sized = sym (c12 .and2 .ensures) ∙ not-false _ (c11 .if3 .left) in
-    subst (λ (j : ℕ). Goes (a .r .now) j (a .s) b (a .out .now)) e
-    (no-fault (a .r .now) (a .s) b (a .out .now) h sender sized
-    (sym (c3 .if5 .left) ∙ c4 .judge .ensures ∙ ap (λ (j : ℕ). verdict j (a .s) (recordOf (a .r .now)) b) (sym e)) .1)
+    let sized = sym (c12 .and2 .ensures) ∙ not-false _ (c11 .if3 .left) in (
+      subst (λ (j : ℕ). Goes (a .r .now) j (a .s) b (a .out .now)) e
+          (no-fault (a .r .now) (a .s) b (a .out .now) h sender sized
+          (sym (c3 .if5 .left) ∙ c4 .judge .ensures ∙ ap (λ (j : ℕ). verdict j (a .s) (recordOf (a .r .now)) b) (sym e))
+          .1),
+      ap found (sym (c8 .f .given .1)) ∙ c10 .parse-prefix .ensures,
+    )
 
 returns-6 : tie.Need-returns-6
 returns-6 c =
@@ -271,7 +279,7 @@ frame-spec =
     (tie.spec (λ c κs. search needs) (λ c κs. search needs) (λ c. search needs) returns get-word-requires
     (λ c κs. search needs) (λ c κs. search needs) (λ c. search needs) returns-2 (λ c κs. search needs)
     (λ c κs. search needs) (λ c. search needs) returns-3 (λ c κs. search needs) (λ c. search needs)
-    found-view-requires
-    take-message-requires (λ c. search needs) (λ c. search needs) returns-4 judge-requires (λ c κs. search needs)
+    found-view-requires take-message-requires (λ c. search needs) (λ c. search needs) returns-4 judge-requires
+    (λ c κs. search needs)
     (λ c. search needs) returns-5 take-all-requires (λ c. search needs) (λ c κs. search needs) (λ c. search needs)
     (λ c. search needs) returns-6 (λ c. search needs) returns-7)
