@@ -28,7 +28,7 @@ use Rattle.calls_bytes.specs.Entry.{LentResult, fits, inBytes, atRecord, messag
 use Rattle.calls_bytes.specs.Shown.{eventView}
 use Rattle.frame_bytes.proofs.Frames.{frames}
 use Rattle.codes.specs.Apart.{NodeCall, by-message, by-frame}
-use Rattle.codes.proofs.Apart.{fitting}
+use Rattle.codes.proofs.Fitting.{fitting}
 use Rattle.codes.specs.Shown as claim
 
 -- a view that has nothing past n, in lent bytes

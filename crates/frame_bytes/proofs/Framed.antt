@@ -29,9 +29,11 @@ use Rattle.node_bytes.specs.Admission.{admission}
 use Rattle.node_bytes.proofs.Admitted.{Admitted}
 use Rattle.frame_bytes.specs.Frames.{Readable}
 use Rattle.frame_bytes.specs.Judged.{anyStale, verdict, Goes}
+use Rattle.frame_bytes.proofs.Going.{settles}
 use Rattle.frame_bytes.proofs.Judging.{judged-free, judged-late}
 use Rattle.frame_bytes.proofs.Loops.{view-alone}
-use Rattle.frame_bytes.proofs.Turn.{refused-then, stand-first, read-is}
+use Rattle.frame_bytes.proofs.Stand.{refused-then, stand-first}
+use Rattle.frame_bytes.proofs.Turn.{read-is}
 
 -- ---- 12 and 2
 
@@ -74,18 +76,17 @@ module _ (r : List ℕ) (s : ℕ) (b out : List ℕ) (h : Admitted frameOutput r
       is-7 e = rw (fit, can-use, sender, sized, e) refl
 
       module _ (whole : isWhole n b ≡ true) where
-        settles : frame r s b out ≡ orRefused r out (oneByOne r s b out) (oneByOne r s b out .ending)
-        unfolding frame
-        settles = rw (fit, can-use, sender, sized, whole) refl
-
         readable : Readable r s b out
         readable = record { fit = fit; can-use = can-use; sender = sender; sized = sized; whole = whole }
 
+        ends-so : frame r s b out ≡ orRefused r out (oneByOne r s b out) (oneByOne r s b out .ending)
+        ends-so = settles r s b out readable
+
         is-late : {k : ℕ} → oneByOne r s b out .ending ≡ refused k → frame r s b out ≡ refuse k r out
-        is-late e = settles ∙ ap (orRefused r out (oneByOne r s b out)) e
+        is-late e = ends-so ∙ ap (orRefused r out (oneByOne r s b out)) e
 
         pub goes : {x : Ending} → oneByOne r s b out .ending ≡ result x → frame r s b out ≡ oneByOne r s b out
-        goes e = settles ∙ ap (orRefused r out (oneByOne r s b out)) e
+        goes e = ends-so ∙ ap (orRefused r out (oneByOne r s b out)) e
 
       -- ---- by what was judged on a copy
 
@@ -168,7 +169,7 @@ module _ (r : List ℕ) (s : ℕ) (b out : List ℕ) (h : Admitted frameOutput r
         is-message : frame r s b out ≡ message r s b out
         unfolding oneByOne inTurn
         is-message =
-            settles whole
+            ends-so whole
             ∙ ap (λ (l : List Piece). orRefused r out (inTurn s (atStart r out) l) (inTurn s (atStart r out) l
             .ending))
             alone

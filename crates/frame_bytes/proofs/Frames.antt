@@ -28,7 +28,9 @@ use Rattle.frame_bytes.specs.Frames as claim
 use Rattle.frame_bytes.specs.Frames.{Readable, frameSent, stepsOn, Does}
 use Rattle.frame_bytes.specs.Judged.{anyStale}
 use Rattle.frame_bytes.proofs.Judging.{never, told-same, Arrives, low, high, big, few, at-first, all-go}
-use Rattle.frame_bytes.proofs.Judging.{one-late, no-more, sent-few, Adds, all-add, judged-free, judged-late}
+use Rattle.frame_bytes.proofs.Judging.{one-late, no-more, sent-few, judged-free, judged-late}
+use Rattle.frame_bytes.proofs.Adds.{Adds, all-add}
+use Rattle.frame_bytes.proofs.Going.{goes, is-late, fresh-goes}
 
 -- ---- an accepted frame
 
@@ -217,6 +219,9 @@ pub frames : claim.Frames
 frames =
     record {
       one-by-one = one-by-one;
+      frame-goes = goes;
+      frame-late = is-late;
+      frame-fresh = fresh-goes;
       frame-refuses = frame-refuses;
       only-9 = λ r s b out k h e. only-9 r s b out h k e;
       sent-most = sent-most;

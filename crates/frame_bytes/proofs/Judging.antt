@@ -3,11 +3,10 @@
 use Prim.Native.Nat.{ℕ, _+_, _-_, _*_, _≤_}
 use mathlib.Core.Path.{_≡_, refl, sym, ap, _∙_, subst}
 use mathlib.Core.Bool.{Bool, true, false}
-use mathlib.Core.List.{List, [], _∷_, _++_, append-assoc, append-nil}
+use mathlib.Core.List.{List, [], _∷_}
 use native.Mathlib.Omega.{arith}
 use lib.Dec.{eqb, leb}
-use lib.ListN.{length, take, drop, length-append, length-drop}
-use lib.Seq.{drop-drop}
+use lib.ListN.{length, drop, length-append, length-drop}
 use borrow.Author.Tests.{eqb-true, leb-true}
 use Rattle.octets.specs.Answer.{Answer, result, refused}
 use Rattle.octets.specs.Test.{pick}
@@ -32,20 +31,18 @@ use Rattle.step.specs.Step.{messages}
 use Rattle.step.proofs.Budget.{budget-most, message-pays}
 use Rattle.step.proofs.Judged.{Alike, alike-stale, alike-step}
 use Rattle.table.specs.Loop.{either}
-use Rattle.calls.specs.Bytes.{outBytes}
 use Rattle.calls.specs.Entry as N
 use Rattle.emit.proofs.Runs.{either-none}
 use Rattle.region.specs.Record.{recordSize, recordOf, codesKnown}
 use Rattle.calls_bytes.specs.Entry.{LentResult}
 use Rattle.calls_bytes.specs.Frame.{frameMost, frameOutput, packed, isEnding, firstStands, andThen, nextCall, inTurn}
 use Rattle.calls_bytes.specs.Frame.{atStart, oneByOne}
-use Rattle.calls_bytes.specs.Walk.{Piece, AllRead, walk, piecesOf}
-use Rattle.calls_bytes.proofs.Walk.{all-read, walk-both}
-use Rattle.frame_bytes.specs.Frames.{Readable, frameSent, stepOn, stepsOn, nodeAfter, bytesSent, piecesSent}
+use Rattle.calls_bytes.specs.Walk.{Piece, AllRead, walk}
+use Rattle.calls_bytes.proofs.Walk.{all-read}
+use Rattle.frame_bytes.specs.Frames.{Readable, frameSent}
 use Rattle.frame_bytes.specs.Judged.{anyStale}
-use Rattle.frame_bytes.proofs.Turn.{Stand, refused-then, turn, late-9, next-ends, next-node, next-long}
-use Rattle.frame_bytes.proofs.Turn.{stand-first, quiet, turn-is, next-bytes, next-walk, sent-then, rest-then}
-use Rattle.frame_bytes.proofs.Turn.{then-room, then-stand}
+use Rattle.frame_bytes.proofs.Stand.{refused-then, Stand, stand-first}
+use Rattle.frame_bytes.proofs.Turn.{turn, late-9, next-ends, next-node, next-long, quiet, then-room, then-stand}
 
 -- the first refusal is told, whatever follows it
 pub sticks : (s : ℕ) (p : LentResult) (ms : List Piece) (k : ℕ) → p .ending ≡ refused k
@@ -67,13 +64,6 @@ either-true : {X : Type 0} (x y : Bool) → either x y ≡ true → (x ≡ true 
 either-true true y h f g = f refl
 either-true false y h f g = g refl h
 
--- buffers that are alike from a place on are alike from a later one on
-drop-alike : (i j : ℕ) (a b : List ℕ) → i ≤ j → drop i a ≡ drop i b → drop j a ≡ drop j b
-drop-alike i j a b h e =
-    let k : i + (j - i) ≡ j = omega (arith, h) in
-    ap (λ (z : ℕ). drop z a) (sym k) ∙ sym (drop-drop (j - i) i a) ∙ ap (drop (j - i)) e ∙ drop-drop (j - i) i b
-    ∙ ap (λ (z : ℕ). drop z b) k
-
 module _ (n s room : ℕ) (low : 1 ≤ s) (high : s ≤ n) (big : frameOutput ≤ room) where
   -- After messages of so many bytes, none of them refused: what they have sent is paid by those bytes and by what the
   -- open operation has left. d is a copy of the record that the handlers alone have changed.
@@ -89,7 +79,7 @@ module _ (n s room : ℕ) (low : 1 ≤ s) (high : s ≤ n) (big : frameOutput �
     pub sent-few : p .length ≤ frameSent
     sent-few = let q = h .pays in omega (arith, q, few)
 
-    room-left : N.leastOutput ≤ length (drop (p .length) (p .out))
+    pub room-left : N.leastOutput ≤ length (drop (p .length) (p .out))
     room-left =
         let q = h .out-long in
         let l = length-drop (p .length) (p .out) in
@@ -98,15 +88,6 @@ module _ (n s room : ℕ) (low : 1 ≤ s) (high : s ≤ n) (big : frameOutput �
     module _ (m : Piece) (r : decode n (m .bytes) ≡ result (m .message)) where
       abbrev c : Node
       c = recordOf (p .bytes)
-
-      pub record One : Type 0 where
-        pub node-is : recordOf (nextCall s p m .bytes) ≡ stepOn s c m .node
-        pub sent-is : take (andThen p (nextCall s p m) .length) (andThen p (nextCall s p m) .out)
-            ≡ take (p .length) (p .out) ++ outBytes n (stepOn s c m .outbox)
-        pub met-is : walk n (take (andThen p (nextCall s p m) .length) (andThen p (nextCall s p m) .out))
-            ≡ walk n (take (p .length) (p .out)) ++ piecesOf n (stepOn s c m .outbox)
-        pub rest-is : drop (andThen p (nextCall s p m) .length) (andThen p (nextCall s p m) .out)
-            ≡ drop (andThen p (nextCall s p m) .length) (p .out)
 
       pub late : staleMessage d s (m .message) ≡ true → andThen p (nextCall s p m) .ending ≡ refused 9
       late g =
@@ -135,27 +116,6 @@ module _ (n s room : ℕ) (low : 1 ≤ s) (high : s ≤ n) (big : frameOutput �
             (subst (λ (j : ℕ). oneSize * sizes j (messages (t .outbox)) + oneSize * budget j (t .node .wait)
             ≤ twoSize * messageSize j (m .message) + oneSize * budget j (c .wait)) (h .stand .n-is)
             (message-pays (faultsOf c) c s (m .message) (N.beside (c .n) (viewPart n (m .bytes)) (m .message))))
-
-        -- the message's own step
-        pub adds-one : One
-        adds-one =
-            let is = turn-is n s low high p (h .kind) (h .stand) m r room-left g′ in
-            record {
-              node-is = next-node n s low high p (h .kind) (h .stand) m r room-left g′ ∙ ap (λ (z : Step). z .node) is;
-              sent-is =
-                  sent-then n s low high p (h .kind) (h .stand) m r room-left g′
-                  ∙ ap (λ (z : List ℕ). take (p .length) (p .out) ++ z)
-                  (next-bytes n s low high p (h .kind) (h .stand) m r room-left g′
-                  ∙ ap (λ (z : Step). outBytes n (z .outbox)) is);
-              met-is =
-                  ap (walk n) (sent-then n s low high p (h .kind) (h .stand) m r room-left g′)
-                  ∙ walk-both n (take (p .length) (p .out)) (take (nextCall s p m .length) (nextCall s p m .out))
-                  (h .stand .sent)
-                  ∙ ap (λ (z : List Piece). walk n (take (p .length) (p .out)) ++ z)
-                  (next-walk n s low high p (h .kind) (h .stand) m r room-left g′
-                  ∙ ap (λ (z : Step). piecesOf n (z .outbox)) is);
-              rest-is = rest-then n s low high p (h .kind) (h .stand) m r room-left g′;
-            }
 
         pub goes-on : At (done + length (m .bytes))
             (react d s (m .message) (viewOf n (viewPart n (m .bytes))) .node) (andThen p (nextCall s p m))
@@ -221,55 +181,6 @@ module _ (n s room : ℕ) (low : 1 ≤ s) (high : s ≤ n) (big : frameOutput �
       (λ e. sticks s a ms 9 (late done d p h (omega (arith, few)) m (r .0) e))
       (λ e f. one-late ms (done + length (m .bytes)) d′ a (goes-on done d p h (omega (arith, few)) m (r .0) e) (r .1)
       (omega (arith, few, l)) f)
-
-  -- What messages in turn leave is what the steps of the node leave, after what was there.
-  pub record Adds (p : LentResult) (ts : List Step) (e : LentResult) : Type 0 where
-    pub node-is : recordOf (e .bytes) ≡ nodeAfter (recordOf (p .bytes)) ts
-    pub sent-is : take (e .length) (e .out) ≡ take (p .length) (p .out) ++ bytesSent n ts
-    pub met-is : walk n (take (e .length) (e .out)) ≡ walk n (take (p .length) (p .out)) ++ piecesSent n ts
-    pub rest-is : drop (e .length) (e .out) ≡ drop (e .length) (p .out)
-    pub more : p .length ≤ e .length
-
-  pub all-add : (ms : List Piece) (done : ℕ) (d : Node) (p : LentResult) → At done d p → AllRead n ms
-      → done + length (packed ms) ≤ frameMost → anyStale n s d ms ≡ false
-      → Adds p (stepsOn s (recordOf (p .bytes)) ms) (inTurn s p ms)
-  unfolding inTurn anyStale stepsOn
-  all-add [] done d p h r few g =
-      record {
-        node-is = refl;
-        sent-is = sym (append-nil (take (p .length) (p .out)));
-        met-is = sym (append-nil (walk n (take (p .length) (p .out))));
-        rest-is = refl;
-        more = omega arith;
-      }
-  all-add (m ∷ ms) done d p h r few g =
-      let l = length-append (m .bytes) (packed ms) in
-      let f = either-none (staleMessage d s (m .message)) _ g in
-      let a = nextCall s p m in
-      let c = recordOf (p .bytes) in
-      let t = stepOn s c m in
-      let short = let z : done ≤ frameMost = omega (arith, few) in z in
-      let one = adds-one done d p h short m (r .0) (f .0) in
-      let rest = all-add ms (done + length (m .bytes)) (react d s (m .message) (viewOf n (viewPart n (m .bytes))) .node)
-      (andThen p a) (goes-on done d p h short m (r .0) (f .0)) (r .1) (omega (arith, few, l)) (f .1) in
-      let e = inTurn s (andThen p a) ms in
-      subst (λ (z : Node). Adds p (t ∷ stepsOn s z ms) e) (one .node-is)
-      (record {
-        node-is =
-            rest .node-is ∙ ap (λ (z : Node). nodeAfter z (stepsOn s (recordOf (a .bytes)) ms)) (one .node-is);
-        sent-is =
-            rest .sent-is ∙ ap (λ (z : List ℕ). z ++ bytesSent n (stepsOn s (recordOf (a .bytes)) ms)) (one .sent-is)
-            ∙ append-assoc (take (p .length) (p .out)) (outBytes n (t .outbox))
-            (bytesSent n (stepsOn s (recordOf (a .bytes)) ms));
-        met-is =
-            rest .met-is ∙ ap (λ (z : List Piece). z ++ piecesSent n (stepsOn s (recordOf (a .bytes)) ms)) (one .met-is)
-            ∙ append-assoc (walk n (take (p .length) (p .out))) (piecesOf n (t .outbox))
-            (piecesSent n (stepsOn s (recordOf (a .bytes)) ms));
-        rest-is =
-            rest .rest-is
-            ∙ drop-alike (andThen p a .length) (e .length) (andThen p a .out) (p .out) (rest .more) (one .rest-is);
-        more = let z = rest .more in omega (arith, z);
-      })
 
 -- ---- a frame
 

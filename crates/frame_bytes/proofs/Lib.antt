@@ -1,7 +1,10 @@
+pub mod Adds
 pub mod Framed
 pub mod Frames
+pub mod Going
 pub mod Judging
 pub mod Loops
 pub mod Marked
+pub mod Stand
 pub mod Taking
 pub mod Turn

@@ -65,21 +65,21 @@ either-assoc : (x y z : Bool) → either (either x y) z ≡ either x (either y z
 either-assoc true y z = refl
 either-assoc false y z = refl
 
-module _ (found : Bool) (n s : ℕ) (c : Node) (t : List ℕ) where
-  pub judged-none : (j : ℕ) → front n t ≡ refused j → 0 < length t → 7 ≡ verdictAfter found n s c t
+module _ (before : Bool) (n s : ℕ) (c : Node) (t : List ℕ) where
+  pub judged-none : (j : ℕ) → front n t ≡ refused j → 0 < length t → 7 ≡ verdictAfter before n s c t
   judged-none j e l = rw (whole-none n t j e (omega (arith, l))) refl
 
-  pub judged-end : t ≡ [] → verdictAfter found n s c t ≡ pick found 9 0
+  pub judged-end : t ≡ [] → verdictAfter before n s c t ≡ pick before 9 0
   unfolding anyStale walkBy
-  judged-end e = rw e (ap (λ (z : Bool). pick {A = ℕ} z 9 0) (either-false found))
+  judged-end e = rw e (ap (λ (z : Bool). pick {A = ℕ} z 9 0) (either-false before))
 
   module _ (m : Message) (k : ℕ) (e : front n t ≡ result (m, k)) (v : List ℕ) (w : v ≡ frontPart n t) where
-    pub judged-more : verdictAfter (either found (staleMessage c s m)) n s (react c s m (viewOf n v) .node) (drop k t)
-        ≡ verdictAfter found n s c t
+    pub judged-more : verdictAfter (either before (staleMessage c s m)) n s (react c s m (viewOf n v) .node) (drop k t)
+        ≡ verdictAfter before n s c t
     unfolding anyStale
     judged-more =
         ap₂ (λ (x y : Bool). pick x (pick y 9 0) 7) (sym (whole-more n t m k e))
-        (either-assoc found (staleMessage c s m) (anyStale n s (react c s m (viewOf n v) .node) (walk n (drop k t)))
-        ∙ ap (λ (z : List ℕ). either found (either (staleMessage c s m)
+        (either-assoc before (staleMessage c s m) (anyStale n s (react c s m (viewOf n v) .node) (walk n (drop k t)))
+        ∙ ap (λ (z : List ℕ). either before (either (staleMessage c s m)
         (anyStale n s (react c s m (viewOf n z) .node) (walk n (drop k t))))) (view-alone n t m k e v w)
-        ∙ ap (λ (z : List Piece). either found (anyStale n s c z)) (sym (walk-more n t m k e)))
+        ∙ ap (λ (z : List Piece). either before (anyStale n s c z)) (sym (walk-more n t m k e)))

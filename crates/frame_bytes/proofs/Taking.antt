@@ -35,8 +35,8 @@ use Rattle.node_bytes.specs.declared.Called.{Called}
 use Rattle.frame_bytes.specs.Judged.{Goes}
 use Rattle.frame_bytes.proofs.Judging.{never, sticks}
 use Rattle.frame_bytes.proofs.Loops.{view-alone}
-use Rattle.frame_bytes.proofs.Turn.{Stand, refused-then, ending-then, answer-then, read-is, late-9, next-ends}
-use Rattle.frame_bytes.proofs.Turn.{not-ended, stand-first, turn, quiet, then-room, then-stand}
+use Rattle.frame_bytes.proofs.Stand.{ending-then, answer-then, refused-then, not-ended, Stand, stand-first}
+use Rattle.frame_bytes.proofs.Turn.{turn, read-is, late-9, next-ends, quiet, then-room, then-stand}
 
 -- a message call that is accepted had room
 had-room : (r out : List ℕ) (call : Node → CallResult) (x : Ending) → atRecord r out call .ending ≡ result x

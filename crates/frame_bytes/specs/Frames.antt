@@ -1,28 +1,32 @@
 -- What is claimed of the frame call beside its definition. Assumes nothing.
 use Prim.Native.Nat.{ℕ, _+_, _≤_}
 use mathlib.Core.Path.{_≡_}
-use mathlib.Core.Bool.{true}
+use mathlib.Core.Bool.{Bool, true, false}
 use mathlib.Core.List.{List, [], _∷_, _++_}
 use mathlib.Core.Logic.{_⊎_}
 use lib.Dec.{leb}
 use lib.ListN.{length, take, drop}
 use Rattle.octets.specs.Answer.{result, refused}
 use Rattle.octets.specs.Test.{both}
-use Rattle.view.specs.Size.{nodes}
+use Rattle.view.specs.Size.{nodes, isSize}
 use Rattle.view.specs.View.{AbsentPast}
 use Rattle.wire.specs.Codec.{viewPart}
+use Rattle.wire.specs.Layout.{encode}
+use Rattle.wire.specs.declared.Message.the-variants.{Read}
+use Rattle.table.specs.Loop.{either}
 use Rattle.record.specs.Record.{faultsOf}
 use Rattle.record.specs.declared.Node.{Node}
 use Rattle.step.specs.Budget.{budgetMost}
 use Rattle.step.specs.Move.{messageStep}
+use Rattle.step.specs.Stale.{staleMessage}
 use Rattle.step.specs.declared.Ending.{Ending}
 use Rattle.step.specs.declared.Ending.the-variants.{None}
 use Rattle.step.specs.declared.Step.{Step}
 use Rattle.step.specs.Told.{toldView}
 use Rattle.calls.specs.Bytes.{outBytes}
 use Rattle.calls.specs.Entry.{beside}
-use Rattle.region.specs.Record.{recordOf}
-use Rattle.calls_bytes.specs.Entry.{LentResult, fits, usableIn}
+use Rattle.region.specs.Record.{recordSize, recordOf}
+use Rattle.calls_bytes.specs.Entry.{LentResult, fits, usableIn, fresh}
 use Rattle.calls_bytes.specs.Frame.{frameMost, frameOutput, isWhole, isEnding, nextCall, inTurn, atStart}
 use Rattle.calls_bytes.specs.Frame.{oneByOne, frame}
 use Rattle.calls_bytes.specs.Walk.{Piece, walk, piecesOf}
@@ -53,6 +57,11 @@ unfoldable pub stepsOn : (s : ℕ) → Node → List Piece → List Step
 stepsOn s c [] = []
 stepsOn s c (m ∷ ms) = stepOn s c m ∷ stepsOn s (stepOn s c m .node) ms
 
+-- whether one of them is given 9, at the record that those before it left
+unfoldable pub lateOn : (s : ℕ) → Node → List Piece → Bool
+lateOn s c [] = false
+lateOn s c (m ∷ ms) = either (staleMessage c s (m .message)) (lateOn s (stepOn s c m .node) ms)
+
 -- the record that they leave, and what they send: in bytes, and message by message
 abbrev pub nodeAfter : Node → List Step → Node
 nodeAfter c [] = c
@@ -81,6 +90,16 @@ pub record Frames : Type 0 where
   -- record, every byte of the output, the answer with its view.
   pub one-by-one : (r : List ℕ) (s : ℕ) (b out : List ℕ) (x : Ending) → frame r s b out .ending ≡ result x
       → Readable r s b out × (frame r s b out ≡ oneByOne r s b out)
+  -- Where none of 12, 2, 3, 14 and 7 applies, it is given 9 if one of its messages is late in turn, and else accepted.
+  -- There is such a frame: two reads at a fresh record.
+  pub frame-goes : (r : List ℕ) (s : ℕ) (b out : List ℕ) → Readable r s b out
+      → lateOn s (recordOf r) (walk (recordOf r .n) b) ≡ false → (x : Ending) × (frame r s b out .ending ≡ result x)
+  pub frame-late : (r : List ℕ) (s : ℕ) (b out : List ℕ) → Readable r s b out
+      → lateOn s (recordOf r) (walk (recordOf r .n) b) ≡ true → frame r s b out .ending ≡ refused 9
+  pub frame-fresh : (n own s : ℕ) (r out : List ℕ) → isSize n ≡ true → both (leb 1 own) (leb own n) ≡ true
+      → both (leb 1 s) (leb s n) ≡ true → length r ≡ recordSize → frameOutput ≤ length out
+      → (x : Ending)
+      × (frame (fresh n own r .bytes) s (encode (Read 1) [] ++ encode (Read 1) []) out .ending ≡ result x)
   -- Its refusals.
   pub frame-refuses : (r : List ℕ) (s : ℕ) (b out : List ℕ) (k : ℕ) → frame r s b out .ending ≡ refused k
       → (k ≡ 12) ⊎ ((k ≡ 2) ⊎ ((k ≡ 3) ⊎ ((k ≡ 14) ⊎ ((k ≡ 7) ⊎ (k ≡ 9)))))

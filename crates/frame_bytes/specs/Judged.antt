@@ -25,9 +25,9 @@ anyStale n s c (m ∷ ms) =
     either (staleMessage c s (m .message))
     (anyStale n s (react c s (m .message) (viewOf n (viewPart n (m .bytes))) .node) ms)
 
--- the refusal of a frame's messages, 0 where there is none; `found` says that an earlier message was stale
-abbrev pub verdictAfter : (found : Bool) → (n s : ℕ) → Node → List ℕ → ℕ
-verdictAfter found n s c b = pick (isWhole n b) (pick (either found (anyStale n s c (walk n b))) 9 0) 7
+-- the refusal of a frame's messages, 0 where there is none; `before` says that an earlier message was stale
+abbrev pub verdictAfter : (before : Bool) → (n s : ℕ) → Node → List ℕ → ℕ
+verdictAfter before n s c b = pick (isWhole n b) (pick (either before (anyStale n s c (walk n b))) 9 0) 7
 
 abbrev pub verdict : (n s : ℕ) → Node → List ℕ → ℕ
 verdict n s c b = verdictAfter false n s c b
