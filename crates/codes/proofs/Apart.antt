@@ -16,6 +16,7 @@ use Rattle.wire.specs.Layout.{encode, allowed}
 use Rattle.wire.specs.Codec.{said, viewAt, begins, front, whole, decode, answer}
 use Rattle.wire.specs.declared.Message.{Message}
 use Rattle.figures.specs.Figures.{figuresOf}
+use Rattle.page.specs.Page.{mapResult, contents, contentsOf, pageText, pageOf, inRoom, pageIn}
 use Rattle.record.specs.Usable.{isOpen, full}
 use Rattle.record.specs.declared.Operation.{Operation}
 use Rattle.step.specs.declared.Rule.{Rule}
@@ -37,7 +38,7 @@ use Rattle.events.specs.Stop.{stop}
 use Rattle.events.proofs.Admitted.{admitted-is}
 use Rattle.calls_bytes.specs.Entry as L
 use Rattle.calls_bytes.specs.Frame.{nextCall}
-use Rattle.codes.specs.Code.{lastRefusal, doneFrom, scanFrom, ruleCode, eventCode, ruleIn}
+use Rattle.codes.specs.Code.{lastRefusal, pageRefusal, doneFrom, scanFrom, ruleCode, eventCode, ruleIn}
 use Rattle.codes.specs.Apart.{meant, ruleMeant, EventCall, by-fresh, by-begin, by-deliver, by-stop}
 use Rattle.codes.specs.Apart.{Numbered}
 use Rattle.codes.specs.Apart.{Apart}
@@ -176,8 +177,8 @@ node-ruled a x h =
 -- ---- the refusals of the other calls
 
 -- of two answers, either
-picked : {A : Type 0} (t : Bool) {a b : Answer A} → Numbered lastRefusal a → Numbered lastRefusal b
-    → Numbered lastRefusal (pick t a b)
+picked : {A : Type 0} {last : ℕ} (t : Bool) {a b : Answer A} → Numbered last a → Numbered last b
+    → Numbered last (pick t a b)
 picked true h g = h
 picked false h g = g
 
@@ -211,6 +212,27 @@ of-figures n v =
     picked (eqb (length v) (entrySize * n))
     (picked (isSize n) (picked (viewOk n limit v) accepted (in-range 7 refl)) (in-range 1 refl)) (in-range 12 refl)
 
+-- a page: the refusals of the figures, and one more
+of-result : {A B : Type 0} {last : ℕ} (f : A → B) (a : Answer A) → Numbered last a → Numbered last (mapResult f a)
+of-result f (result x) h = accepted
+of-result f (refused k) h = record { number = λ j is. let same : k ≡ j = cc in h .number j (ap refused same) }
+
+of-room : (room : ℕ) (a : Answer (List ℕ)) → Numbered lastRefusal a → Numbered pageRefusal (inRoom room a)
+of-room room (result p) h = picked (leb (length p) room) accepted (in-range 15 refl)
+of-room room (refused k) h =
+    record {
+      number = λ j is.
+          let same : k ≡ j = cc in
+          let (low, high, below, other) = h .number j (ap refused same) in
+          (low, omega (arith, high), below, other);
+    }
+
+of-page : (n : ℕ) (v : List ℕ) (room : ℕ) → Numbered pageRefusal (pageIn n v room)
+unfolding pageIn pageOf contentsOf
+of-page n v room =
+    of-room room (pageOf n v)
+    (of-result pageText (contentsOf n v) (of-result (contents n v) (figuresOf n v) (of-figures n v)))
+
 pub apart : Apart
 apart =
     record {
@@ -221,6 +243,7 @@ apart =
       walking = of-front;
       writing = of-write;
       summing = of-figures;
+      printing = of-page;
       endings = no-ending;
       read-back = λ {e} c. told-back (e .answer) (e .view) (proper c .numbered);
       rule-back = λ {e} c. ruled (e .answer) (e .view) (proper c .numbered);

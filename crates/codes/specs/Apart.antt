@@ -10,6 +10,7 @@ use Rattle.view.specs.declared.View.{View}
 use Rattle.wire.specs.Codec.{front, decode, answer}
 use Rattle.wire.specs.declared.Message.{Message}
 use Rattle.figures.specs.Figures.{figuresOf}
+use Rattle.page.specs.Page.{pageIn}
 use Rattle.record.specs.declared.Operation.{Operation}
 use Rattle.step.specs.declared.Ending.{Ending}
 use Rattle.step.specs.Told.{Told, refusal, nothing, done, scan, spent, spentNumber, told, toldView}
@@ -19,7 +20,8 @@ use Rattle.events.specs.Outcome.{toldOf}
 use Rattle.events.specs.Stop.{stop}
 use Rattle.calls_bytes.specs.Entry as L
 use Rattle.calls_bytes.specs.Frame.{frame}
-use Rattle.codes.specs.Code.{lastRefusal, frameRefusal, doneFrom, scanFrom, eventCode, ruleIn, codeOf, lentCode}
+use Rattle.codes.specs.Code.{lastRefusal, frameRefusal, pageRefusal, doneFrom, scanFrom, eventCode, ruleIn}
+use Rattle.codes.specs.Code.{codeOf, lentCode}
 
 -- What a code means, v the view beside it, and the rule in it. It names no refusal, so that it stands where others
 -- come.
@@ -67,6 +69,7 @@ pub record Apart : Type 0 where
   pub walking : (n : ℕ) (b : List ℕ) → Numbered lastRefusal (front n b)
   pub writing : (n : ℕ) (m : Message) (v : List ℕ) (room : ℕ) → Numbered lastRefusal (answer n m v room)
   pub summing : (n : ℕ) (v : List ℕ) → Numbered lastRefusal (figuresOf n v)
+  pub printing : (n : ℕ) (v : List ℕ) (room : ℕ) → Numbered pageRefusal (pageIn n v room)
   -- No ending has a refusal's code, nor any other that is left for one: below those of done, and not spent's.
   pub endings : (k : ℕ) → 1 ≤ k → k < doneFrom → (k ≡ spentNumber → ⊥) → (x : Ending) (v : View)
       → eventCode (refusal k) 0 ≡ eventCode (told (result x) v) (ruleIn (result x)) → ⊥

@@ -15,6 +15,7 @@ use Rattle.wire.specs.Codec.{answer, after}
 use Rattle.wire.specs.declared.Message.{Message}
 use Rattle.wire.specs.declared.Message.the-variants.{Read, ReadAnswer, Write, WriteAnswer, Echo, Value, Good}
 use Rattle.figures.specs.declared.Totals.{Totals}
+use Rattle.page.specs.Page.{pageIn, pageLength, pageLeft}
 use Rattle.step.specs.declared.Rule.{Rule}
 use Rattle.step.specs.declared.Rule.the-variants.{Direct, Borrowed}
 use Rattle.step.specs.declared.Ending.{Ending}
@@ -36,13 +37,16 @@ abbrev pub ruleCode : Rule → ℕ
 ruleCode (Direct i) = min i 3
 ruleCode Borrowed = 0
 
--- The greatest refusal of document 01, and that of a frame. Others may come: every refusal stands below the codes of
--- done, and none is 13, which is spent's.
+-- The greatest refusal of document 01, that of a frame, and that of a page. Others may come: every refusal stands below
+-- the codes of done, and none is 13, which is spent's.
 abbrev pub lastRefusal : ℕ
 lastRefusal = 12
 
 abbrev pub frameRefusal : ℕ
 frameRefusal = 14
+
+abbrev pub pageRefusal : ℕ
+pageRefusal = 15
 
 -- The first code of done and of a scan, to which the rule is added.
 abbrev pub doneFrom : ℕ
@@ -128,6 +132,12 @@ abbrev pub wrote : (r len : ℕ) (out : List ℕ) → ℕ → Message → (view 
 wrote r len out n m v before room =
     let a = answer n m v (length room) in
     (r ≡ answerCode a) × (len ≡ lent (λ k. k) a before) × (out ≡ after a (encode m v) room)
+
+-- What the desk's page leaves, in the same way.
+abbrev pub wrotePage : (r len : ℕ) (out : List ℕ) → ℕ → (view : List ℕ) (before : ℕ) (room : List ℕ) → Type 0
+wrotePage r len out n v before room =
+    let a = pageIn n v (length room) in
+    (r ≡ answerCode (pageLength a)) × (len ≡ lent (λ k. k) (pageLength a) before) × (out ≡ pageLeft a room)
 
 -- A call at one node on lent bytes has the code of an event.
 abbrev pub lentCode : LentResult → ℕ

@@ -7,7 +7,7 @@ use mathlib.Core.Logic.{_↔_}
 use native.Mathlib.Nat.{add-zero, pow-succ', pow-le-pow-right, div-lt-iff-lt-mul}
 use native.Mathlib.Numerals.{add-one}
 use native.Mathlib.Omega.{arith}
-use lib.ListN.{length, drop, getD, set, length-append, List·getD-append}
+use lib.ListN.{length, drop, getD, set, replicate, length-append, List·getD-append}
 use lib.Seq.{getD-append-seam, drop-set-add, drop-cons}
 use lib.Dec.{eqb}
 use borrow.Author.Tests.{eqb-true, ne-eqb, le-leb}
@@ -69,6 +69,19 @@ value-snoc s x =
     (upTo-ext (length s) (valueWith t) (valueWith s) 0 (λ i v l. ap (λ (y : ℕ). 10 * v + (y - 48))
     (List·getD-append s (x ∷ []) 0 i l)))
     (getD-append-seam s x [] 0)
+
+-- spaces before a text of digits count as no digit
+upTo-first : (k : ℕ) (f : ℕ → ℕ → ℕ) (a : ℕ) → upTo (suc k) f a ≡ upTo k (λ i. f (suc i)) (f 0 a)
+unfolding upTo
+upTo-first zero f a = refl
+upTo-first (suc k) f a = ap (f (suc k)) (upTo-first k f a)
+
+pub value-spaces : (k : ℕ) (s : List ℕ) → value (replicate k 32 ++ s) ≡ value s
+unfolding value
+value-spaces zero s = refl
+value-spaces (suc k) s =
+    let t : List ℕ = replicate k 32 ++ s in
+    upTo-first (length t) (valueWith (32 ∷ t)) 0 ∙ value-spaces k s
 
 value-above : (k y : ℕ) (t : Bool) → eqb y 0 ≡ t → value (fewest k y) ≡ y → value (pick t [] (fewest k y)) ≡ y
 unfolding value upTo

@@ -1,18 +1,17 @@
--- The length of n entries, what an entry of a valid view shows, and that each sum fits 32 bits.
+-- The length of n entries, what an entry of a valid view shows, and how great a figure can be.
 use Prim.Native.Nat.{ℕ, _+_, _*_, _/_, _%_, _^_, _<_, _≤_}
 use mathlib.Core.Path.{_≡_, refl, sym, ap, _∙_}
 use mathlib.Core.Bool.{Bool, true, false}
 use mathlib.Core.List.{List}
 use native.Mathlib.Decide.{ℕ-discrete}
 use native.Mathlib.Omega.{arith}
-use lib.ListN.{length, getD, length-take}
-use lib.Pow.{pow-mono}
+use lib.ListN.{length, getD}
 use lib.Dec.{eqb, ltb}
 use borrow.Author.Tests.{eqb-true, eq-eqb, ne-eqb, le-leb, ltb-true}
 use Rattle.octets.specs.Test.{pick, both}
-use Rattle.octets.specs.Bytes.{Bytes, num, part}
+use Rattle.octets.specs.Bytes.{Bytes, part}
 use Rattle.octets.proofs.Test.{both-left, both-right, both-true}
-use Rattle.octets.proofs.Number.{num-lt, num-eight}
+use Rattle.octets.proofs.Number.{num-eight}
 use Rattle.octets.proofs.Put.{part-bytes, getD-part, length-part}
 use Rattle.octets.specs.Loop.{allTo}
 use Rattle.octets.proofs.Loop.{sumTo-le, allTo-at, allTo-all}
@@ -20,10 +19,11 @@ use Rattle.octets.specs.Word.{word}
 use Rattle.view.specs.Report.{noReport, reportOf}
 use Rattle.view.specs.Size.{nodes, limit, tagSize, reportSize, entrySize}
 use Rattle.view.specs.View.{tagAt, reportAt, viewOk, entryOkAt}
+use Rattle.view.proofs.ReportBytes.{counts-of}
 use Rattle.view.proofs.ViewBytes.{ok-report}
 use Rattle.view.specs.declared.Report.{Report}
 use Rattle.figures.specs.declared.Totals.{Totals}
-use Rattle.figures.specs.Figures.{countedReport, total, totals}
+use Rattle.figures.specs.Figures.{countedReport, total, totals, countMost, figureMost}
 use Rattle.figures.specs.Plain.{plain}
 
 same-test : (x y : Bool) → (x ≡ true → y ≡ true) → (y ≡ true → x ≡ true) → x ≡ y
@@ -102,50 +102,69 @@ countedReport-is n v ok h l i m = elim (ℕ-discrete (tagAt v i) 0) [
   | no e ↦ sym (ap (λ (t : Bool). pick t noReport (reportAt v i)) (ne-eqb (tagAt v i) 0 e))
 ]
 
-short : (b : List ℕ) (at : ℕ) → length (part b at 2) ≤ 2
-unfolding part
-short b at = simp length-take (omega arith)
-
--- two bytes, or fewer, are a number below 2 ^ 16
-pair-most : (b : List ℕ) (at : ℕ) → Bytes b → num (part b at 2) ≤ 65535
-pair-most b at h =
-    let l : num (part b at 2) < 2 ^ (8 * length (part b at 2)) = num-lt (part b at 2) (part-bytes b at 2 h) in
-    let m : length (part b at 2) ≤ 2 = short b at in
-    let p : 2 ^ (8 * length (part b at 2)) ≤ 65536 = pow-mono {j = 16} (omega arith) in
-    omega arith
-
--- a count is at most 65,535 in each report that bytes are
+-- a count is at most `countMost` in each report that bytes are
 pub record Count (count : Report → ℕ) : Type 0 where
   pub none : count noReport ≡ 0
-  pub most : (b : List ℕ) → Bytes b → count (reportOf b) ≤ 65535
+  pub most : (b : List ℕ) → Bytes b → count (reportOf b) ≤ countMost
 
 countedReport-most : (count : Report → ℕ) → Count count → (t : Bool) (b : List ℕ) → Bytes b → count
-    (pick t noReport (reportOf b)) ≤ 65535
+    (pick t noReport (reportOf b)) ≤ countMost
 countedReport-most count c true b h = rw (c .none) (omega arith)
 countedReport-most count c false b h = c .most b h
 
 pub total-fits : (count : Report → ℕ) (n : ℕ) (v : List ℕ) → Count count → Bytes v → n ≤ nodes
-    → total count n v < 2 ^ 32
+    → total count n v ≤ figureMost
 total-fits count n v c h l =
-    let m : total count n v ≤ n * 65535 =
-    sumTo-le n 65535 (λ i. count (countedReport v i))
+    let m : total count n v ≤ n * countMost =
+    sumTo-le n countMost (λ i. count (countedReport v i))
     (λ i. countedReport-most count c (eqb (tagAt v i) 0) (part v (entrySize * i + tagSize) reportSize)
     (part-bytes v (entrySize * i + tagSize) reportSize h)) in
     omega arith
 
--- each of the four sums fits 32 bits
-pub record Fit (t : Totals) : Type 0 where
-  pub extensions : t .extensions < 2 ^ 32
-  pub lines : t .lines < 2 ^ 32
-  pub waiting : t .waiting < 2 ^ 32
-  pub wakeups : t .wakeups < 2 ^ 32
+-- each of the four figures is at most m
+pub record AtMost (m : ℕ) (t : Totals) : Type 0 where
+  pub extensions : t .extensions ≤ m
+  pub lines : t .lines ≤ m
+  pub waiting : t .waiting ≤ m
+  pub wakeups : t .wakeups ≤ m
+
+-- at most the greatest, which fits 32 bits
+abbrev pub Fit : Totals → Type 0
+Fit t = AtMost figureMost t
+
+pub most-fits : figureMost < 2 ^ 32
+most-fits = omega arith
 
 pub totals-fit : (n : ℕ) (v : List ℕ) → Bytes v → n ≤ nodes → Fit (totals n v)
-unfolding totals reportOf
+unfolding totals
 totals-fit n v h l =
     record {
-      extensions = total-fits (λ p. p .extensions) n v (record { none = refl; most = λ b g. pair-most b 0 g }) h l;
-      lines = total-fits (λ p. p .lines) n v (record { none = refl; most = λ b g. pair-most b 2 g }) h l;
-      waiting = total-fits (λ p. p .waiting) n v (record { none = refl; most = λ b g. pair-most b 4 g }) h l;
-      wakeups = total-fits (λ p. p .wakeups) n v (record { none = refl; most = λ b g. pair-most b 6 g }) h l;
+      extensions = total-fits (λ p. p .extensions) n v (record {
+        none = refl;
+        most = λ b g. omega (
+          arith,
+          counts-of b g
+              .extensions,
+        );
+      }) h l;
+      lines = total-fits (λ p. p .lines) n v (record {
+        none = refl;
+        most = λ b g. omega (arith, counts-of b g .lines);
+      }) h l;
+      waiting = total-fits (λ p. p .waiting) n v (record {
+        none = refl;
+        most = λ b g. omega (
+          arith,
+          counts-of b g
+              .waiting,
+        );
+      }) h l;
+      wakeups = total-fits (λ p. p .wakeups) n v (record {
+        none = refl;
+        most = λ b g. omega (
+          arith,
+          counts-of b g
+              .wakeups,
+        );
+      }) h l;
     }

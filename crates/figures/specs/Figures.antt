@@ -1,12 +1,12 @@
 -- House figures of document 01: four sums over a view for n nodes, in which no report adds zero.
-use Prim.Native.Nat.{ℕ, _*_}
+use Prim.Native.Nat.{ℕ, _+_, _*_}
 use mathlib.Core.List.{List}
 use lib.ListN.{length}
 use lib.Dec.{eqb}
 use Rattle.octets.specs.Answer.{Answer, result, refused}
 use Rattle.octets.specs.Test.{pick}
 use Rattle.octets.specs.Loop.{sumTo}
-use Rattle.view.specs.Size.{isSize, limit, entrySize}
+use Rattle.view.specs.Size.{nodes, isSize, limit, entrySize}
 use Rattle.view.specs.Report.{noReport}
 use Rattle.view.specs.View.{tagAt, reportAt, viewOk}
 use Rattle.view.specs.declared.Report.{Report}
@@ -30,6 +30,26 @@ totals n v =
       waiting = total (λ p. p .waiting) n v;
       wakeups = total (λ p. p .wakeups) n v;
     }
+
+-- the figures of no report, and those with one more
+abbrev pub noTotals : Totals
+noTotals = record { extensions = 0; lines = 0; waiting = 0; wakeups = 0 }
+
+abbrev pub withReport : Totals → Report → Totals
+withReport t p =
+    record {
+      extensions = t .extensions + p .extensions;
+      lines = t .lines + p .lines;
+      waiting = t .waiting + p .waiting;
+      wakeups = t .wakeups + p .wakeups;
+    }
+
+-- the greatest count, and the greatest figure over the most nodes
+abbrev pub countMost : ℕ
+countMost = 65535
+
+abbrev pub figureMost : ℕ
+figureMost = countMost * nodes
 
 -- 12: the length is not 16 n, for any n; 1: n; 7: a tag above its limit, or bytes beside tag 0
 unfoldable pub figuresOf : ℕ → List ℕ → Answer Totals

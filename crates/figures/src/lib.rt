@@ -6,11 +6,13 @@ ghost use lib.ListN.{length};
 ghost use lib.Dec.{eqb};
 ghost use Rattle.view.specs.Size.{nodes, limit, viewSize};
 ghost use Rattle.view.specs.View.{viewOk};
-ghost use Rattle.figures.specs.Figures.{totals, figuresOf, summed};
+ghost use Rattle.figures.specs.Figures.{noTotals, withReport, totals, figuresOf, summed};
+ghost use Rattle.figures.specs.Room.{Roomy};
 ghost use Rattle.figures.specs.Plain.{plain};
 use view::ENTRY;
 use view::LIMIT;
 use view::NODES;
+use view::Report;
 use view::TAG;
 
 // The four sums.
@@ -28,7 +30,7 @@ pub enum Summed {
 }
 
 // Whether `len` bytes are n entries. The product is not computed, since n may be any number.
-fn is_long(n: usize, len: usize) -> bool
+pub fn is_long(n: usize, len: usize) -> bool
     ensures { λ r. ⌜ r ≡ eqb len (viewSize n) ⌝ }
 {
     octets::and(len % ENTRY == 0, len / ENTRY == n)
@@ -51,6 +53,31 @@ struct Tally {
     plain: bool,
 }
 
+// No report counted.
+pub fn no_totals() -> Totals
+    ensures { λ r. ⌜ r ≡ noTotals ⌝ }
+{
+    Totals {
+        extensions: 0,
+        lines: 0,
+        waiting: 0,
+        wakeups: 0,
+    }
+}
+
+// One report more.
+pub fn with_report(t: Totals, p: Report) -> Totals
+    requires { ⌜ Roomy t ⌝ }
+    ensures { λ r. ⌜ r ≡ withReport t p ⌝ }
+{
+    Totals {
+        extensions: t.extensions + p.extensions as u32,
+        lines: t.lines + p.lines as u32,
+        waiting: t.waiting + p.waiting as u32,
+        wakeups: t.wakeups + p.wakeups as u32,
+    }
+}
+
 // Adds up n entries. If all are plain, they are a view; if not, they may be one, and what stands beside tag 0 of a view
 // adds nothing. The loop tests no report, and is quicker so.
 fn add_up(n: usize, v: &[u8]) -> Tally
@@ -58,10 +85,7 @@ fn add_up(n: usize, v: &[u8]) -> Tally
     ensures { λ r. ⌜ (r .plain ≡ true → viewOk n limit (now (v .entry)) ≡ true)
         × (viewOk n limit (now (v .entry)) ≡ true → r .sums ≡ totals n (now (v .entry))) ⌝ }
 {
-    let mut extensions: u32 = 0;
-    let mut lines: u32 = 0;
-    let mut waiting: u32 = 0;
-    let mut wakeups: u32 = 0;
+    let mut sums = no_totals();
     let mut all = true;
     let mut i = 0;
     while i < n {
@@ -70,19 +94,11 @@ fn add_up(n: usize, v: &[u8]) -> Tally
         let end = at + ENTRY;
         let p = view::read_report(&v[middle..end]);
         all = octets::and(is_plain(v[at], v[at + LAST]), all);
-        extensions += p.extensions as u32;
-        lines += p.lines as u32;
-        waiting += p.waiting as u32;
-        wakeups += p.wakeups as u32;
+        sums = with_report(sums, p);
         i += 1;
     }
     Tally {
-        sums: Totals {
-            extensions: extensions,
-            lines: lines,
-            waiting: waiting,
-            wakeups: wakeups,
-        },
+        sums: sums,
         plain: all,
     }
 }

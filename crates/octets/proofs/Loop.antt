@@ -86,6 +86,12 @@ unfolding sumTo
 sumTo-le zero m f h = omega arith
 sumTo-le (suc k) m f h = omega (arith, sumTo-le k m f h, h k)
 
+pub sumTo-ext : (k : ℕ) (f g : ℕ → ℕ) → ((i : ℕ) → i < k → f i ≡ g i) → sumTo k f ≡ sumTo k g
+unfolding sumTo
+sumTo-ext zero f g h = refl
+sumTo-ext (suc k) f g h =
+    ap₂ (λ (x y : ℕ). x + y) (sumTo-ext k f g (λ i l. h i (omega arith))) (h k (omega arith))
+
 -- ---- each
 
 pub each-none : {A S : Type 0} (f : A → S → S) (s : S) → each f [] s ≡ s

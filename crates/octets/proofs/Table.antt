@@ -129,24 +129,38 @@ module _ {A : Type 0} where
   join-ext (suc k) f g h =
       ap₂ (λ (s t : List A). s ++ t) (join-ext k f g (λ i l. h i (omega arith))) (h k (omega arith))
 
-  pub length-join : (k s : ℕ) (f : ℕ → List A) → ((i : ℕ) → length (f i) ≡ s) → length (join k f) ≡ s * k
+  -- runs of one length, those below k or all
+  pub length-join-below : (k s : ℕ) (f : ℕ → List A) → ((i : ℕ) → i < k → length (f i) ≡ s) → length (join k f) ≡ s * k
   unfolding join
-  length-join zero s f h = omega arith
-  length-join (suc k) s f h = rw (length-append (join k f) (f k), length-join k s f h, h k) (sym (mul-suc s k))
+  length-join-below zero s f h = omega arith
+  length-join-below (suc k) s f h =
+      rw (
+        length-append (join k f) (f k),
+        length-join-below k s f (λ i l. h i (omega arith)),
+        h k (omega arith),
+      ) (sym (mul-suc s k))
 
--- runs of one length: each is read where it stands
-pub part-join : (k s : ℕ) (f : ℕ → List ℕ) (i : ℕ) → ((j : ℕ) → length (f j) ≡ s) → i < k
+  pub length-join : (k s : ℕ) (f : ℕ → List A) → ((i : ℕ) → length (f i) ≡ s) → length (join k f) ≡ s * k
+  length-join k s f h = length-join-below k s f (λ i l. h i)
+
+-- each is read where it stands
+pub part-join-below : (k s : ℕ) (f : ℕ → List ℕ) (i : ℕ) → ((j : ℕ) → j < k → length (f j) ≡ s) → i < k
     → part (join k f) (s * i) s ≡ f i
 unfolding join
-part-join zero s f i h l = absurd (not-suc-le-zero l)
-part-join (suc k) s f i h l =
-    let n : length (join k f) ≡ s * k = length-join k s f h in
+part-join-below zero s f i h l = absurd (not-suc-le-zero l)
+part-join-below (suc k) s f i h l =
+    let g : (j : ℕ) → j < k → length (f j) ≡ s = λ j m. h j (omega arith) in
+    let n : length (join k f) ≡ s * k = length-join-below k s f g in
     below-suc l
     (λ e. let m : length (join k f) + 0 ≡ s * i = rw (n, e) (add-zero (s * k)) in
-    part-right (join k f) (f k) (s * i) 0 s m ∙ part-all (f k) s (le-of-eq (h k)) ∙ ap f (sym e))
+    part-right (join k f) (f k) (s * i) 0 s m ∙ part-all (f k) s (le-of-eq (h k (omega arith))) ∙ ap f (sym e))
     (λ m. let t : s * suc i ≤ s * k = mul-le-mul-left s m in
     let u : s * i + s ≤ length (join k f) = rw n (omega arith) in
-    part-left (join k f) (f k) (s * i) s u ∙ part-join k s f i h m)
+    part-left (join k f) (f k) (s * i) s u ∙ part-join-below k s f i g m)
+
+pub part-join : (k s : ℕ) (f : ℕ → List ℕ) (i : ℕ) → ((j : ℕ) → length (f j) ≡ s) → i < k
+    → part (join k f) (s * i) s ≡ f i
+part-join k s f i h l = part-join-below k s f i (λ j m. h j) l
 
 -- a part, byte by byte
 pub part-tab : (b : List ℕ) (at len : ℕ) → at + len ≤ length b → part b at len ≡ tab len (λ i. getD b (at + i) 0)

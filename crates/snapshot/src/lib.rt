@@ -13,6 +13,7 @@
 //   1 to 12        document 01's refusal        document 01's refusal
 //   13             an update is spent
 //   14             the refusal of a frame
+//   15                                          the refusal of a page
 //   100 to 103     an update is done
 //   110 to 113     a scan has ended
 //
@@ -29,6 +30,7 @@ use codes::route_of;
 use codes::show;
 use figures::Summed;
 use node_bytes::Called;
+use page::Paged;
 use record::Operation;
 use view::REPORT;
 use view::VIEW;
@@ -55,7 +57,7 @@ ghost use Rattle.node_bytes.specs.Called.{tells};
 ghost use Rattle.calls_bytes.specs.Shown.{eventView};
 ghost use Rattle.codes.specs.Code.{extentOf, leaves};
 ghost use Rattle.codes.specs.Code.{numbers as numbersOf, reportIn, messageIn, sums as sumsOf};
-ghost use Rattle.codes.specs.Code.{answerCode, lent, wrote, lentCode, leavesNode, routeOf};
+ghost use Rattle.codes.specs.Code.{answerCode, lent, wrote, wrotePage, lentCode, leavesNode, routeOf};
 
 // ---- a cluster in one buffer
 
@@ -326,5 +328,20 @@ pub extern "C" fn snapshot_figures(n: usize, view: &[u8], sums: &mut [u32; 4]) -
             0
         }
         Summed::Refused(k) => k,
+    }
+}
+
+// Writes the desk's page of a view of n nodes at the front of `out`, and its length to `length`.
+#[no_mangle]
+pub extern "C" fn snapshot_page(n: usize, view: &[u8], out: &mut [u8], length: &mut usize) -> u8
+    ensures { λ r. ⌜ wrotePage r (now (length .exit)) (now (out .exit)) n (now (view .entry)) (now (length .entry))
+        (now (out .entry)) ⌝ }
+{
+    match page::page(n, view, out) {
+        Paged::Length(k) => {
+            *length = k;
+            0
+        }
+        Paged::Refused(k) => k,
     }
 }

@@ -1,17 +1,18 @@
 -- A report and its eight bytes give back each other.
-use Prim.Native.Nat.{ℕ, zero, suc, _+_, _≤_}
+use Prim.Native.Nat.{ℕ, zero, suc, _+_, _*_, _^_, _<_, _≤_}
 use mathlib.Core.Path.{_≡_, sym, ap, ap₂, _∙_}
 use mathlib.Core.Bool.{true}
 use mathlib.Core.List.{List, [], _∷_, _++_}
 use native.Mathlib.Decide.{ℕ-discrete}
 use native.Mathlib.Omega.{arith}
 use lib.Dec.{eqb}
-use lib.ListN.{length, replicate}
+use lib.ListN.{length, replicate, length-take}
+use lib.Pow.{pow-mono}
 use borrow.Author.Tests.{eq-eqb, ne-eqb, eqb-true}
 use Rattle.octets.specs.Test.{both}
 use Rattle.octets.specs.Bytes.{Bytes, num, be, part}
 use Rattle.octets.proofs.Test.{both-left, both-right, not-true-false}
-use Rattle.octets.proofs.Number.{num-be-suc, be-num, be-bytes, num-zero}
+use Rattle.octets.proofs.Number.{num-lt, num-be-suc, be-num, be-bytes, num-zero}
 use Rattle.octets.proofs.Put.{part-add, part-all, part-bytes, length-part}
 use Rattle.view.specs.Size.{reportSize}
 use Rattle.view.specs.Report.{Counts, noReport, isNone, reportBytes, reportOf, reportFrom, reportNumber}
@@ -45,7 +46,7 @@ unfolding reportOf part
 zero-report b h l e = ap reportOf (num-zero b h e ∙ ap (λ (k : ℕ). replicate k 0) l)
 
 -- the bytes of counts of sixteen bits are bytes
-bytes-append : (a b : List ℕ) → Bytes a → Bytes b → Bytes (a ++ b)
+pub bytes-append : (a b : List ℕ) → Bytes a → Bytes b → Bytes (a ++ b)
 bytes-append [] b h k i = k i
 bytes-append (x ∷ a) b h k zero = h zero
 bytes-append (x ∷ a) b h k (suc i) = bytes-append a b (λ j. h (suc j)) k i
@@ -61,6 +62,28 @@ report-bytes p h =
     (bytes-append a b (be-bytes 2 (p .extensions) (h .extensions)) (be-bytes 2 (p .lines) (h .lines)))
     (be-bytes 2 (p .waiting) (h .waiting)))
     (be-bytes 2 (p .wakeups) (h .wakeups))
+
+-- and the counts of a report that bytes are have sixteen bits
+short : (b : List ℕ) (at : ℕ) → length (part b at 2) ≤ 2
+unfolding part
+short b at = simp length-take (omega arith)
+
+pair-fits : (b : List ℕ) (at : ℕ) → Bytes b → num (part b at 2) < 2 ^ 16
+pair-fits b at h =
+    let l : num (part b at 2) < 2 ^ (8 * length (part b at 2)) = num-lt (part b at 2) (part-bytes b at 2 h) in
+    let m : length (part b at 2) ≤ 2 = short b at in
+    let p : 2 ^ (8 * length (part b at 2)) ≤ 2 ^ 16 = pow-mono {j = 16} (omega arith) in
+    omega arith
+
+pub counts-of : (b : List ℕ) → Bytes b → Counts (reportOf b)
+unfolding reportOf
+counts-of b h =
+    record {
+      extensions = pair-fits b 0 h;
+      lines = pair-fits b 2 h;
+      waiting = pair-fits b 4 h;
+      wakeups = pair-fits b 6 h;
+    }
 
 -- eight bytes are the report of their number, and the bytes of a report are those of its number
 pub from-number : (b : List ℕ) → Bytes b → length b ≡ reportSize → reportFrom (num b) ≡ reportOf b

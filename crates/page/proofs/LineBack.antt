@@ -1,0 +1,125 @@
+-- What the columns of a line say: a line is read back.
+use Prim.Native.Nat.{ℕ, _+_, _-_, _%_, _^_, _<_, _≤_}
+use mathlib.Core.Path.{_≡_, refl, sym, ap, _∙_}
+use mathlib.Core.Bool.{false}
+use mathlib.Core.List.{List, [], _∷_, _++_}
+use mathlib.Core.Option.{none, some}
+use native.Mathlib.Omega.{arith}
+use lib.ListN.{length, getD}
+use lib.Dec.{eqb}
+use borrow.Author.Tests.{ne-eqb}
+use Rattle.octets.specs.Bytes.{part}
+use Rattle.octets.specs.Loop.{tab}
+use Rattle.octets.proofs.Table.{tab-of}
+use Rattle.view.specs.Report.{Counts}
+use Rattle.view.specs.declared.Report.{Report}
+use Rattle.digits.specs.Decimal.{value, decimal}
+use Rattle.digits.proofs.DecimalBack.{value-spaces, value-decimal}
+use Rattle.figures.specs.declared.Totals.{Totals}
+use Rattle.page.specs.Page.{labelWidth, countWidth, feed, space, dash, equals, right, pageLine, countsLine}
+use Rattle.page.specs.Page.{nodeLine, figuresLine}
+use Rattle.page.specs.Read.{columns, countIn, shownIn, figuresIn}
+use Rattle.page.proofs.Columns.{right-decimal}
+use Rattle.page.proofs.Lines.{Fitting, right-length, digits-most}
+
+-- ---- columns
+
+spelled : (k : ℕ) (s : List ℕ) → length s ≡ k → s ≡ tab k (λ i. getD s i 0)
+spelled k s e = sym (tab-of s 0) ∙ ap (λ (j : ℕ). tab j (λ i. getD s i 0)) e
+
+pub record Columns (l a b c d : List ℕ) : Type 0 where
+  pub first : columns l 0 ≡ a
+  pub second : columns l 1 ≡ b
+  pub third : columns l 2 ≡ c
+  pub fourth : columns l 3 ≡ d
+
+placed : (l a b c d : List ℕ) → length l ≡ labelWidth → length a ≡ countWidth → length b ≡ countWidth
+    → length c ≡ countWidth → length d ≡ countWidth
+    → Columns (l ++ (space ∷ a) ++ (space ∷ b) ++ (space ∷ c) ++ (space ∷ d) ++ feed) a b c d
+unfolding tab part
+placed l a b c d e f g h i =
+    rw (spelled 2 l e, spelled 7 a f, spelled 7 b g, spelled 7 c h, spelled 7 d i)
+    (record { first = refl; second = refl; third = refl; fourth = refl })
+
+line-columns : (l a b c d : List ℕ) → length l ≤ labelWidth → length a ≤ countWidth → length b ≤ countWidth
+    → length c ≤ countWidth → length d ≤ countWidth
+    → Columns (pageLine l a b c d) (right countWidth a) (right countWidth b) (right countWidth c) (right countWidth d)
+unfolding pageLine
+line-columns l a b c d e f g h i =
+    placed (right labelWidth l) (right countWidth a) (right countWidth b) (right countWidth c) (right countWidth d)
+    (right-length labelWidth l e) (right-length countWidth a f) (right-length countWidth b g)
+    (right-length countWidth c h) (right-length countWidth d i)
+
+-- ---- counts
+
+-- a count that fits its columns is said by them
+said : (x : ℕ) → x < 10 ^ countWidth → value (right countWidth (decimal x)) ≡ x
+unfolding right
+said x h = value-spaces (countWidth - length (decimal x)) (decimal x) ∙ value-decimal x (omega arith)
+
+-- its last column is a digit
+digit-last : (x : ℕ) → x < 10 ^ countWidth → eqb (getD (right countWidth (decimal x)) 6 0) 45 ≡ false
+digit-last x h =
+    ap (λ (s : List ℕ). eqb (getD s 6 0) 45) (right-decimal 6 x h (omega arith))
+    ∙ ne-eqb (48 + x % 10) 45 (λ e. omega arith)
+
+-- four counts in a line
+module _ (l : List ℕ) (a b c d : ℕ) (e : length l ≤ labelWidth) (f : a < 10 ^ countWidth) (g : b < 10 ^ countWidth)
+    (h : c < 10 ^ countWidth) (i : d < 10 ^ countWidth) where
+  in-columns : Columns (countsLine l a b c d) (right countWidth (decimal a)) (right countWidth (decimal b))
+      (right countWidth (decimal c)) (right countWidth (decimal d))
+  in-columns =
+      line-columns l (decimal a) (decimal b) (decimal c) (decimal d) e (digits-most countWidth a f (omega arith))
+      (digits-most countWidth b g (omega arith)) (digits-most countWidth c h (omega arith)) (digits-most countWidth d i
+      (omega arith))
+
+  first-said : countIn (countsLine l a b c d) 0 ≡ a
+  first-said = ap value (in-columns .first) ∙ said a f
+
+  second-said : countIn (countsLine l a b c d) 1 ≡ b
+  second-said = ap value (in-columns .second) ∙ said b g
+
+  third-said : countIn (countsLine l a b c d) 2 ≡ c
+  third-said = ap value (in-columns .third) ∙ said c h
+
+  fourth-said : countIn (countsLine l a b c d) 3 ≡ d
+  fourth-said = ap value (in-columns .fourth) ∙ said d i
+
+  counts-shown : shownIn (countsLine l a b c d)
+      ≡ some (record { extensions = a; lines = b; waiting = c; wakeups = d })
+  unfolding shownIn
+  counts-shown =
+      rw (
+        ap (λ (s : List ℕ). eqb (getD s 6 0) 45) (in-columns .first) ∙ digit-last a f,
+        first-said,
+        second-said,
+        third-said,
+        fourth-said,
+      ) refl
+
+-- ---- lines
+
+pub none-back : (k : ℕ) → k < 10 ^ labelWidth → shownIn (nodeLine k none) ≡ none
+unfolding shownIn right
+none-back k h =
+    let c = line-columns (decimal k) dash dash dash dash (digits-most labelWidth k h (omega arith)) (omega arith)
+    (omega arith) (omega arith) (omega arith) in
+    rw (ap (λ (s : List ℕ). eqb (getD s 6 0) 45) (c .first)) refl
+
+pub some-back : (k : ℕ) (p : Report) → k < 10 ^ labelWidth → Counts p → shownIn (nodeLine k (some p)) ≡ some p
+some-back k p h c =
+    counts-shown (decimal k) (p .extensions) (p .lines) (p .waiting) (p .wakeups)
+    (digits-most labelWidth k h (omega arith)) (omega (arith, c .extensions)) (omega (arith, c .lines))
+    (omega (arith, c .waiting)) (omega (arith, c .wakeups))
+
+pub figures-back : (t : Totals) → Fitting t → figuresIn (figuresLine t) ≡ t
+unfolding figuresIn
+figures-back t h =
+    let f = t .extensions in
+    let e : length equals ≤ labelWidth = omega arith in
+    rw (
+      first-said equals f (t .lines) (t .waiting) (t .wakeups) e (h .extensions) (h .lines) (h .waiting) (h .wakeups),
+      second-said equals f (t .lines) (t .waiting) (t .wakeups) e (h .extensions) (h .lines) (h .waiting) (h .wakeups),
+      third-said equals f (t .lines) (t .waiting) (t .wakeups) e (h .extensions) (h .lines) (h .waiting) (h .wakeups),
+      fourth-said equals f (t .lines) (t .waiting) (t .wakeups) e (h .extensions) (h .lines) (h .waiting) (h .wakeups),
+    ) refl

@@ -1,0 +1,124 @@
+-- `page::put_nodes` meets its contract.
+use borrow.Author.Needs.{needs}
+use Prim.Native.Nat.{ℕ, _+_, _-_, _*_, _≤_}
+use mathlib.Core.Path.{_≡_, refl, sym, ap, ap₂, _∙_, subst}
+use mathlib.Core.List.{List}
+use native.Mathlib.Omega.{arith}
+use lib.ListN.{length}
+use Rattle.octets.specs.Bytes.{Bytes, put}
+use Rattle.octets.proofs.Put.{put-nil, put-then}
+use Rattle.octets.proofs.Table.{join-none, join-more}
+use Rattle.view.specs.declared.Report.{Report}
+use Rattle.figures.specs.declared.Totals.{Totals}
+use Rattle.figures.specs.Figures.{withReport, totals, figureMost}
+use Rattle.figures.specs.Room.{Roomy}
+use Rattle.figures.proofs.Adding.{totals-none, totals-more, more-roomy}
+use Rattle.figures.proofs.Bounds.{totals-fit}
+use Rattle.page.specs.Page.{lineSize, nodeLine, shownAt, nodeLines}
+use Rattle.page.proofs.Lines.{nodes-length}
+use Rattle.page.proofs.put_nodes.Statement.{statement}
+use Rattle.page.proofs.put_nodes.Tie as tie
+
+abbrev Inv-loop : tie.InvT-loop
+Inv-loop out₀ v n sums₀ i₀ out sums i = (i ≤ n) × (length out ≡ length out₀) × (sums ≡ totals i v)
+    × (out ≡ put out₀ 0 (nodeLines i v))
+
+abbrev μ-loop : tie.MeasureT-loop
+μ-loop out₀ v n sums₀ i₀ out sums i = n - i
+
+loop-holds : tie.Need-loop-holds Inv-loop μ-loop
+loop-holds c =
+    let a = c .before .before .before .args in
+    let f : ℕ → List ℕ = λ i. nodeLine (i + 1) (shownAt (a .v .now) i) in (
+      omega arith,
+      refl,
+      c .no-totals .ensures ∙ sym (totals-none (a .v .now)),
+      sym (put-nil (a .out .now) 0) ∙ ap (λ (s : List ℕ). put (a .out .now) 0 s) (sym (join-none f)),
+    )
+
+put-node-requires : tie.Need-put-node-requires Inv-loop μ-loop
+put-node-requires c κs =
+    let l = c .before .loop-test .taken in (
+      omega (arith, c .before .before .before .before .before .before .pre .0),
+      omega (
+        arith,
+        c .before .before .before
+            .before .before .before .pre .1,
+      ),
+      omega (
+        arith,
+        c .before .before .before .before .before .before .pre .2,
+        c
+            .before .before .loop .inv .1,
+      ),
+    )
+
+with-report-requires : tie.Need-with-report-requires Inv-loop μ-loop
+with-report-requires c κs =
+    let a = c .before .before .before .before .before .before .before .before .before .args in
+    let i = c .before .before .before .before .before .loop .i in
+    let b : Bytes (a .v .now) = λ k. c .before .before .before .before .before .before .before .shared-slice-known
+    .given k .fits in
+    subst (λ (t : Totals). Roomy t) (sym (c .before .before .before .before .before .loop .inv .2))
+    (more-roomy figureMost (totals i (a .v .now)) (totals-fit i (a .v .now) b (omega (
+      arith,
+      c .before .before .before
+          .before .before .before .before .before .before .pre .0,
+      c .before .before .before .before .before .loop .inv .0,
+    )))
+    (omega arith))
+
+loop-again : tie.Need-loop-again Inv-loop μ-loop
+loop-again c =
+    let a = c .before .before .before .before .before .before .before .before .before .before .args in
+    let o = a .out .now in
+    let v = a .v .now in
+    let i = c .before .before .before .before .before .before .loop .i in
+    let b : Bytes v = λ k. c .before .before .before .before .before .before .before .before .shared-slice-known .given
+    k .fits in
+    let f : ℕ → List ℕ = λ j. nodeLine (j + 1) (shownAt v j) in
+    let l = nodes-length i v b (omega (
+      arith,
+      c .before .before .before .before .before .before .before .before .before
+          .before .pre .0,
+      c .before .before .before .before .before .before .loop .inv .0,
+    )) in (
+      omega arith,
+      search needs,
+      c .with-report .ensures
+          ∙ ap₂ (λ (t : Totals) (p : Report). withReport t p) (c .before .before .before .before .before .before .loop
+          .inv .2) (c .before .before .before .put-node .ensures .0)
+          ∙ sym (totals-more i v),
+      put-then o 0 (nodeLines i v) (f i) (lineSize * i) (omega arith) (omega (arith, l)) (c .before .before .before
+          .before .before .before .loop .inv .3)
+          (c .before .before .before .put-node .ensures .1)
+          ∙ ap (λ (s : List ℕ). put o 0 s) (sym (join-more i f)),
+    )
+
+same-length : tie.Need-same-length Inv-loop μ-loop
+same-length c = c .before .loop .inv .1
+
+returns : tie.Need-returns Inv-loop μ-loop
+returns c =
+    let a = c .before .before .before .before .before .args in
+    let v = a .v .now in
+    let e : c .before .loop .i ≡ a .n = omega arith in (
+      c .before .loop .inv .2 ∙ ap (λ (k : ℕ). totals k v) e,
+      c .before .loop .inv .3 ∙ ap (λ (k : ℕ). put (a .out .now) 0 (nodeLines k v)) e,
+    )
+
+pub put-nodes-spec : {M : Type 1} → statement M
+put-nodes-spec =
+    tie.close
+    (tie.spec
+    Inv-loop
+    μ-loop
+    (λ c κs. search needs)
+    loop-holds
+    put-node-requires
+    with-report-requires
+    (λ c. search needs)
+    (λ c. search needs)
+    loop-again
+    same-length
+    returns)

@@ -1,0 +1,5 @@
+pub mod Claims
+pub mod Column
+pub mod Example
+pub mod Page
+pub mod Read
