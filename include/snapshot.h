@@ -9,7 +9,7 @@
  *   one node         snapshot_node_..: a cabinet, in a record that you lend. You send and receive its messages.
  *   a cluster        snapshot_fresh, .._begin_.., .._deliver, .._stop: n nodes and the channels between them, in one
  *                    run of lent bytes, to try out a whole house in one program.
- *   bytes            snapshot_next, snapshot_read, snapshot_write, snapshot_figures: messages and views.
+ *   bytes            snapshot_next, snapshot_read, snapshot_write, snapshot_figures, snapshot_page: messages and views.
  *
  * WHAT LINKS OWE, where each node runs by itself. That all operations have one single order rests on it:
  *   1. A link, from one node to another or to itself, loses no message, repeats none, alters none and keeps their
@@ -91,6 +91,12 @@
 /* The least length of an output for a frame. What its messages give rise to never takes more. */
 #define SNAPSHOT_FRAME_OUTPUT 8192
 
+/* A line of the desk's page: 34 columns and a line feed. */
+#define SNAPSHOT_LINE 35
+
+/* The page of n nodes, n from 1 to 16: for the length of an array. */
+#define SNAPSHOT_PAGE(n) (SNAPSHOT_LINE * ((n) + 1))
+
 /* A cluster of n nodes, n from 1 to 16, as snapshot_size(n) answers: for the length of an array. */
 #define SNAPSHOT_CLUSTER(n) (1 + 73345 * (n))
 
@@ -108,7 +114,8 @@ enum snapshot_refusal {
     SNAPSHOT_REFUSED_STOPS = 10,    /* f nodes have stopped, and this would be one more */
     SNAPSHOT_REFUSED_FULL = 11,     /* a channel of the cluster would hold more than 16 messages */
     SNAPSHOT_REFUSED_LENGTH = 12,   /* a lent length is not the one that is asked, or is below the least */
-    SNAPSHOT_REFUSED_FRAME = 14     /* a frame is empty, or longer than SNAPSHOT_FRAME */
+    SNAPSHOT_REFUSED_FRAME = 14,    /* a frame is empty, or longer than SNAPSHOT_FRAME */
+    SNAPSHOT_REFUSED_PAGE = 15      /* the lent bytes are too few for the page */
 };
 
 /* The other codes. The last digit of 100 to 113 is the rule that ended the operation: 0, its three rounds failed and it
@@ -324,6 +331,20 @@ uint8_t snapshot_write(size_t n, const uint64_t numbers[4], const uint8_t report
  *   7   a tag above its limit, or bytes that are not zero beside tag 0
  * Answers 0. Writes the sums: extensions busy, outside lines busy, calls waiting, wake-up calls set. */
 uint8_t snapshot_figures(size_t n, const uint8_t *view, size_t view_len, uint32_t sums[4]);
+
+/* The desk's page of a view of n entries, as text: a line for each node, then one with == and the house figures. A line
+ * has the node right in 2 columns, then each of the four counts right in 7 after one space; where there is no report,
+ * each count is a -. Tags are not shown. Of two nodes, the first of which has reported:
+ *      1       1       2       3       4
+ *      2       -       -       -       -
+ *     ==       1       2       3       4
+ *   12  view_len is not 16 n
+ *   1   n is not 1 to 16
+ *   7   a tag above its limit, or bytes that are not zero beside tag 0
+ *   15  out_len is below SNAPSHOT_PAGE(n)
+ * Answers 0. Writes the page, the first SNAPSHOT_PAGE(n) bytes of out, with no zero behind it, and *length, its length.
+ */
+uint8_t snapshot_page(size_t n, const uint8_t *view, size_t view_len, uint8_t *out, size_t out_len, size_t *length);
 
 #ifdef __cplusplus
 }

@@ -4,7 +4,7 @@
 //! | code | after an event | after another call |
 //! |---|---|---|
 //! | 0, [`TAKEN`] | no operation has ended | what was lent holds the result |
-//! | 1 to 12, 14 | refused: [`Refusal`](crate::Refusal) | the same |
+//! | 1 to 12, 14, 15 | refused: [`Refusal`](crate::Refusal) | the same |
 //! | 13, [`SPENT`] | an update is spent | – |
 //! | 100 to 103, from [`DONE`] on | an update is done | – |
 //! | 110 to 113, from [`SCAN`] on | a scan has ended | – |
@@ -126,6 +126,15 @@ pub fn write(
 pub fn figures(n: usize, view: &[u8], sums: &mut [u32; 4]) -> u8 {
     // SAFETY: pointer and length of one slice; the array is lent by `&mut`, so it is apart from it.
     unsafe { raw::snapshot_figures(n, view.as_ptr(), view.len(), sums) }
+}
+
+/// Writes the desk's page of a view of n nodes at the front of `out`, and its length to `length`. Refusals: 12, 1, 7,
+/// 15.
+#[inline]
+pub fn page(n: usize, view: &[u8], out: &mut [u8], length: &mut usize) -> u8 {
+    // SAFETY: each pointer with the length of its own slice; `out` and `length` are lent by `&mut`, so they are apart
+    // from each other and from the view.
+    unsafe { raw::snapshot_page(n, view.as_ptr(), view.len(), out.as_mut_ptr(), out.len(), length) }
 }
 
 /// The bytes of a node's record.

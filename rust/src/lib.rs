@@ -5,7 +5,7 @@
 //!
 //! - [`Node`] is one node, for nodes that are apart: the caller's links carry the messages of its [`Output`].
 //! - [`Cluster`] is all nodes and the channels between them in one run of bytes.
-//! - [`Message`], [`View`], [`Report`] and [`figures`] read and write what crosses.
+//! - [`Message`], [`View`], [`Report`] and [`figures`] read and write what crosses; [`page`] prints a view.
 //! - [`lent`] has the calls one by one, on lent bytes.
 //!
 //! Every call takes any numbers and any bytes, and gives its result or one [`Refusal`]. A refusal leaves the record,
@@ -82,7 +82,7 @@ pub use message::Message;
 pub use node::{Messages, Node, Output, To};
 pub use operation::{Ending, Operation, Rule};
 pub use refusal::Refusal;
-pub use view::{figures, Entry, Figures, Report, View};
+pub use view::{figures, page, page_size, Entry, Figures, Report, View};
 
 /// The bytes of a node's record.
 pub const RECORD: usize = 3168;
@@ -105,3 +105,6 @@ pub const VIEW: usize = 256;
 
 /// The bytes of a report.
 pub const REPORT: usize = 8;
+
+/// The bytes of a line of the desk's [`page`]: 34 columns and a line feed.
+pub const LINE: usize = 35;

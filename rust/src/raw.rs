@@ -42,6 +42,14 @@ extern "C" {
         length: *mut usize,
     ) -> u8;
     pub fn snapshot_figures(n: usize, view: *const u8, view_len: usize, sums: *mut [u32; 4]) -> u8;
+    pub fn snapshot_page(
+        n: usize,
+        view: *const u8,
+        view_len: usize,
+        out: *mut u8,
+        out_len: usize,
+        length: *mut usize,
+    ) -> u8;
     pub fn snapshot_node_size() -> usize;
     pub fn snapshot_node_fresh(n: usize, own: usize, state: *mut u8, state_len: usize) -> u8;
     pub fn snapshot_node_begin_update(

@@ -44,14 +44,16 @@ pub enum Refusal {
     Length = 12,
     /// A frame that is empty, or longer than [`FRAME`](crate::FRAME) bytes. (13 is an ending: an update is spent.)
     Frame = 14,
+    /// Lent bytes that are too few for the page.
+    Page = 15,
 }
 
 use Refusal::*;
 
 impl Refusal {
     /// All of them, in the order of their numbers.
-    pub const ALL: [Refusal; 13] =
-        [Size, Unusable, Node, Stopped, Open, Requests, Layout, Empty, Value, Stops, Full, Length, Frame];
+    pub const ALL: [Refusal; 14] =
+        [Size, Unusable, Node, Stopped, Open, Requests, Layout, Empty, Value, Stops, Full, Length, Frame, Page];
 
     /// Its number, which is the call's code too.
     pub fn number(self) -> u8 {
@@ -93,6 +95,7 @@ impl fmt::Display for Refusal {
             Full => "a channel would hold more than sixteen messages",
             Length => "the bytes have a wrong length",
             Frame => "the frame is empty or too long",
+            Page => "the bytes are too few for the page",
         })
     }
 }
@@ -105,11 +108,11 @@ mod tests {
 
     #[test]
     fn numbers_are_those_of_the_documents() {
-        for (number, refusal) in (1..=12).chain([14]).zip(Refusal::ALL) {
+        for (number, refusal) in (1..=12).chain([14, 15]).zip(Refusal::ALL) {
             assert_eq!(refusal.number(), number);
             assert_eq!(Refusal::from_number(number), Some(refusal));
         }
-        for number in (15..=255).chain([0, 13]) {
+        for number in (16..=255).chain([0, 13]) {
             assert_eq!(Refusal::from_number(number), None);
         }
     }

@@ -1,7 +1,7 @@
-//! Reports, views of all nodes' reports, and figures over them.
+//! Reports, views of all nodes' reports, and figures and pages of them.
 use crate::lent;
 use crate::refusal::{accepted, Refusal};
-use crate::{REPORT, VIEW};
+use crate::{LINE, REPORT, VIEW};
 
 /// What a node (document 01's cabinet) posts: four counts.
 ///
@@ -111,6 +111,31 @@ impl View {
     pub fn figures(&self) -> Figures {
         figures(self.nodes, self.as_bytes()).expect("a view has figures")
     }
+
+    /// Its page for the desk, with a line feed after each line; [`page`] says what a line has.
+    ///
+    /// ```
+    /// use snapshot::{Refusal, View};
+    ///
+    /// let mut bytes = [0; 32];
+    /// bytes[..16].copy_from_slice(&[0, 0, 0, 0, 0, 0, 0, 9, 0, 1, 0, 2, 0, 3, 0, 4]);
+    /// let text = View::from_bytes(2, &bytes)?.page();
+    /// let lines: Vec<&str> = text.lines().collect();
+    /// assert_eq!(
+    ///     lines,
+    ///     [
+    ///         " 1       1       2       3       4", // node 1 has reported
+    ///         " 2       -       -       -       -", // and node 2 has not
+    ///         "==       1       2       3       4", // the figures
+    ///     ]
+    /// );
+    /// # Ok::<(), Refusal>(())
+    /// ```
+    pub fn page(&self) -> String {
+        let mut text = vec![0; page_size(self.nodes)];
+        page(self.nodes, self.as_bytes(), &mut text).expect("a view has a page");
+        String::from_utf8(text).expect("a page is ASCII")
+    }
 }
 
 /// Sums over the reports of a view (document 01's house figures); a node without a report adds nothing.
@@ -143,6 +168,40 @@ pub fn figures(n: usize, view: &[u8]) -> Result<Figures, Refusal> {
     accepted(lent::figures(n, view, &mut sums))?;
     let [extensions, lines, waiting, wakeups] = sums;
     Ok(Figures { extensions, lines, waiting, wakeups })
+}
+
+/// The bytes of the desk's page of n nodes, a line for each and one for the figures; 0 where n is not 1 to 16.
+pub const fn page_size(n: usize) -> usize {
+    match n {
+        1..=16 => LINE * (n + 1),
+        _ => 0,
+    }
+}
+
+/// Writes the desk's page of a view of n nodes, in these bytes, at the front of `out`, and answers its length, that of
+/// [`page_size`]; the other bytes of `out` stay.
+///
+/// A line has the node right in 2 columns, then each of its four counts right in 7 after one space, and a line feed; a
+/// node without a report has `-` for each count. The last line has `==` and the [`Figures`]. All is ASCII. Tags are not
+/// shown.
+///
+/// Refusals: those of [`figures`], 12, 1, 7; then 15 (`out` is shorter than the page).
+///
+/// ```
+/// use snapshot::{page, page_size, Refusal};
+///
+/// let bytes = [0, 0, 0, 0, 0, 0, 0, 9, 255, 255, 0, 2, 0, 0, 0, 4];
+/// let mut out = [0; page_size(1)];
+/// assert_eq!(page(1, &bytes, &mut out)?, 70);
+/// assert_eq!(out[..35], *b" 1   65535       2       0       4\n");
+/// assert_eq!(out[35..], *b"==   65535       2       0       4\n");
+/// assert_eq!(page(1, &bytes, &mut out[..69]), Err(Refusal::Page));
+/// # Ok::<(), Refusal>(())
+/// ```
+pub fn page(n: usize, view: &[u8], out: &mut [u8]) -> Result<usize, Refusal> {
+    let mut length = 0;
+    accepted(lent::page(n, view, out, &mut length))?;
+    Ok(length)
 }
 
 #[cfg(test)]

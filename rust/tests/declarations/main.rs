@@ -59,7 +59,7 @@ fn file(path: &str) -> Parsed<String> {
 }
 
 /// The sizes of this crate, by their names.
-const SIZES: [(&str, usize); 7] = [
+const SIZES: [(&str, usize); 8] = [
     ("RECORD", snapshot::RECORD),
     ("OUTPUT", snapshot::OUTPUT),
     ("LONGEST", snapshot::LONGEST),
@@ -67,6 +67,7 @@ const SIZES: [(&str, usize); 7] = [
     ("FRAME_OUTPUT", snapshot::FRAME_OUTPUT),
     ("VIEW", snapshot::VIEW),
     ("REPORT", snapshot::REPORT),
+    ("LINE", snapshot::LINE),
 ];
 
 fn size(name: &str) -> Parsed<usize> {
@@ -91,7 +92,7 @@ fn the_three_texts_declare_the_same() {
             assert!(proved.contains_key(name), "{name} of {other} is not in lib.rt");
         }
     }
-    assert_eq!(proved.len(), 16);
+    assert_eq!(proved.len(), 17);
 }
 
 #[test]
@@ -116,14 +117,27 @@ fn the_header_has_the_sizes_of_the_proved_code() {
         ("LONGEST", "wire/src/lib"),
         ("FRAME", "calls_bytes/src/lib"),
         ("FRAME_OUTPUT", "calls_bytes/src/lib"),
+        ("LINE", "page/src/lib"),
     ] {
         let text = without_comments(&file(&format!("crates/{module}.rt")).unwrap()).unwrap();
         let size = rattle::constant(&text, name).unwrap();
         assert_eq!(header.numbers.get(&format!("SNAPSHOT_{name}")), Some(&size), "{name}");
     }
-    assert_eq!(header.numbers.len(), 9);
-    assert!(file("include/snapshot.h").unwrap().contains("#define SNAPSHOT_CLUSTER(n) (1 + 73345 * (n))\n"));
-    assert!((1..=16).all(|n| snapshot::lent::size(n) == 1 + 73345 * n));
+    assert_eq!(header.numbers.len(), 10);
+}
+
+/// The formulas of the header, which its parser does not look at.
+#[test]
+fn the_header_has_the_sizes_for_n_nodes() {
+    let text = file("include/snapshot.h").unwrap();
+    let formulas: Vec<&str> = text.lines().filter(|line| line.starts_with("#define") && line.contains("(n)")).collect();
+    let expected =
+        ["#define SNAPSHOT_PAGE(n) (SNAPSHOT_LINE * ((n) + 1))", "#define SNAPSHOT_CLUSTER(n) (1 + 73345 * (n))"];
+    assert_eq!(formulas, expected);
+    for n in 1..=16 {
+        assert_eq!(snapshot::page_size(n), snapshot::LINE * (n + 1));
+        assert_eq!(snapshot::lent::size(n), 1 + 73345 * n);
+    }
 }
 
 #[test]
