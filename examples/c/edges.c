@@ -33,11 +33,11 @@ static uint8_t node[SNAPSHOT_RECORD], link[SNAPSHOT_FRAME_OUTPUT], house[SNAPSHO
 static size_t waiting; /* bytes on the link */
 static size_t front;   /* the length of its first message */
 
-enum { NODE_FRESH, NODE_UPDATE, NODE_SCAN, NODE_MESSAGE, NODE_FRAME, NEXT, READ, WRITE, FIGURES };
-enum { FRESH = FIGURES + 1, UPDATE, SCAN, DELIVER, STOP };
+enum { NODE_FRESH, NODE_UPDATE, NODE_SCAN, NODE_MESSAGE, NODE_FRAME, NEXT, READ, WRITE, FIGURES, PAGE };
+enum { FRESH = PAGE + 1, UPDATE, SCAN, DELIVER, STOP };
 
 static const char *const names[] = {"node fresh", "node update", "node scan", "node message", "node frame", "next",
-                                    "read", "write", "figures", "fresh", "update", "scan", "deliver", "stop"};
+                                    "read", "write", "figures", "page", "fresh", "update", "scan", "deliver", "stop"};
 
 #define CALLS (sizeof names / sizeof *names)
 
@@ -255,14 +255,41 @@ static void call_write(void)
     }
 }
 
-static void call_figures(void)
+/* The number of nodes that a view is of, one too many among them. */
+static size_t any_nodes(void) { return 1 + below(SNAPSHOT_NODES + 1); }
+
+/* Lends the view of so many nodes, some of which have reported, and tells its length. */
+static uint8_t *lend_view(size_t nodes, size_t *given)
 {
     const uint8_t entry[SNAPSHOT_ENTRY] = {0, 0, 0, 0, 0, 0, 0, 1, 255, 255, 0, 2, 0, 3, 0, 4};
-    size_t given = about_length(SNAPSHOT_ENTRY * n), nodes = about(n);
-    uint8_t *shown = lend(&bytes, given, entry, sizeof entry);
+    uint8_t entries[SNAPSHOT_VIEW + SNAPSHOT_ENTRY] = {0};
+    for (size_t at = 0; at < sizeof entries; at += sizeof entry)
+        memcpy(entries + at, entry, below(2) == 0 ? sizeof entry : 0);
+    *given = about_length(SNAPSHOT_ENTRY * nodes);
+    return lend(&bytes, *given, entries, sizeof entries);
+}
+
+static void call_figures(void)
+{
+    size_t right = any_nodes(), nodes = about(right), given = 0;
+    uint8_t *shown = lend_view(right, &given);
     uint32_t *sum = lend_any(&sums, 4 * sizeof *sum);
     if (accepted(FIGURES, snapshot_figures(nodes, shown, given, sum)))
         kept(&bytes, 0);
+}
+
+/* A page with just its bytes lent, or a line more. */
+static void call_page(void)
+{
+    size_t right = any_nodes(), nodes = about(right), room = about_length(SNAPSHOT_PAGE(right + below(2))), given = 0;
+    uint8_t *shown = lend_view(right, &given), *o = lend_any(&out, room);
+    size_t *count = lend_any(&length, sizeof *count);
+    if (accepted(PAGE, snapshot_page(nodes, shown, given, o, room, count))) {
+        kept(&bytes, 0);
+        kept(&out, *count);
+        if (*count != SNAPSHOT_PAGE(nodes))
+            fail("a page has another length");
+    }
 }
 
 /* An event of the cluster, seldom a cut. */
@@ -303,8 +330,10 @@ static void call_some(void)
         call_read();
     else if (some < 850)
         call_write();
-    else if (some < 900)
+    else if (some < 875)
         call_figures();
+    else if (some < 900)
+        call_page();
     else if (some < 902)
         call_cluster(below(2) == 0 ? FRESH : STOP);
     else

@@ -65,6 +65,7 @@ static void write_one(void)
 }
 static void next(void) { code = snapshot_next(SNAPSHOT_NODES, out, length, &message_length, &route); }
 static void figures(void) { code = snapshot_figures(SNAPSHOT_NODES, view, sizeof view, sums); }
+static void page(void) { code = snapshot_page(SNAPSHOT_NODES, view, sizeof view, out, sizeof out, &length); }
 
 /* The calls, what is stated of each in snapshot.h and README.md, and the most stack that each has taken. */
 static struct call {
@@ -88,6 +89,7 @@ static struct call {
     {"snapshot_write", write_one, 200, 0},
     {"snapshot_next", next, 200, 0},
     {"snapshot_figures", figures, 200, 0},
+    {"snapshot_page", page, 200, 0},
 };
 
 #define CALLS (sizeof calls / sizeof *calls)
@@ -260,6 +262,7 @@ static void call_all(void)
     expect(read_one);
     expect(next);
     expect(figures);
+    expect(page);
 }
 
 int main(void)
