@@ -1,6 +1,7 @@
 //! The differential run: both sides get the same events on their own copy of a cluster, or the same calls on their own
 //! copy of a node, and every answer, every lent view and every byte must be the same. Some are damaged on the way.
 mod node;
+mod page;
 
 use crate::dice::Dice;
 use crate::side::{Event, Numbers, Plain, Proved, Side, View, SCAN};
@@ -281,9 +282,16 @@ pub fn check(seeds: u64) {
     }
     let mut messages: Tally = [0; 256];
     codec(1, 200_000, &mut messages);
+    let mut pages: Tally = [0; 256];
+    page::pages(2, 200_000, &mut pages);
     let node::Answers { frames, others } = answers;
-    let tallies =
-        [("cluster events", events), ("one node", others), ("frames", frames), ("messages and figures", messages)];
+    let tallies = [
+        ("cluster events", events),
+        ("one node", others),
+        ("frames", frames),
+        ("messages and figures", messages),
+        ("pages", pages),
+    ];
     for (what, tally) in tallies {
         println!("{what}: {} answers, all the same", tally.iter().sum::<u64>());
         for (code, count) in tally.iter().enumerate().filter(|(_, &count)| count > 0) {

@@ -3,11 +3,15 @@ mod codec;
 mod events;
 mod frame;
 mod node;
+mod views;
 
 /// How often each side runs at least, and for how many seconds both together; the best time counts. What takes less
 /// than a millisecond runs a hundred times or more, so that a row is not of one moment of the machine.
 const RUNS: usize = 15;
 const SECONDS: f64 = 0.2;
+
+/// How often the same messages or views are gone through in one run.
+const ROUNDS: usize = 300;
 
 /// What the proved code may take, as a multiple of plain Rust's time.
 const TARGET: f64 = 1.2;
@@ -62,12 +66,15 @@ pub fn all(longest: usize) {
     println!();
     let (codec, by_kind) = codec::messages();
     println!();
-    let figures = codec::figures();
+    let figures = views::figures();
+    println!();
+    let (pages, to_write) = views::pages();
     println!();
     events::growth_with_length(longest);
     println!(
         "\nlargest ratios: events {events:.2}, one node {node:.2}, frames {frames:.2}, messages {codec:.2} (one kind \
-         alone {by_kind:.2}), figures {figures:.2}; the target is {TARGET:.2}\n\
+         alone {by_kind:.2}), figures {figures:.2}, pages {pages:.2} (by write! {to_write:.2}); the target is \
+         {TARGET:.2}\n\
          frames beside a call for each of their messages: at most {to_calls:.2}"
     );
 }

@@ -2,6 +2,7 @@
 pub use crate::plain::bytes::{Report, NO_REPORT};
 use crate::plain::figures::figures;
 use crate::plain::message::{read, write, Message};
+use crate::plain::page::{page, page_by_write};
 pub use crate::plain::record::Operation;
 use crate::plain::step::{Ending, Rule};
 use crate::plain::{cluster, node, record, Refusal};
@@ -39,6 +40,7 @@ pub trait Side {
     fn read(n: usize, b: &[u8], numbers: &mut Numbers, report: &mut Report) -> u8;
     fn write(n: usize, numbers: &Numbers, report: &Report, view: &[u8], out: &mut [u8], length: &mut usize) -> u8;
     fn figures(n: usize, view: &[u8], sums: &mut [u32; 4]) -> u8;
+    fn page(n: usize, view: &[u8], out: &mut [u8], length: &mut usize) -> u8;
     fn node_size() -> usize;
     fn node_fresh(n: usize, own: usize, record: &mut [u8]) -> u8;
     fn node_begin(record: &mut [u8], operation: &Operation, out: &mut [u8], length: &mut usize) -> u8;
@@ -102,6 +104,10 @@ impl Side for Proved {
 
     fn figures(n: usize, view: &[u8], sums: &mut [u32; 4]) -> u8 {
         lent::figures(n, view, sums)
+    }
+
+    fn page(n: usize, view: &[u8], out: &mut [u8], length: &mut usize) -> u8 {
+        lent::page(n, view, out, length)
     }
 
     fn node_size() -> usize {
@@ -171,6 +177,25 @@ fn sent(answer: Result<(Ending, usize), Refusal>, length: &mut usize) -> u8 {
     }))
 }
 
+/// The code of a call whose result goes to a place that is lent.
+fn put<T>(answer: Result<T, Refusal>, place: &mut T) -> u8 {
+    match answer {
+        Ok(result) => {
+            *place = result;
+            0
+        }
+        Err(refusal) => refusal,
+    }
+}
+
+impl Plain {
+    /// The page as most would write it, by `write!`; that of [`Side`] has its digits by hand.
+    #[inline(never)]
+    pub fn page_by_write(n: usize, view: &[u8], out: &mut [u8], length: &mut usize) -> u8 {
+        put(page_by_write(n, view, out), length)
+    }
+}
+
 // Called and not inlined, as a static library's functions are.
 impl Side for Plain {
     #[inline(never)]
@@ -225,24 +250,17 @@ impl Side for Plain {
             7 => Message::Good { tag },
             _ => return if (1..=16).contains(&n) { 7 } else { 1 },
         };
-        match write(n, &m, view, out) {
-            Ok(size) => {
-                *length = size;
-                0
-            }
-            Err(refusal) => refusal,
-        }
+        put(write(n, &m, view, out), length)
     }
 
     #[inline(never)]
     fn figures(n: usize, view: &[u8], sums: &mut [u32; 4]) -> u8 {
-        match figures(n, view) {
-            Ok(s) => {
-                *sums = s;
-                0
-            }
-            Err(refusal) => refusal,
-        }
+        put(figures(n, view), sums)
+    }
+
+    #[inline(never)]
+    fn page(n: usize, view: &[u8], out: &mut [u8], length: &mut usize) -> u8 {
+        put(page(n, view, out), length)
     }
 
     #[inline(never)]

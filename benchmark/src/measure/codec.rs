@@ -1,12 +1,10 @@
-//! Messages read and written, by kind, and figures.
-use super::Times;
+//! Messages read and written, by kind.
+use super::views::some_view;
+use super::{Times, ROUNDS};
 use crate::clock::seconds;
 use crate::dice::Dice;
 use crate::side::{Numbers, Plain, Proved, Report, Side, NO_REPORT};
 use std::hint::black_box;
-
-/// How often the same inputs are gone through in one run.
-const ROUNDS: usize = 300;
 
 /// The nodes that messages are for.
 const NODES: usize = 16;
@@ -16,11 +14,6 @@ struct Case {
     report: Report,
     view: Vec<u8>,
     bytes: Vec<u8>,
-}
-
-/// A view whose tags are at most `top`.
-fn some_view(dice: &mut Dice, n: usize, top: u64) -> Vec<u8> {
-    (0..n).flat_map(|_| [dice.number() % top + 1, dice.number()]).flat_map(u64::to_be_bytes).collect()
 }
 
 fn some_message(dice: &mut Dice, kind: u64) -> Case {
@@ -91,42 +84,6 @@ fn write_all<S: Side>(cases: &[Case]) -> f64 {
                 let Case { numbers, report, view, .. } = black_box(case);
                 black_box(S::write(NODES, numbers, report, view, &mut out, &mut size));
                 black_box((&out, size));
-            }
-        }
-    })
-}
-
-/// Prints figures per second, of views in which every node has reported and of such with a quarter of the reports
-/// absent, and answers the largest ratio.
-pub fn figures() -> f64 {
-    println!("figures, views per second");
-    println!("{:>6} {:>12} {:>12} {:>12} {:>8}", "nodes", "reports", "proved", "plain", "ratio");
-    let mut dice = Dice::new(4);
-    let mut largest: f64 = 0.0;
-    for n in [1, 3, 5, 16] {
-        for (absent, name) in [(0, "all"), (250, "some absent")] {
-            let mut views: Vec<Vec<u8>> = (0..64).map(|_| some_view(&mut dice, n, u64::MAX / 2)).collect();
-            for entry in views.iter_mut().flat_map(|v| v.chunks_exact_mut(16)) {
-                if dice.chance(absent) {
-                    entry.fill(0);
-                }
-            }
-            let t = Times::of(|| sum_all::<Proved>(n, &views), || sum_all::<Plain>(n, &views));
-            let count = (ROUNDS * views.len()) as f64;
-            println!("{n:>6} {name:>12} {:>12.0} {:>12.0} {:>8.2}", count / t.proved, count / t.plain, t.ratio());
-            largest = largest.max(t.ratio());
-        }
-    }
-    largest
-}
-
-fn sum_all<S: Side>(n: usize, views: &[Vec<u8>]) -> f64 {
-    let mut sums = [0; 4];
-    seconds(|| {
-        for _ in 0..ROUNDS {
-            for view in views {
-                black_box(S::figures(n, black_box(view), &mut sums));
-                black_box(&sums);
             }
         }
     })

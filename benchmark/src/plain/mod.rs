@@ -4,10 +4,11 @@ pub mod cluster;
 pub mod figures;
 pub mod message;
 pub mod node;
+pub mod page;
 pub mod record;
 pub mod step;
 
-/// A refusal, by its number in document 01.
+/// A refusal, by its number in documents 01 and 02.
 pub type Refusal = u8;
 
 /// How many of n nodes may stop.

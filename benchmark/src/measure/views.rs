@@ -1,0 +1,115 @@
+//! What is made of views: figures and pages.
+use super::{best, Times, ROUNDS};
+use crate::clock::seconds;
+use crate::dice::Dice;
+use crate::side::{Plain, Proved, Side};
+use std::hint::black_box;
+
+/// A view whose tags are at most `top`.
+pub fn some_view(dice: &mut Dice, n: usize, top: u64) -> Vec<u8> {
+    (0..n).flat_map(|_| [dice.number() % top + 1, dice.number()]).flat_map(u64::to_be_bytes).collect()
+}
+
+/// Views of n nodes in which so many of a thousand reports are absent.
+fn some_views(dice: &mut Dice, n: usize, absent: usize) -> Vec<Vec<u8>> {
+    let mut views: Vec<Vec<u8>> = (0..64).map(|_| some_view(dice, n, u64::MAX / 2)).collect();
+    for entry in views.iter_mut().flat_map(|v| v.chunks_exact_mut(16)) {
+        if dice.chance(absent) {
+            entry.fill(0);
+        }
+    }
+    views
+}
+
+/// Prints figures per second, of views in which every node has reported and of such with a quarter of the reports
+/// absent, and answers the largest ratio.
+pub fn figures() -> f64 {
+    println!("figures, views per second");
+    println!("{:>6} {:>12} {:>12} {:>12} {:>8}", "nodes", "reports", "proved", "plain", "ratio");
+    let mut dice = Dice::new(4);
+    let mut largest: f64 = 0.0;
+    for n in [1, 3, 5, 16] {
+        for (absent, name) in [(0, "all"), (250, "some absent")] {
+            let views = some_views(&mut dice, n, absent);
+            let t = Times::of(|| sum_all::<Proved>(n, &views), || sum_all::<Plain>(n, &views));
+            let count = (ROUNDS * views.len()) as f64;
+            println!("{n:>6} {name:>12} {:>12.0} {:>12.0} {:>8.2}", count / t.proved, count / t.plain, t.ratio());
+            largest = largest.max(t.ratio());
+        }
+    }
+    largest
+}
+
+fn sum_all<S: Side>(n: usize, views: &[Vec<u8>]) -> f64 {
+    let mut sums = [0; 4];
+    seconds(|| {
+        for _ in 0..ROUNDS {
+            for view in views {
+                black_box(S::figures(n, black_box(view), &mut sums));
+                black_box(&sums);
+            }
+        }
+    })
+}
+
+fn change_counts(views: &mut [Vec<u8>], mut change: impl FnMut(u16) -> u16) {
+    let reports = views.iter_mut().flat_map(|v| v.chunks_exact_mut(16)).map(|entry| &mut entry[8..]);
+    for place in reports.flat_map(|report| report.chunks_exact_mut(2)) {
+        let count = change(u16::from_be_bytes([place[0], place[1]]));
+        place.copy_from_slice(&count.to_be_bytes());
+    }
+}
+
+/// The views that pages are timed on: with all reports and with a quarter of them absent, their counts of one to five
+/// digits; and with the greatest count everywhere.
+fn printed_views(dice: &mut Dice, n: usize) -> [(&'static str, Vec<Vec<u8>>); 3] {
+    let [mut all, mut some, mut greatest] = [0, 250, 0].map(|absent| some_views(dice, n, absent));
+    change_counts(&mut all, |count| count >> dice.below(16));
+    change_counts(&mut some, |count| count >> dice.below(16));
+    change_counts(&mut greatest, |_| u16::MAX);
+    [("all", all), ("some absent", some), ("65535", greatest)]
+}
+
+/// Prints pages per second, beside plain Rust with its digits by hand and by `write!`, and answers the largest ratios
+/// to both.
+pub fn pages() -> (f64, f64) {
+    println!("pages, views per second");
+    println!(
+        "{:>6} {:>12} {:>12} {:>12} {:>8} {:>12} {:>8}",
+        "nodes", "reports", "proved", "plain", "ratio", "by write!", "ratio"
+    );
+    let mut dice = Dice::new(5);
+    let (mut to_plain, mut to_write): (f64, f64) = (0.0, 0.0);
+    for n in [1, 3, 5, 16] {
+        for (name, views) in printed_views(&mut dice, n) {
+            let [proved, plain, write] = best([
+                &mut || print_all(Proved::page, n, &views),
+                &mut || print_all(Plain::page, n, &views),
+                &mut || print_all(Plain::page_by_write, n, &views),
+            ]);
+            let count = (ROUNDS * views.len()) as f64;
+            println!(
+                "{n:>6} {name:>12} {:>12.0} {:>12.0} {:>8.2} {:>12.0} {:>8.2}",
+                count / proved,
+                count / plain,
+                proved / plain,
+                count / write,
+                proved / write
+            );
+            (to_plain, to_write) = (to_plain.max(proved / plain), to_write.max(proved / write));
+        }
+    }
+    (to_plain, to_write)
+}
+
+fn print_all(page: impl Fn(usize, &[u8], &mut [u8], &mut usize) -> u8, n: usize, views: &[Vec<u8>]) -> f64 {
+    let (mut out, mut length) = (vec![0; 35 * (n + 1)], 0);
+    seconds(|| {
+        for _ in 0..ROUNDS {
+            for view in views {
+                black_box(page(n, black_box(view), &mut out, &mut length));
+                black_box((&out, length));
+            }
+        }
+    })
+}
