@@ -1,6 +1,6 @@
 //! The oracle: Algorithm 1 with document 01's amendments over sets that never forget, run from session text; and
-//! beside it a node's bounded record and its messages in bytes. It shares no code with the proved crates, so that
-//! agreement with them says something.
+//! beside it a node's bounded record, its messages in bytes and the desk's page. It shares no code with the proved
+//! crates, so that agreement with them says something.
 
 pub mod cluster;
 pub mod dice;
@@ -11,6 +11,7 @@ pub mod network;
 pub mod node;
 mod oddities;
 pub mod order;
+pub mod page;
 pub mod picture;
 pub mod random;
 pub mod record;

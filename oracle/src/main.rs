@@ -1,7 +1,7 @@
 //! The oracle as a program.
 
 use oracle::session::Played;
-use oracle::{feed, order, picture, random, session, stats, text};
+use oracle::{feed, order, page, picture, random, session, stats, text};
 use std::env;
 use std::io::{self, BufWriter, Read, Write};
 use std::process::{Command, ExitCode};
@@ -11,6 +11,7 @@ const USAGE: &str = "usage:
   oracle check                    < session   plays a session and tries demand 3 on it
   oracle stats                    < session   counts what happens in a session
   oracle picture                  < session   prints a picture of a session, as SVG
+  oracle page                     < session   plays a session and prints the page of its last scan that ended
   oracle random SEED EVENTS [N]               prints a random session
   oracle feed SIZE.. -- PROGRAM   < session   runs a program whose reads get pieces of these sizes, in turn";
 
@@ -22,6 +23,7 @@ fn main() -> ExitCode {
         ["check"] => check(),
         ["stats"] => stats(),
         ["picture"] => picture(),
+        ["page"] => page(),
         ["random", seed, events] => random_session(seed, events, None),
         ["random", seed, events, n] => random_session(seed, events, Some(n)),
         ["feed", ref sizes @ .., "--", program] => feed_program(sizes, program),
@@ -69,6 +71,11 @@ fn picture() -> io::Result<()> {
     let (n, all) = whole()?;
     let svg = picture::svg(n, &all).map_err(io::Error::other)?;
     io::stdout().lock().write_all(svg.as_bytes())
+}
+
+fn page() -> io::Result<()> {
+    let view = session::last_scan(io::stdin().lock())?.ok_or_else(|| io::Error::other("no scan ended: no page"))?;
+    io::stdout().lock().write_all(page::page(&view).as_bytes())
 }
 
 fn stats() -> io::Result<()> {

@@ -1,6 +1,8 @@
 //! Plays a session: each line is an event of one cluster, and whoever watches sees each outcome.
 
-use crate::cluster::{Cluster, Event, Outcome, BAD_LINE};
+use crate::cluster::{Accepted, Cluster, Event, Outcome, BAD_LINE};
+use crate::message::View;
+use crate::node::Ending;
 use crate::text::{parse_event, parse_first, Lines};
 use std::io::{self, Read};
 
@@ -28,4 +30,16 @@ pub fn play<R: Read>(input: R, mut watch: impl FnMut(Played, Option<&Cluster>) -
         watch(Played { number, event, outcome }, Some(&cluster))?;
     }
     Ok(())
+}
+
+/// Plays the input to its end and gives the view of the last scan that ended, if one did.
+pub fn last_scan<R: Read>(input: R) -> io::Result<Option<View>> {
+    let mut last = None;
+    play(input, |played, _| {
+        if let Ok(Accepted { ending: Some(Ending::Scan(_, view)), .. }) = played.outcome {
+            last = Some(view);
+        }
+        Ok(())
+    })?;
+    Ok(last)
 }

@@ -1,6 +1,7 @@
 //! What the oracle is trusted for, told as small stories.
 
 mod frame;
+mod page;
 mod record;
 
 use crate::cluster::{Event, Extent, Refusal};

@@ -11,7 +11,7 @@ const REPORT: u8 = 5;
 const VIEW: u8 = 6;
 
 /// The bytes of one node in a view: a tag and a report.
-const ENTRY: usize = 16;
+pub const ENTRY: usize = 16;
 
 /// The one message that all the bytes are, among n nodes.
 pub fn read(n: usize, bytes: &[u8]) -> Option<Message> {
@@ -86,7 +86,7 @@ fn number(contents: &[u8]) -> Option<u64> {
 }
 
 /// A view of n entries without a tag above the given one, and without report bytes beside tag 0.
-fn view(n: usize, tag: Tag, contents: &[u8]) -> Option<View> {
+pub fn view(n: usize, tag: Tag, contents: &[u8]) -> Option<View> {
     let entry = |bytes: &[u8]| {
         let (shown, report) = (number(&bytes[..ENTRY / 2])?, number(&bytes[ENTRY / 2..])?);
         match shown {
