@@ -1,10 +1,12 @@
-//! One call with all that is lent to it, made on both sides: by the proved code, and by the oracle's record.
+//! One call with all that is lent to it, made on both sides: by the proved code, and by the oracle.
 
 use crate::chance::noise;
+use crate::pages::Page;
 use crate::stored;
 use oracle::cluster::Refusal;
 use oracle::dice::Dice;
 use oracle::node::{Ending, Operation, Rule, Step, To};
+use oracle::page;
 use oracle::record::{
     Fault, Record, BAD_LENGTH, BAD_NUMBER, LEAST_FRAME_OUTPUT, LEAST_OUTPUT, NODES, NOT_OF_THE_LAYOUT, UNUSABLE,
 };
@@ -235,4 +237,25 @@ pub fn compare_next(dice: &mut Dice, n: usize, bytes: &[u8]) -> Result<u8, Strin
     } else {
         Err(format!("next {n} {bytes:02x?}: {:?}, expected {expected:?}", (code, length, route)))
     }
+}
+
+/// The page of any bytes, over anything in its buffer. Gives the code.
+pub fn compare_page(dice: &mut Dice, lent: &Page) -> Result<u8, String> {
+    let (mut out, mut length) = (noise(dice, lent.size), dice.number() as usize);
+    let (mut due_out, mut due_length) = (out.clone(), length);
+    let due = match page::write(lent.n, &lent.view, &mut due_out) {
+        Err(Refusal(number)) => number,
+        Ok(written) => {
+            due_length = written;
+            0
+        }
+    };
+    let code = lent::page(lent.n, &lent.view, &mut out, &mut length);
+    if (code, length, &out) == (due, due_length, &due_out) {
+        return Ok(code);
+    }
+    let Page { n, view, size } = lent;
+    let place = (0..*size).find(|&place| out[place] != due_out[place]);
+    let [got, due] = [(code, length), (due, due_length)].map(|(code, length)| format!("code {code}, length {length}"));
+    Err(format!("page {n} {view:02x?} in {size} bytes: {got}, expected {due}; first byte that differs: {place:?}"))
 }

@@ -1,7 +1,7 @@
-//! A million cases thrown at the calls for C of one node, records, messages and frames that are drawn, damaged or made
-//! up, and beside them the steps of the runs that they are drawn from. What the proved code makes of each is compared,
-//! byte for byte, with what the oracle's record does. A run is one of a network on the proved calls, some of its
-//! messages in frames, beside the oracle's nodes over sets; its order is one case more.
+//! A million cases thrown at the calls for C of one node and of the desk's page, records, messages, frames and views
+//! that are drawn, damaged or made up, and beside them the steps of the runs that they are drawn from. What the proved
+//! code makes of each is compared, byte for byte, with what the oracle does. A run is one of a network on the proved
+//! calls, some of its messages in frames, beside the oracle's nodes over sets; its order is one case more.
 //!
 //! `trial [THROWN [SEED]]`
 
@@ -10,6 +10,7 @@ mod chance;
 mod frames;
 mod limits;
 mod messages;
+mod pages;
 mod records;
 mod run;
 mod stored;
@@ -25,8 +26,8 @@ use throw::Trial;
 const THROWN: usize = 1_000_000;
 
 const USAGE: &str = "usage: trial [THROWN [SEED]]
-  THROWN, a million if not given: records, messages and frames that are drawn from runs, damaged or made up; whole
-  runs are made until there are so many";
+  THROWN, a million if not given: records, messages, frames and views that are drawn from runs, damaged or made up;
+  whole runs are made until there are so many";
 
 fn main() -> ExitCode {
     let numbers: Option<Vec<u64>> = env::args().skip(1).map(|word| word.parse().ok()).collect();

@@ -1,5 +1,6 @@
 //! What has occurred, counted; and what must have.
 mod frame;
+mod page;
 
 use crate::case::{Agreed, Call, Case};
 use crate::limits::{limited, wait_name, waits, LIMITED};
@@ -123,6 +124,8 @@ fn needed() -> Vec<String> {
         codes("begin", &[0, 12, 2, 5, 6]),
         codes("fresh", &[0, 1, 12]),
         codes("next", &[0, 1, 7]),
+        codes("page", &[0, 12, 1, 7, 15]),
+        page::needed(),
         codes(RUN, &ENDINGS),
         codes(RUN_FRAME, &[0, 13, 101, 102, 111, 112]),
         faults.map(alone).to_vec(),

@@ -1,11 +1,11 @@
-//! Throws cases: each starts from a record and a message of a run, or from made ones, and most are damaged.
+//! Throws cases: each starts from a record of a run and a message or a view, or from made ones; most are damaged.
 
-use crate::case::{compare_fresh, compare_next, Agreed, Call, Case};
+use crate::case::{compare_fresh, compare_next, compare_page, Agreed, Call, Case};
 use crate::chance::report;
 use crate::records::{crowded, nodes, set_wait, wild};
 use crate::stored::{self, Words, CODE, IDLE, SIZE};
 use crate::tally::Tally;
-use crate::{frames, messages, records};
+use crate::{frames, messages, pages, records};
 use oracle::dice::Dice;
 use oracle::message::Message;
 use oracle::node::Operation;
@@ -78,6 +78,7 @@ impl Trial {
                 self.fresh(n, own, size);
             }
             2..=14 => self.throw_next(record, waiting),
+            15..=18 => self.throw_page(record),
             _ => self.throw_call(record, waiting),
         }
     }
@@ -95,6 +96,15 @@ impl Trial {
         let found = compare_next(&mut self.dice, n, &bytes);
         if let Some(code) = self.keep(found) {
             self.tally.count(format!("next: {code}"));
+        }
+    }
+
+    fn throw_page(&mut self, record: &[u8]) {
+        let words = self.base(record);
+        let page = pages::page(&mut self.dice, &words);
+        let shown = compare_page(&mut self.dice, &page);
+        if let Some(code) = self.keep(shown) {
+            self.tally.see_page(&page, code);
         }
     }
 
