@@ -1,10 +1,9 @@
 -- Figures taken report by report.
 use Prim.Native.Nat.{ℕ, _+_, _<_, _^_}
-use mathlib.Core.Path.{_≡_, refl}
+use mathlib.Core.Path.{_≡_}
 use mathlib.Core.List.{List}
 use native.Mathlib.Omega.{arith}
-use Rattle.octets.specs.Loop.{sumTo}
-use Rattle.octets.proofs.Loop.{sumTo-more}
+use Rattle.octets.proofs.Loop.{sumTo-none, sumTo-more}
 use Rattle.view.specs.Report.{Counts}
 use Rattle.view.specs.declared.Report.{Report}
 use Rattle.figures.specs.declared.Totals.{Totals}
@@ -13,8 +12,8 @@ use Rattle.figures.specs.Room.{Roomy}
 use Rattle.figures.proofs.Bounds.{AtMost}
 
 pub totals-none : (v : List ℕ) → totals 0 v ≡ noTotals
-unfolding totals sumTo
-totals-none v = refl
+unfolding totals
+totals-none v = simp sumTo-none
 
 pub totals-more : (k : ℕ) (v : List ℕ) → totals (k + 1) v ≡ withReport (totals k v) (countedReport v k)
 unfolding totals

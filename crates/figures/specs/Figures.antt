@@ -14,7 +14,7 @@ use Rattle.figures.specs.declared.Totals.{Totals}
 use Rattle.figures.specs.declared.Summed.{Summed}
 use Rattle.figures.specs.declared.Summed.the-variants.{Sums, Refused}
 
--- the report that entry i shows: none beside tag 0
+-- the report that entry i counts with: no report, four zeros, beside tag 0
 abbrev pub countedReport : List ℕ → ℕ → Report
 countedReport v i = pick (eqb (tagAt v i) 0) noReport (reportAt v i)
 

@@ -1,5 +1,5 @@
 -- The claims of specs/Claims hold.
-use Prim.Native.Nat.{ℕ, _+_, _*_, _<_}
+use Prim.Native.Nat.{ℕ, zero, suc, _+_, _*_, _<_, _≤_}
 use mathlib.Core.Path.{_≡_, refl, sym, ap, _∙_}
 use mathlib.Core.Bool.{Bool, true, false}
 use mathlib.Core.List.{List, [], _++_}
@@ -12,22 +12,23 @@ use Rattle.octets.specs.Bytes.{Bytes, part, put}
 use Rattle.octets.specs.Test.{pick}
 use Rattle.octets.specs.Loop.{allTo, sumTo, tab, join}
 use Rattle.octets.proofs.Table.{length-tab, getD-tab}
-use Rattle.view.specs.Size.{nodes}
+use Rattle.view.specs.Size.{nodes, limit}
 use Rattle.view.specs.Report.{reportOf}
 use Rattle.view.specs.View.{viewOk}
 use Rattle.view.specs.declared.Report.{Report}
-use Rattle.digits.specs.Decimal.{fewest}
-use Rattle.figures.specs.Figures.{figuresOf, totals}
+use Rattle.digits.specs.Decimal.{fewest, decimal}
+use Rattle.figures.specs.Figures.{figureMost, figuresOf, totals}
 use Rattle.figures.specs.declared.Totals.{Totals}
-use Rattle.figures.proofs.Accepted.{accepted, accepted-back, accepted-fit}
+use Rattle.figures.proofs.Accepted.{Accepted, accepted, accepted-back, accepted-fit}
+use Rattle.figures.proofs.Bounds.{Fit}
 use Rattle.page.specs.Page.{countWidth, lineSize, shownAt, nodeLines, figuresLine, Contents, contents, contentsOf}
 use Rattle.page.specs.Page.{pageSize, right, pageLine, pageText, pageOf, pageIn, inRoom, pageLeft}
-use Rattle.page.specs.Example.{Example}
+use Rattle.page.specs.Example.{Example, full, Reached}
 use Rattle.page.specs.Read.{viewFor, read}
 use Rattle.page.specs.Claims as claim
-use Rattle.page.proofs.Lines.{Fitting, fitting, digits-most}
+use Rattle.page.proofs.Lines.{digits-most}
 use Rattle.page.proofs.Pages.{contents-are, page-is, page-length, in-room, too-long, in-refused}
-use Rattle.page.proofs.ReadBack.{printing, node-line, last-line, read-is, reading}
+use Rattle.page.proofs.ReadBack.{printing, node-line, last-line, read-is, all-bytes, reading}
 use Rattle.page.proofs.Showing.{same-page}
 
 pub page-sized : claim.PageSized
@@ -50,19 +51,22 @@ lined n v p t b f e =
       ap (λ (s : List ℕ). part s (lineSize * n) lineSize) q ∙ last-line n v t h b,
     )
 
-fit : (n : ℕ) (v : List ℕ) (t : Totals) → Bytes v → figuresOf n v ≡ result t → Fitting t
-fit n v t b f = fitting t (accepted-fit n v t (accepted n v t f) b)
+-- a figure that is at most the greatest
+fit : (x : ℕ) → x ≤ figureMost → (x ≤ figureMost) × (length (decimal x) ≤ countWidth)
+fit x l = (l, digits-most countWidth x (omega arith) (omega arith))
+
+fit-all : (n : ℕ) (v : List ℕ) (t : Totals) → Bytes v → figuresOf n v ≡ result t → Fit t
+fit-all n v t b f = accepted-fit n v t (accepted n v t f) b
 
 pub fits : claim.Fits
-unfolding fewest figuresOf totals join viewOk allTo part reportOf sumTo
+unfolding fewest
 fits =
     record {
-      extensions = λ n v t b f. digits-most countWidth (t .extensions) (fit n v t b f .extensions) (omega arith);
-      lines = λ n v t b f. digits-most countWidth (t .lines) (fit n v t b f .lines) (omega arith);
-      waiting = λ n v t b f. digits-most countWidth (t .waiting) (fit n v t b f .waiting) (omega arith);
-      wakeups = λ n v t b f. digits-most countWidth (t .wakeups) (fit n v t b f .wakeups) (omega arith);
+      extensions = λ n v t b f. fit (t .extensions) (fit-all n v t b f .extensions);
+      lines = λ n v t b f. fit (t .lines) (fit-all n v t b f .lines);
+      waiting = λ n v t b f. fit (t .waiting) (fit-all n v t b f .waiting);
+      wakeups = λ n v t b f. fit (t .wakeups) (fit-all n v t b f .wakeups);
       greatest = (refl, refl);
-      reached = (totals nodes claim.full, refl, refl);
     }
 
 pub read-back : claim.ReadBack
@@ -109,14 +113,34 @@ refuses =
     record {
       figures-first = λ n v room k e. in-refused n v k e room;
       short-last = λ n v room t b f l. too-long n v t (accepted n v t f) room b (omega arith);
-      roomy = λ n v room t b f l.
+      long-enough = λ n v room t b f l.
           let h = accepted n v t f in
           (nodeLines n v ++ figuresLine t, in-room n v t h room b (omega arith), page-is n v t h);
     }
 
+-- a view of one report, whatever its tag
+tagged-accepted : (t : ℕ) → viewOk 1 limit (claim.tagged t) ≡ true
+    → Accepted 1 (claim.tagged t) (totals 1 (claim.tagged t))
+tagged-accepted t ok = record { sized = refl; long = refl; ok = ok; are = refl }
+
+tag-ok : (viewOk 1 limit (claim.tagged 1) ≡ true) × (viewOk 1 limit (claim.tagged 2) ≡ true)
+unfolding viewOk allTo part
+tag-ok = (refl, refl)
+
+same-shown : (i : ℕ) → i < 1 → shownAt (claim.tagged 1) i ≡ shownAt (claim.tagged 2) i
+unfolding part reportOf
+same-shown zero l = refl
+same-shown (suc i) l = absurd (omega arith)
+
 pub tags-untold : claim.TagsUntold
-unfolding pageOf contentsOf figuresOf totals pageText join pageLine right fewest tab viewOk allTo part reportOf sumTo
-tags-untold = (refl, (_, refl), λ e. let z : _≡_ {A = ℕ} 1 2 = ap (λ (l : List ℕ). getD l 7 0) e in omega arith)
+tags-untold =
+    let v = claim.tagged 1 in
+    let w = claim.tagged 2 in
+    let h = tagged-accepted 1 (tag-ok .0) in (
+      sym (same-page 1 v w (totals 1 v) h refl (tag-ok .1) same-shown),
+      (nodeLines 1 v ++ figuresLine (totals 1 v), page-is 1 v (totals 1 v) h),
+      λ e. let z : _≡_ {A = ℕ} 1 2 = ap (λ (l : List ℕ). getD l 7 0) e in omega arith,
+    )
 
 -- what there is room for is the page
 in-page : (room : ℕ) (a : Answer (List ℕ)) (p : List ℕ) → inRoom room a ≡ result p → a ≡ result p
@@ -139,6 +163,12 @@ leaves =
       kept = λ n v out k e. ap (λ (a : Answer (List ℕ)). pageLeft a out) e;
     }
 
+-- ---- computed
+
 pub example : Example
 unfolding pageOf contentsOf figuresOf totals pageText join pageLine right fewest tab viewOk allTo part reportOf sumTo
 example = refl
+
+pub reached : Reached
+unfolding figuresOf totals join viewOk allTo part reportOf sumTo
+reached = (all-bytes full refl, (totals nodes full, refl, refl))

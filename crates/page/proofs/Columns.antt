@@ -11,8 +11,7 @@ use borrow.Author.Tests.{eq-eqb, ne-eqb}
 use Rattle.octets.specs.Test.{pick}
 use Rattle.digits.specs.Decimal.{fewest, decimal}
 use Rattle.digits.proofs.DecimalBack.{above, above-more}
-use Rattle.page.specs.Page.{space, right}
-use Rattle.page.specs.Column.{columnOf}
+use Rattle.page.specs.Page.{space, right, columnOf}
 
 -- k columns, of which the last is that of y
 abbrev pub cols : ℕ → ℕ → List ℕ

@@ -6,11 +6,10 @@ use mathlib.Core.List.{List, [], _∷_, _++_}
 use mathlib.Core.Option.{none, some}
 use native.Mathlib.Omega.{arith}
 use lib.ListN.{length, getD}
-use lib.Dec.{eqb}
-use borrow.Author.Tests.{ne-eqb}
-use Rattle.octets.specs.Bytes.{part}
+use Rattle.octets.specs.Bytes.{part, same}
 use Rattle.octets.specs.Loop.{tab}
 use Rattle.octets.proofs.Table.{tab-of}
+use Rattle.octets.proofs.Test.{not-true-false, same-true, same-refl}
 use Rattle.view.specs.Report.{Counts}
 use Rattle.view.specs.declared.Report.{Report}
 use Rattle.digits.specs.Decimal.{value, decimal}
@@ -27,7 +26,7 @@ use Rattle.page.proofs.Lines.{Fitting, right-length, digits-most}
 spelled : (k : ℕ) (s : List ℕ) → length s ≡ k → s ≡ tab k (λ i. getD s i 0)
 spelled k s e = sym (tab-of s 0) ∙ ap (λ (j : ℕ). tab j (λ i. getD s i 0)) e
 
-pub record Columns (l a b c d : List ℕ) : Type 0 where
+pub record InColumns (l a b c d : List ℕ) : Type 0 where
   pub first : columns l 0 ≡ a
   pub second : columns l 1 ≡ b
   pub third : columns l 2 ≡ c
@@ -35,7 +34,7 @@ pub record Columns (l a b c d : List ℕ) : Type 0 where
 
 placed : (l a b c d : List ℕ) → length l ≡ labelWidth → length a ≡ countWidth → length b ≡ countWidth
     → length c ≡ countWidth → length d ≡ countWidth
-    → Columns (l ++ (space ∷ a) ++ (space ∷ b) ++ (space ∷ c) ++ (space ∷ d) ++ feed) a b c d
+    → InColumns (l ++ (space ∷ a) ++ (space ∷ b) ++ (space ∷ c) ++ (space ∷ d) ++ feed) a b c d
 unfolding tab part
 placed l a b c d e f g h i =
     rw (spelled 2 l e, spelled 7 a f, spelled 7 b g, spelled 7 c h, spelled 7 d i)
@@ -43,7 +42,7 @@ placed l a b c d e f g h i =
 
 line-columns : (l a b c d : List ℕ) → length l ≤ labelWidth → length a ≤ countWidth → length b ≤ countWidth
     → length c ≤ countWidth → length d ≤ countWidth
-    → Columns (pageLine l a b c d) (right countWidth a) (right countWidth b) (right countWidth c) (right countWidth d)
+    → InColumns (pageLine l a b c d) (right countWidth a) (right countWidth b) (right countWidth c) (right countWidth d)
 unfolding pageLine
 line-columns l a b c d e f g h i =
     placed (right labelWidth l) (right countWidth a) (right countWidth b) (right countWidth c) (right countWidth d)
@@ -57,16 +56,19 @@ said : (x : ℕ) → x < 10 ^ countWidth → value (right countWidth (decimal x)
 unfolding right
 said x h = value-spaces (countWidth - length (decimal x)) (decimal x) ∙ value-decimal x (omega arith)
 
--- its last column is a digit
-digit-last : (x : ℕ) → x < 10 ^ countWidth → eqb (getD (right countWidth (decimal x)) 6 0) 45 ≡ false
-digit-last x h =
-    ap (λ (s : List ℕ). eqb (getD s 6 0) 45) (right-decimal 6 x h (omega arith))
-    ∙ ne-eqb (48 + x % 10) 45 (λ e. omega arith)
+-- its last column is a digit, so it is no dash
+no-dash : (x : ℕ) → x < 10 ^ countWidth → same (right countWidth (decimal x)) (right countWidth dash) ≡ false
+unfolding right
+no-dash x h =
+    not-true-false (same (right countWidth (decimal x)) (right countWidth dash))
+    (λ e. let q : 48 + x % 10 ≡ 45 = ap (λ (s : List ℕ). getD s 6 0)
+    (sym (right-decimal 6 x h (omega arith)) ∙ same-true (right countWidth (decimal x)) (right countWidth dash) e) in
+    omega arith)
 
 -- four counts in a line
 module _ (l : List ℕ) (a b c d : ℕ) (e : length l ≤ labelWidth) (f : a < 10 ^ countWidth) (g : b < 10 ^ countWidth)
     (h : c < 10 ^ countWidth) (i : d < 10 ^ countWidth) where
-  in-columns : Columns (countsLine l a b c d) (right countWidth (decimal a)) (right countWidth (decimal b))
+  in-columns : InColumns (countsLine l a b c d) (right countWidth (decimal a)) (right countWidth (decimal b))
       (right countWidth (decimal c)) (right countWidth (decimal d))
   in-columns =
       line-columns l (decimal a) (decimal b) (decimal c) (decimal d) e (digits-most countWidth a f (omega arith))
@@ -90,7 +92,7 @@ module _ (l : List ℕ) (a b c d : ℕ) (e : length l ≤ labelWidth) (f : a < 1
   unfolding shownIn
   counts-shown =
       rw (
-        ap (λ (s : List ℕ). eqb (getD s 6 0) 45) (in-columns .first) ∙ digit-last a f,
+        ap (λ (s : List ℕ). same s (right countWidth dash)) (in-columns .first) ∙ no-dash a f,
         first-said,
         second-said,
         third-said,
@@ -100,11 +102,11 @@ module _ (l : List ℕ) (a b c d : ℕ) (e : length l ≤ labelWidth) (f : a < 1
 -- ---- lines
 
 pub none-back : (k : ℕ) → k < 10 ^ labelWidth → shownIn (nodeLine k none) ≡ none
-unfolding shownIn right
+unfolding shownIn
 none-back k h =
     let c = line-columns (decimal k) dash dash dash dash (digits-most labelWidth k h (omega arith)) (omega arith)
     (omega arith) (omega arith) (omega arith) in
-    rw (ap (λ (s : List ℕ). eqb (getD s 6 0) 45) (c .first)) refl
+    rw (ap (λ (s : List ℕ). same s (right countWidth dash)) (c .first) ∙ same-refl (right countWidth dash)) refl
 
 pub some-back : (k : ℕ) (p : Report) → k < 10 ^ labelWidth → Counts p → shownIn (nodeLine k (some p)) ≡ some p
 some-back k p h c =

@@ -19,8 +19,8 @@ use Rattle.digits.specs.Decimal.{decimal}
 use Rattle.digits.proofs.DecimalBack.{fewest-most}
 use Rattle.figures.specs.declared.Totals.{Totals}
 use Rattle.figures.proofs.Bounds.{Fit}
-use Rattle.page.specs.Page.{labelWidth, countWidth, cellSize, lineSize, space, right, cellText, feed, dash, equals, pageLine}
-use Rattle.page.specs.Page.{countsLine, nodeLine, figuresLine, shownAt, nodeLines}
+use Rattle.page.specs.Page.{labelWidth, countWidth, cellSize, lineSize, space, right, cellText, feed, dash}
+use Rattle.page.specs.Page.{equals, pageLine, countsLine, nodeLine, figuresLine, shownAt, nodeLines}
 
 -- its parts, one after the other
 pub line-is : (l a b c d : List ℕ) {n p q r s : List ℕ} → n ≡ right labelWidth l → p ≡ cellText a → q ≡ cellText b → r

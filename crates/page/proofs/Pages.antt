@@ -60,7 +60,7 @@ module _ (n : ℕ) (v : List ℕ) (t : Totals) (h : Accepted n v t) where
       ∙ ap (λ (x : Bool). pick x (result p) (refused 15)) (lt-leb (length p) room (rw (page-length b) l))
 
 module _ (n : ℕ) (v : List ℕ) (k : ℕ) (e : figuresOf n v ≡ refused k) where
-  pub page-refused : pageOf n v ≡ refused k
+  page-refused : pageOf n v ≡ refused k
   unfolding pageOf contentsOf
   page-refused = ap (λ (a : Answer Totals). mapResult pageText (mapResult (contents n v) a)) e
 

@@ -26,7 +26,8 @@ use Rattle.figures.specs.declared.Totals.{Totals}
 use Rattle.figures.proofs.Accepted.{Accepted, accepted, accepted-size, accepted-fit}
 use Rattle.page.specs.Page.{lineSize, nodeLine, figuresLine, shownAt, nodeLines, Contents, mapResult, contents}
 use Rattle.page.specs.Page.{contentsOf, pageText, pageOf}
-use Rattle.page.specs.Read.{lineAt, shownIn, figuresIn, nodesOn, contentsIn, viewFor, allBytes, isResult, isPageOf, read}
+use Rattle.page.specs.Read.{lineAt, shownIn, figuresIn, nodesOn, contentsIn, viewFor, allBytes, answers}
+use Rattle.page.specs.Read.{isPageOf, read}
 use Rattle.page.proofs.LineBack.{none-back, some-back, figures-back}
 use Rattle.page.proofs.Lines.{counts-at, node-length, nodes-length, figures-length, fitting}
 use Rattle.page.proofs.Pages.{page-is, page-length}
@@ -107,20 +108,20 @@ module _ (n : ℕ) (v : List ℕ) (t : Totals) (h : Accepted n v t) (b : Bytes v
   length-reports : length reports ≡ n
   length-reports = length-tab n (shownAt v)
 
-  counted-by : (i : ℕ) → i < nodes → (x : Bool) → Counted (pick x none (some (reportAt v i)))
-  counted-by i m true = record {
+  counts-by : (i : ℕ) → i < nodes → (x : Bool) → Counted (pick x none (some (reportAt v i)))
+  counts-by i m true = record {
     extensions = omega arith;
     lines = omega arith;
     waiting = omega arith;
     wakeups = omega arith;
   }
-  counted-by i m false = counts-at v i b m
+  counts-by i m false = counts-at v i b m
 
   counted : (i : ℕ) → i < length reports → Counted (getD reports i none)
   counted i m =
       let k = accepted-size n v t h in
       let q : i < n = omega (arith, length-reports, m) in
-      rw (getD-tab n (shownAt v) i none q) (counted-by i (omega arith) (eqb (tagAt v i) 0))
+      rw (getD-tab n (shownAt v) i none q) (counts-by i (omega arith) (eqb (tagAt v i) 0))
 
   its-page : pageOf (length reports) (viewFor reports) ≡ result text
   its-page =
@@ -131,11 +132,11 @@ module _ (n : ℕ) (v : List ℕ) (t : Totals) (h : Accepted n v t) (b : Bytes v
       (λ i m. sym (getD-tab n (shownAt v) i none m) ∙ sym (shown-for reports i (omega (arith, length-reports, m))))
       ∙ page-is n v t h
 
-  is-page : isPageOf text (contents n v t) ≡ true
+  is-page : isPageOf text reports ≡ true
   unfolding isPageOf
   is-page =
       both-true (all-bytes-for reports counted)
-      (ap (λ (a : Answer (List ℕ)). isResult a text) its-page ∙ same-refl text)
+      (ap (λ (a : Answer (List ℕ)). answers a text) its-page ∙ same-refl text)
 
   pub read-is : read text ≡ result (contents n v t)
   unfolding read
@@ -143,37 +144,38 @@ module _ (n : ℕ) (v : List ℕ) (t : Totals) (h : Accepted n v t) (b : Bytes v
 
 -- ---- and what is read is a page
 
-is-result : (a : Answer (List ℕ)) (b : List ℕ) → isResult a b ≡ true → a ≡ result b
-is-result (result p) b e = ap result (same-true p b e)
-is-result (refused k) b e = let z : _≡_ {A = Bool} true false = sym e in cc
+answered : (a : Answer (List ℕ)) (b : List ℕ) → answers a b ≡ true → a ≡ result b
+answered (result p) b e = ap result (same-true p b e)
+answered (refused k) b e = let z : _≡_ {A = Bool} true false = sym e in cc
 
-all-bytes : (v : List ℕ) → allBytes v ≡ true → Bytes v
+pub all-bytes : (v : List ℕ) → allBytes v ≡ true → Bytes v
 all-bytes v e i = elim (decLe (length v) i) [
   | yes m ↦ rw (List·getD-eq-default v 0 m) (omega arith)
   | no m ↦ ltb-true (getD v i 0) 256
       (allTo-at (length v) (λ j. ltb (getD v j 0) 256) i e (lt-of-not-le m))
 ]
 
-pub record IsRead (b : List ℕ) (c : Contents) : Type 0 where
-  pub bytes : Bytes (viewFor (c .shown))
-  pub page : pageOf (length (c .shown)) (viewFor (c .shown)) ≡ result b
+pub record IsRead (b : List ℕ) (l : List (Option Report)) : Type 0 where
+  pub bytes : Bytes (viewFor l)
+  pub page : pageOf (length l) (viewFor l) ≡ result b
 
-pages-are : (b : List ℕ) (c : Contents) → isPageOf b c ≡ true → IsRead b c
+is-read : (b : List ℕ) (l : List (Option Report)) → isPageOf b l ≡ true → IsRead b l
 unfolding isPageOf
-pages-are b c e =
-    let v = viewFor (c .shown) in
-    let r = isResult (pageOf (length (c .shown)) v) b in
+is-read b l e =
+    let v = viewFor l in
+    let r = answers (pageOf (length l) v) b in
     record {
       bytes = all-bytes v (both-left (allBytes v) r e);
-      page = is-result (pageOf (length (c .shown)) v) b (both-right (allBytes v) r e);
+      page = answered (pageOf (length l) v) b (both-right (allBytes v) r e);
     }
 
-pub reading : (b : List ℕ) (c : Contents) → read b ≡ result c → IsRead b c
+pub reading : (b : List ℕ) (c : Contents) → read b ≡ result c → IsRead b (c .shown)
 unfolding read
-reading b c e = by (isPageOf b (contentsIn b)) refl e
+reading b c e = by (isPageOf b (contentsIn b .shown)) refl e
   where
-    by : (x : Bool) → isPageOf b (contentsIn b) ≡ x → pick x (result (contentsIn b)) (refused 7) ≡ result c → IsRead b c
+    by : (x : Bool) → isPageOf b (contentsIn b .shown) ≡ x → pick x (result (contentsIn b)) (refused 7) ≡ result c
+        → IsRead b (c .shown)
     by true is e =
         let q : contentsIn b ≡ c = cc in
-        subst (λ (d : Contents). IsRead b d) q (pages-are b (contentsIn b) is)
+        subst (λ (d : Contents). IsRead b (d .shown)) q (is-read b (contentsIn b .shown) is)
     by false is e = let z : _≡_ {A = ℕ} 0 1 = cc in absurd (omega arith)

@@ -41,7 +41,7 @@ counted-is v i = counted-by (eqb (tagAt v i) 0) (reportAt v i)
 
 module _ (n : ℕ) (v w : List ℕ) (t : Totals) (h : Accepted n v t) (long : length w ≡ viewSize n)
     (ok : viewOk n limit w ≡ true) (same : (i : ℕ) → i < n → shownAt v i ≡ shownAt w i) where
-  pub same-accepted : Accepted n w t
+  same-accepted : Accepted n w t
   same-accepted =
       record {
         sized = h .sized;
@@ -120,7 +120,7 @@ entry-bytes : (t : ℕ) (p : Report) → t ≤ 1 → Counts p → Bytes (entryBy
 entry-bytes t p l c = bytes-append (be tagSize t) (reportBytes p) (be-bytes tagSize t (omega arith)) (report-bytes p c)
 
 module _ (l : List (Option Report)) (counted : (i : ℕ) → i < length l → Counted (getD l i none)) where
-  pub bytes-for : Bytes (viewFor l)
+  bytes-for : Bytes (viewFor l)
   unfolding viewBytes
   bytes-for =
       join-bytes (length l) (λ i. entryBytes (getD (map tagFor l) i 0) (getD (map reportFor l) i noReport))

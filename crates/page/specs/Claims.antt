@@ -1,5 +1,5 @@
--- What is claimed of the page, each claim under a name; proofs/Claims proves them. A view's bytes are any bytes
--- (`Bytes`), as those of every lent slice are.
+-- What is claimed of the page, each claim under a name; proofs/Claims proves them. `Bytes v` says that each element of
+-- v is below 256, as in every lent slice.
 use Prim.Native.Nat.{ℕ, _+_, _*_, _<_, _≤_}
 use mathlib.Core.Path.{_≡_}
 use mathlib.Core.Bool.{true}
@@ -7,11 +7,10 @@ use mathlib.Core.List.{List, [], _∷_, _++_}
 use lib.ListN.{length, drop}
 use Rattle.octets.specs.Answer.{result, refused}
 use Rattle.octets.specs.Bytes.{Bytes, part}
-use Rattle.octets.specs.Loop.{join}
-use Rattle.view.specs.Size.{nodes, limit, viewSize}
-use Rattle.view.specs.View.{entryBytes, viewOk}
+use Rattle.view.specs.Size.{limit, viewSize}
+use Rattle.view.specs.View.{viewOk}
 use Rattle.digits.specs.Decimal.{decimal}
-use Rattle.figures.specs.Figures.{countMost, figureMost, figuresOf}
+use Rattle.figures.specs.Figures.{figureMost, figuresOf}
 use Rattle.figures.specs.declared.Totals.{Totals}
 use Rattle.page.specs.Page.{countWidth, lineSize, pageSize, shownAt, Contents, contentsOf, nodeLine, figuresLine}
 use Rattle.page.specs.Page.{pageOf, pageIn, pageLeft}
@@ -27,24 +26,17 @@ Lined = (n : ℕ) (v p : List ℕ) (t : Totals) → Bytes v → figuresOf n v �
     → ((i : ℕ) → i < n → part p (lineSize * i) lineSize ≡ nodeLine (i + 1) (shownAt v i))
     × (part p (lineSize * n) lineSize ≡ figuresLine t)
 
--- A view of the most nodes, each of which has the greatest counts.
-abbrev pub full : List ℕ
-full =
-    join nodes (λ i. entryBytes 1
-    (record { extensions = countMost; lines = countMost; waiting = countMost; wakeups = countMost }))
-
--- Every figure has at most seven digits. So many has the greatest that there may be, and some figure is that great.
+-- Every figure is at most the greatest, 1,048,560, which has seven digits, so none has more.
 pub record Fits : Type 0 where
   pub extensions : (n : ℕ) (v : List ℕ) (t : Totals) → Bytes v → figuresOf n v ≡ result t
-      → length (decimal (t .extensions)) ≤ countWidth
+      → (t .extensions ≤ figureMost) × (length (decimal (t .extensions)) ≤ countWidth)
   pub lines : (n : ℕ) (v : List ℕ) (t : Totals) → Bytes v → figuresOf n v ≡ result t
-      → length (decimal (t .lines)) ≤ countWidth
+      → (t .lines ≤ figureMost) × (length (decimal (t .lines)) ≤ countWidth)
   pub waiting : (n : ℕ) (v : List ℕ) (t : Totals) → Bytes v → figuresOf n v ≡ result t
-      → length (decimal (t .waiting)) ≤ countWidth
+      → (t .waiting ≤ figureMost) × (length (decimal (t .waiting)) ≤ countWidth)
   pub wakeups : (n : ℕ) (v : List ℕ) (t : Totals) → Bytes v → figuresOf n v ≡ result t
-      → length (decimal (t .wakeups)) ≤ countWidth
+      → (t .wakeups ≤ figureMost) × (length (decimal (t .wakeups)) ≤ countWidth)
   pub greatest : (figureMost ≡ 1048560) × (length (decimal figureMost) ≡ countWidth)
-  pub reached : (t : Totals) × (figuresOf nodes full ≡ result t) × (t .extensions ≡ figureMost)
 
 -- The bytes alone tell it: views with one page are of as many nodes, show node by node the same report or both none,
 -- and have the same figures.
@@ -79,7 +71,7 @@ pub record Refuses : Type 0 where
   pub figures-first : (n : ℕ) (v : List ℕ) (room k : ℕ) → figuresOf n v ≡ refused k → pageIn n v room ≡ refused k
   pub short-last : (n : ℕ) (v : List ℕ) (room : ℕ) (t : Totals) → Bytes v → figuresOf n v ≡ result t
       → room < pageSize n → pageIn n v room ≡ refused 15
-  pub roomy : (n : ℕ) (v : List ℕ) (room : ℕ) (t : Totals) → Bytes v → figuresOf n v ≡ result t
+  pub long-enough : (n : ℕ) (v : List ℕ) (room : ℕ) (t : Totals) → Bytes v → figuresOf n v ≡ result t
       → pageSize n ≤ room → (p : List ℕ) × (pageIn n v room ≡ result p) × (pageOf n v ≡ result p)
 
 -- The buffer afterwards: the page, and past it every byte as it was; after a refusal all of it.

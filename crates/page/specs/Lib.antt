@@ -1,5 +1,4 @@
 pub mod Claims
-pub mod Column
 pub mod Example
 pub mod Page
 pub mod Read

@@ -5,7 +5,7 @@
 --     1       1       2       3       4
 --     2       -       -       -       -
 --    ==       1       2       3       4
-use Prim.Native.Nat.{ℕ, _+_, _-_, _*_}
+use Prim.Native.Nat.{ℕ, _+_, _-_, _*_, _%_}
 use mathlib.Core.List.{List, [], _∷_, _++_}
 use mathlib.Core.Option.{Option, none, some}
 use lib.ListN.{length, getD, replicate}
@@ -24,18 +24,22 @@ use Rattle.page.specs.declared.Paged.the-variants.{Length, Refused}
 
 -- ---- lines and columns
 
--- the columns of a node's number and of a count; a count with the space before it; a line; a page of n nodes
+-- the columns of a node's number and of a count, and how many counts there are; a count with the space before it; a
+-- line; a page of n nodes
 abbrev pub labelWidth : ℕ
 labelWidth = 2
 
 abbrev pub countWidth : ℕ
 countWidth = 7
 
+abbrev pub lineCounts : ℕ
+lineCounts = 4
+
 abbrev pub cellSize : ℕ
 cellSize = 1 + countWidth
 
 abbrev pub lineSize : ℕ
-lineSize = labelWidth + 4 * cellSize + 1
+lineSize = labelWidth + lineCounts * cellSize + 1
 
 abbrev pub pageSize : ℕ → ℕ
 pageSize n = lineSize * (n + 1)
@@ -131,3 +135,7 @@ paged (Refused c) = refused c
 -- the lines of n nodes
 abbrev pub nodeLines : ℕ → List ℕ → List ℕ
 nodeLines n v = join n (λ i. nodeLine (i + 1) (shownAt v i))
+
+-- a column that has digits after it: y is the number in the columns up to this one
+abbrev pub columnOf : ℕ → ℕ
+columnOf y = pick (eqb y 0) space (48 + y % 10)

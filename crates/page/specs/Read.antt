@@ -4,7 +4,7 @@ use mathlib.Core.Bool.{Bool, false}
 use mathlib.Core.List.{List, map}
 use mathlib.Core.Option.{Option, none, some}
 use lib.ListN.{length, getD}
-use lib.Dec.{eqb, ltb}
+use lib.Dec.{ltb}
 use Rattle.octets.specs.Answer.{Answer, result, refused}
 use Rattle.octets.specs.Bytes.{part, same}
 use Rattle.octets.specs.Loop.{allTo, tab}
@@ -14,7 +14,7 @@ use Rattle.view.specs.View.{viewBytes}
 use Rattle.view.specs.declared.Report.{Report}
 use Rattle.digits.specs.Decimal.{value}
 use Rattle.figures.specs.declared.Totals.{Totals}
-use Rattle.page.specs.Page.{labelWidth, countWidth, cellSize, lineSize, Contents, pageOf}
+use Rattle.page.specs.Page.{labelWidth, countWidth, cellSize, lineSize, dash, right, Contents, pageOf}
 
 -- ---- lines and columns
 
@@ -29,7 +29,7 @@ abbrev pub countIn : List ℕ → ℕ → ℕ
 countIn l j = value (columns l j)
 
 abbrev pub isDash : List ℕ → Bool
-isDash l = eqb (getD (columns l 0) 6 0) 45
+isDash l = same (columns l 0) (right countWidth dash)
 
 -- ---- what is told
 
@@ -80,15 +80,15 @@ viewFor l = viewBytes (length l) (record { tags = map tagFor l; reports = map re
 abbrev pub allBytes : List ℕ → Bool
 allBytes v = allTo (length v) (λ i. ltb (getD v i 0) 256)
 
-abbrev pub isResult : Answer (List ℕ) → List ℕ → Bool
-isResult (result p) b = same p b
-isResult (refused k) b = false
+abbrev pub answers : Answer (List ℕ) → List ℕ → Bool
+answers (result p) b = same p b
+answers (refused k) b = false
 
--- b is the page of a view with these contents
-unfoldable pub isPageOf : List ℕ → Contents → Bool
-isPageOf b c =
-    both (allBytes (viewFor (c .shown))) (isResult (pageOf (length (c .shown)) (viewFor (c .shown))) b)
+-- b is the page of a view that shows these reports
+unfoldable pub isPageOf : List ℕ → List (Option Report) → Bool
+isPageOf b l = both (allBytes (viewFor l)) (answers (pageOf (length l) (viewFor l)) b)
 
--- what a page tells; other bytes are not of the layout
+-- What a page tells; other bytes are not of the layout. The figures that are read are those of that view, whose page
+-- has them in the same columns.
 unfoldable pub read : List ℕ → Answer Contents
-read b = pick (isPageOf b (contentsIn b)) (result (contentsIn b)) (refused 7)
+read b = pick (isPageOf b (contentsIn b .shown)) (result (contentsIn b)) (refused 7)

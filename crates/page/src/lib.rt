@@ -10,8 +10,7 @@ ghost use Rattle.digits.specs.Decimal.{decimal};
 ghost use Rattle.figures.specs.Figures.{countedReport, totals};
 ghost use Rattle.page.specs.Page.{labelWidth, countWidth, cellSize, lineSize, right, dash};
 ghost use Rattle.page.specs.Page.{cellText, feed, nodeLine, figuresLine, shownAt, nodeLines};
-ghost use Rattle.page.specs.Page.{pageIn, pageLength, pageLeft, paged};
-ghost use Rattle.page.specs.Column.{columnOf};
+ghost use Rattle.page.specs.Page.{pageIn, pageLength, pageLeft, paged, columnOf};
 use figures::Totals;
 use octets::and;
 use octets::put_bytes;
@@ -40,11 +39,11 @@ pub enum Paged {
     Refused(u8),
 }
 
-// The column of the last digit of `y`, where `y` is what stands before a digit: a space if that is nothing.
+// A column that has digits after it: `y` is the number in the columns up to this one, and 0 is shown as a space.
 fn column(y: u32) -> u8
     ensures { λ r. ⌜ r ≡ columnOf y ⌝ }
 {
-    if y == 0 { 32 } else { 48 + (y % 10) as u8 }
+    if y == 0 { b' ' } else { b'0' + (y % 10) as u8 }
 }
 
 // The number of a node right in its columns.
@@ -53,7 +52,7 @@ fn label(k: u32) -> [u8; LABEL]
     ensures { λ r. ⌜ r ≡ right labelWidth (decimal k) ⌝ }
 {
     let tens = column(k / 10);
-    let ones = 48 + (k % 10) as u8;
+    let ones = b'0' + (k % 10) as u8;
     [tens, ones]
 }
 
@@ -66,10 +65,10 @@ fn put_digits(out: &mut [u8], end: usize, x: u32)
     let mut y = x;
     while 10 <= y {
         k -= 1;
-        out[k] = 48 + (y % 10) as u8;
+        out[k] = b'0' + (y % 10) as u8;
         y /= 10;
     }
-    out[k - 1] = 48 + y as u8;
+    out[k - 1] = b'0' + y as u8;
 }
 
 // Writes a count right in its columns, after a space.
@@ -77,7 +76,7 @@ fn put_count(out: &mut [u8], at: usize, x: u32)
     requires { ⌜ (x < 10 ^ countWidth) × (at + cellSize ≤ length (now out)) ⌝ }
     ensures { λ _. ⌜ now (out .exit) ≡ put (now (out .entry)) at (cellText (decimal x)) ⌝ }
 {
-    let spaces = [32u8; CELL];
+    let spaces = [b' '; CELL];
     put_bytes(out, at, &spaces);
     put_digits(out, at + CELL, x);
 }
@@ -95,7 +94,7 @@ fn put_counts(out: &mut [u8], at: usize, name: &[u8; LABEL], a: u32, b: u32, c: 
     put_count(out, first + CELL, b);
     put_count(out, first + 2 * CELL, c);
     put_count(out, first + 3 * CELL, d);
-    out[first + COUNTS * CELL] = 10;
+    out[first + COUNTS * CELL] = b'\n';
 }
 
 // Writes a line of no counts at a place.
@@ -141,14 +140,14 @@ fn put_nodes(out: &mut [u8], v: &[u8], n: usize) -> Totals
     ensures { λ r. ⌜ (r ≡ totals n (now (v .entry)))
         × (now (out .exit) ≡ put (now (out .entry)) 0 (nodeLines n (now (v .entry)))) ⌝ }
 {
-    let mut sums = figures::no_totals();
+    let mut t = figures::no_totals();
     let mut i = 0;
     while i < n {
         let p = put_node(out, v, i);
-        sums = figures::with_report(sums, p);
+        t = figures::with_report(t, p);
         i += 1;
     }
-    sums
+    t
 }
 
 // Writes the page of a view of n nodes: the lines of the nodes, and the last one.
@@ -158,7 +157,7 @@ fn put_page(out: &mut [u8], v: &[u8], n: usize)
         (nodeLines n (now (v .entry)) ++ figuresLine (totals n (now (v .entry)))) ⌝ }
 {
     let t = put_nodes(out, v, n);
-    let name = [61u8, 61];
+    let name = [b'=', b'='];
     put_counts(
         out,
         LINE * n,

@@ -20,11 +20,11 @@ use Rattle.page.proofs.put_nodes.Statement.{statement}
 use Rattle.page.proofs.put_nodes.Tie as tie
 
 abbrev Inv-loop : tie.InvT-loop
-Inv-loop out₀ v n sums₀ i₀ out sums i = (i ≤ n) × (length out ≡ length out₀) × (sums ≡ totals i v)
+Inv-loop out₀ v n t₀ i₀ out t i = (i ≤ n) × (length out ≡ length out₀) × (t ≡ totals i v)
     × (out ≡ put out₀ 0 (nodeLines i v))
 
 abbrev μ-loop : tie.MeasureT-loop
-μ-loop out₀ v n sums₀ i₀ out sums i = n - i
+μ-loop out₀ v n t₀ i₀ out t i = n - i
 
 loop-holds : tie.Need-loop-holds Inv-loop μ-loop
 loop-holds c =
