@@ -14,7 +14,7 @@ use borrow.Author.Tests.{eqb-true, ne-eqb, le-leb}
 use Rattle.octets.specs.Test.{pick, both}
 use Rattle.octets.specs.Loop.{upTo, allTo}
 use Rattle.octets.proofs.Test.{both-true}
-use Rattle.octets.proofs.Loop.{upTo-more, upTo-ext, allTo-more, allTo-ext}
+use Rattle.octets.proofs.Loop.{upTo-first, upTo-more, upTo-ext, allTo-more, allTo-ext}
 use Rattle.digits.specs.Decimal.{isDigit, allDigits, value, valueWith, fewest, decimal}
 
 -- ---- powers of ten
@@ -29,7 +29,7 @@ pub ten-room : (k y : ℕ) → 0 < y → y < 10 ^ k → 1 ≤ k
 ten-room zero y h l = absurd (omega arith)
 ten-room (suc k) y h l = omega arith
 
-ten-down : (k y : ℕ) → y < 10 ^ suc k → y / 10 < 10 ^ k
+pub ten-down : (k y : ℕ) → y < 10 ^ suc k → y / 10 < 10 ^ k
 ten-down k y l = let e : 10 ^ suc k ≡ 10 * 10 ^ k = pow-succ' 10 k in omega arith
 
 pub ten-low : (k y : ℕ) → 0 < y → y < 10 ^ k → y / 10 < 10 ^ (k - 1)
@@ -71,11 +71,6 @@ value-snoc s x =
     (getD-append-seam s x [] 0)
 
 -- spaces before a text of digits count as no digit
-upTo-first : (k : ℕ) (f : ℕ → ℕ → ℕ) (a : ℕ) → upTo (suc k) f a ≡ upTo k (λ i. f (suc i)) (f 0 a)
-unfolding upTo
-upTo-first zero f a = refl
-upTo-first (suc k) f a = ap (f (suc k)) (upTo-first k f a)
-
 pub value-spaces : (k : ℕ) (s : List ℕ) → value (replicate k 32 ++ s) ≡ value s
 unfolding value
 value-spaces zero s = refl

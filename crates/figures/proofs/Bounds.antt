@@ -102,15 +102,15 @@ countedReport-is n v ok h l i m = elim (ℕ-discrete (tagAt v i) 0) [
   | no e ↦ sym (ap (λ (t : Bool). pick t noReport (reportAt v i)) (ne-eqb (tagAt v i) 0 e))
 ]
 
--- a count is at most `countMost` in each report that bytes are
+-- a count has sixteen bits in each report that bytes are, so it is at most `countMost`
 pub record Count (count : Report → ℕ) : Type 0 where
   pub none : count noReport ≡ 0
-  pub most : (b : List ℕ) → Bytes b → count (reportOf b) ≤ countMost
+  pub most : (b : List ℕ) → Bytes b → count (reportOf b) < 2 ^ 16
 
 countedReport-most : (count : Report → ℕ) → Count count → (t : Bool) (b : List ℕ) → Bytes b → count
     (pick t noReport (reportOf b)) ≤ countMost
 countedReport-most count c true b h = rw (c .none) (omega arith)
-countedReport-most count c false b h = c .most b h
+countedReport-most count c false b h = omega (arith, c .most b h)
 
 pub total-fits : (count : Report → ℕ) (n : ℕ) (v : List ℕ) → Count count → Bytes v → n ≤ nodes
     → total count n v ≤ figureMost
@@ -138,33 +138,10 @@ most-fits = omega arith
 pub totals-fit : (n : ℕ) (v : List ℕ) → Bytes v → n ≤ nodes → Fit (totals n v)
 unfolding totals
 totals-fit n v h l =
+    let c = counts-of in
     record {
-      extensions = total-fits (λ p. p .extensions) n v (record {
-        none = refl;
-        most = λ b g. omega (
-          arith,
-          counts-of b g
-              .extensions,
-        );
-      }) h l;
-      lines = total-fits (λ p. p .lines) n v (record {
-        none = refl;
-        most = λ b g. omega (arith, counts-of b g .lines);
-      }) h l;
-      waiting = total-fits (λ p. p .waiting) n v (record {
-        none = refl;
-        most = λ b g. omega (
-          arith,
-          counts-of b g
-              .waiting,
-        );
-      }) h l;
-      wakeups = total-fits (λ p. p .wakeups) n v (record {
-        none = refl;
-        most = λ b g. omega (
-          arith,
-          counts-of b g
-              .wakeups,
-        );
-      }) h l;
+      extensions = total-fits (λ p. p .extensions) n v (record { none = refl; most = λ b g. c b g .extensions }) h l;
+      lines = total-fits (λ p. p .lines) n v (record { none = refl; most = λ b g. c b g .lines }) h l;
+      waiting = total-fits (λ p. p .waiting) n v (record { none = refl; most = λ b g. c b g .waiting }) h l;
+      wakeups = total-fits (λ p. p .wakeups) n v (record { none = refl; most = λ b g. c b g .wakeups }) h l;
     }

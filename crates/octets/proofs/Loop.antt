@@ -32,6 +32,12 @@ upTo-ext zero f g a h = refl
 upTo-ext (suc k) f g a h =
     h k (upTo k f a) (omega arith) ∙ ap (λ x. g k x) (upTo-ext k f g a (λ i x l. h i x (omega arith)))
 
+-- the first number first
+pub upTo-first : {A : Type 0} (k : ℕ) (f : ℕ → A → A) (a : A) → upTo (suc k) f a ≡ upTo k (λ i. f (suc i)) (f 0 a)
+unfolding upTo
+upTo-first zero f a = refl
+upTo-first (suc k) f a = ap (f (suc k)) (upTo-first k f a)
+
 -- ---- allTo
 
 pub allTo-none : (p : ℕ → Bool) → allTo 0 p ≡ true

@@ -8,7 +8,7 @@ use lib.ListN.{length, getD, replicate}
 use lib.Pow.{pow-add, pow-pos, shr-lt, split, high, low}
 use Rattle.octets.specs.Bytes.{Bytes, num, be}
 use Rattle.octets.specs.Loop.{tab}
-use Rattle.octets.proofs.Table.{tab-of}
+use Rattle.octets.proofs.Table.{tab-spelled}
 
 -- one byte more weighs 256 times as much
 pub weight : (k : ℕ) → 2 ^ (8 * suc k) ≡ 256 * 2 ^ (8 * k)
@@ -62,13 +62,9 @@ be-bytes (suc k) x h zero =
     shr-lt 8 (8 * k) (rw e at h)
 be-bytes (suc k) x h (suc i) = be-bytes k (x % 2 ^ (8 * k)) (mod-lt x (pow-pos (8 * k))) i
 
--- bytes of a known length, spelled out
-spelled : (k : ℕ) (s : List ℕ) → length s ≡ k → num s ≡ num (tab k (λ i. getD s i 0))
-spelled k s e = ap num (sym (tab-of s 0) ∙ ap (λ (j : ℕ). tab j (λ i. getD s i 0)) e)
-
 pub num-eight : (s : List ℕ) → length s ≡ 8
     → num s
     ≡ (getD s 0 0 * 16777216 + getD s 1 0 * 65536 + getD s 2 0 * 256 + getD s 3 0) * 4294967296
     + (getD s 4 0 * 16777216 + getD s 5 0 * 65536 + getD s 6 0 * 256 + getD s 7 0)
 unfolding tab
-num-eight s e = let q : num s ≡ num (tab 8 (λ i. getD s i 0)) = spelled 8 s e in omega arith
+num-eight s e = let q : num s ≡ num (tab 8 (λ i. getD s i 0)) = ap num (tab-spelled 8 s 0 e) in omega arith

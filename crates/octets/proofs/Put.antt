@@ -1,6 +1,6 @@
 -- Runs of bytes in a longer list: what `part` reads after `put`, and puts one after the other.
 -- The laws on reading come from three on `++`: a part in the left list, in the right list, and between the two.
-use Prim.Native.Nat.{ℕ, _+_, _-_, _<_, _≤_}
+use Prim.Native.Nat.{ℕ, suc, _+_, _-_, _<_, _≤_}
 use mathlib.Core.Path.{_≡_, sym, ap, ap₂, _∙_}
 use mathlib.Core.List.{List, [], _∷_, _++_, append-nil, append-assoc}
 use native.Mathlib.Nat.{add-zero, lt-of-not-le}
@@ -10,7 +10,7 @@ use native.Mathlib.Omega.{arith}
 use lib.ListN.{length, take, drop, getD, set, length-append, length-take, length-drop, take-append-drop}
 use lib.ListN.{drop-of-length-le, List·getD-eq-default}
 use lib.Seq.{take-all, take-at, drop-at, take-append-le, drop-append-le, take-append-add, drop-append-add, drop-drop}
-use lib.Seq.{take-add, take-take, getD-take, getD-drop, append-snoc, set-split, length-take-le}
+use lib.Seq.{take-add, take-take, take-suc, getD-take, getD-drop, append-snoc, set-at, set-split, length-take-le}
 use Rattle.octets.specs.Bytes.{Bytes, part, put}
 
 -- ---- lengths
@@ -234,3 +234,20 @@ unfolding put
 put-one b i x h =
     set-split b i x h ∙ ap (λ (k : ℕ). take i b ++ x ∷ drop k b) (sym (add-one i))
     ∙ sym (append-snoc (take i b) x (drop (i + 1) b))
+
+-- a store before a run that was put
+pub put-before : (o : List ℕ) (j x : ℕ) (s : List ℕ) → suc j + length s ≤ length o
+    → set (put o (suc j) s) j x ≡ put o j (x ∷ s)
+unfolding put
+put-before o j x s h =
+    let rest : List ℕ = drop (suc j + length s) o in
+    let l : length (take j o) ≡ j = simp length-take (omega arith) in
+    let e : suc j + length s ≡ j + suc (length s) = omega arith in
+    ap (λ (t : List ℕ). set (t ++ s ++ rest) j x) (take-suc o j 0 (omega arith))
+    ∙ ap (λ (t : List ℕ). set t j x) (shaped (take j o) (getD o j 0) s rest)
+    ∙ set-at (take j o) (getD o j 0) (s ++ rest) x j l
+    ∙ ap (λ (k : ℕ). take j o ++ (x ∷ (s ++ drop k o))) e
+    ∙ sym (append-assoc (take j o) (x ∷ s) (drop (j + suc (length s)) o))
+  where
+    shaped : (p : List ℕ) (y : ℕ) (s r : List ℕ) → p ++ (y ∷ []) ++ s ++ r ≡ p ++ (y ∷ (s ++ r))
+    shaped p y s r = simp append-assoc

@@ -113,6 +113,10 @@ module _ {A : Type 0} where
       ext-getD d (tab (length l) (λ i. getD l i d)) l (length-tab (length l) (λ i. getD l i d))
       (λ i h. getD-tab (length l) (λ j. getD l j d) i d (rw (length-tab (length l) (λ j. getD l j d)) at h))
 
+  -- one of a known length, spelled out
+  pub tab-spelled : (k : ℕ) (l : List A) (d : A) → length l ≡ k → l ≡ tab k (λ i. getD l i d)
+  tab-spelled k l d e = sym (tab-of l d) ∙ ap (λ (j : ℕ). tab j (λ i. getD l i d)) e
+
   -- ---- join
 
   pub join-none : (f : ℕ → List A) → join 0 f ≡ []

@@ -156,9 +156,8 @@ unfolding pageIn put
 leaves =
     record {
       front = λ n v out p b e.
-          let l : 0 + length p ≡ pageSize n = let s = page-sized n v p b (in-page (length out) (pageOf n v) p e) in
-          omega
-          (arith, s) in
+          let s = page-sized n v p b (in-page (length out) (pageOf n v) p e) in
+          let l : 0 + length p ≡ pageSize n = omega (arith, s) in
           ap (λ (a : Answer (List ℕ)). pageLeft a out) e ∙ ap (λ (k : ℕ). p ++ drop k out) l;
       kept = λ n v out k e. ap (λ (a : Answer (List ℕ)). pageLeft a out) e;
     }

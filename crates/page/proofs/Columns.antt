@@ -1,16 +1,15 @@
 -- A number right in its columns, column by column: what stands before each digit decides whether it is shown.
-use Prim.Native.Nat.{ℕ, zero, suc, _+_, _-_, _*_, _/_, _%_, _^_, _<_, _≤_}
+use Prim.Native.Nat.{ℕ, zero, suc, _+_, _-_, _/_, _%_, _^_, _<_, _≤_}
 use mathlib.Core.Path.{_≡_, refl, sym, ap, ap₂, _∙_}
 use mathlib.Core.Bool.{Bool}
 use mathlib.Core.List.{List, [], _∷_, _++_, append-assoc}
-use native.Mathlib.Nat.{pow-succ'}
 use native.Mathlib.Decide.{ℕ-discrete}
 use native.Mathlib.Omega.{arith}
 use lib.ListN.{length, replicate, length-append, replicate-append-replicate}
 use borrow.Author.Tests.{eq-eqb, ne-eqb}
 use Rattle.octets.specs.Test.{pick}
 use Rattle.digits.specs.Decimal.{fewest, decimal}
-use Rattle.digits.proofs.DecimalBack.{above, above-more}
+use Rattle.digits.proofs.DecimalBack.{ten-down, above, above-more}
 use Rattle.page.specs.Page.{space, right, columnOf}
 
 -- k columns, of which the last is that of y
@@ -39,9 +38,6 @@ right-none k =
     let e : k - 0 + 0 ≡ k = omega arith in
     replicate-append-replicate (k - 0) 0 space ∙ ap (λ (j : ℕ). replicate j space) e
 
-pub tenth : (k y : ℕ) → y < 10 ^ suc k → y / 10 < 10 ^ k
-tenth k y l = let e : 10 ^ suc k ≡ 10 * 10 ^ k = pow-succ' 10 k in omega arith
-
 -- what stands before the last digit: nothing, or a digit more
 above-none : (k j y : ℕ) → y ≡ 0 → right k (above j y) ≡ cols k y
 above-none k j y e =
@@ -63,7 +59,7 @@ right-above zero j y l h = above-none zero j y (omega arith)
 right-above (suc k) zero y l h = absurd (omega arith)
 right-above (suc k) (suc j) y l h = elim (ℕ-discrete y 0) [
   | yes e ↦ above-none (suc k) (suc j) y e
-  | no m ↦ above-some k j y m (right-above k j (y / 10) (tenth k y l) (omega arith))
+  | no m ↦ above-some k j y m (right-above k j (y / 10) (ten-down k y l) (omega arith))
 ]
 
 -- a number that fits its columns
@@ -72,4 +68,4 @@ pub right-decimal : (k x : ℕ) → x < 10 ^ suc k → k ≤ 19
 unfolding fewest
 right-decimal k x l h =
     right-snoc k (above 19 (x / 10)) (48 + x % 10)
-    ∙ ap (λ (s : List ℕ). s ++ ((48 + x % 10) ∷ [])) (right-above k 19 (x / 10) (tenth k x l) h)
+    ∙ ap (λ (s : List ℕ). s ++ ((48 + x % 10) ∷ [])) (right-above k 19 (x / 10) (ten-down k x l) h)

@@ -1,33 +1,16 @@
 -- The digits of a number written from the last to the first, each before the one written last.
 use Prim.Native.Nat.{ℕ, zero, suc, _+_, _-_, _/_, _%_, _^_, _<_, _≤_}
 use mathlib.Core.Path.{_≡_, refl, sym, ap, ap₂, _∙_}
-use mathlib.Core.List.{List, [], _∷_, _++_, append-assoc, append-nil}
+use mathlib.Core.List.{List, [], _∷_, _++_, append-nil}
 use native.Mathlib.Nat.{add-zero}
 use native.Mathlib.Omega.{arith}
-use lib.ListN.{length, take, drop, getD, set, length-append, length-take}
-use lib.Seq.{take-suc, set-at, append-snoc}
+use lib.ListN.{length, set, length-append}
+use lib.Seq.{append-snoc}
 use borrow.Author.Tests.{ne-eqb}
 use Rattle.octets.specs.Bytes.{put}
-use Rattle.octets.proofs.Put.{put-nil}
+use Rattle.octets.proofs.Put.{put-nil, put-before}
 use Rattle.digits.specs.Decimal.{fewest, decimal}
-use Rattle.page.proofs.Columns.{tenth}
-
--- a byte stored before a run that was put
-store-before : (o : List ℕ) (j x : ℕ) (s : List ℕ) → suc j + length s ≤ length o
-    → set (put o (suc j) s) j x ≡ put o j (x ∷ s)
-unfolding put
-store-before o j x s h =
-    let rest : List ℕ = drop (suc j + length s) o in
-    let l : length (take j o) ≡ j = simp length-take (omega arith) in
-    let e : suc j + length s ≡ j + suc (length s) = omega arith in
-    ap (λ (t : List ℕ). set (t ++ s ++ rest) j x) (take-suc o j 0 (omega arith))
-    ∙ ap (λ (t : List ℕ). set t j x) (shaped (take j o) (getD o j 0) s rest)
-    ∙ set-at (take j o) (getD o j 0) (s ++ rest) x j l
-    ∙ ap (λ (k : ℕ). take j o ++ (x ∷ (s ++ drop k o))) e
-    ∙ sym (append-assoc (take j o) (x ∷ s) (drop (j + suc (length s)) o))
-  where
-    shaped : (p : List ℕ) (y : ℕ) (s r : List ℕ) → p ++ (y ∷ []) ++ s ++ r ≡ p ++ (y ∷ (s ++ r))
-    shaped p y s r = simp append-assoc
+use Rattle.digits.proofs.DecimalBack.{ten-down, fewest-some}
 
 -- Of the digits of x those past the digits of y stand from k on, up to `end`.
 pub record Written (o : List ℕ) (end x : ℕ) (out : List ℕ) (k y : ℕ) : Type 0 where
@@ -61,24 +44,19 @@ last-of : (j y : ℕ) → 10 ≤ y → fewest (suc j) y ≡ fewest j (y / 10) ++
 unfolding fewest
 last-of j y h = rw (ne-eqb (y / 10) 0 (λ e. omega arith)) refl
 
--- there is room for one digit at least
-some-left : (j y : ℕ) → 1 ≤ length (fewest (suc j) y)
-unfolding fewest
-some-left j y = simp length-append (omega arith)
-
 module _ (o : List ℕ) (end x : ℕ) (out : List ℕ) (k y : ℕ) (w : Written o end x out k y)
     (room : length (decimal x) ≤ end) (fits : end ≤ length o) where
   pub written-room : 1 ≤ k
   written-room =
       let l : length (decimal x) ≡ length (fewest (suc (w .fuel)) y) + length (w .tail) = ap length (w .digits)
       ∙ length-append (fewest (suc (w .fuel)) y) (w .tail) in
-      omega (arith, l, some-left (w .fuel) y, w .place)
+      omega (arith, l, fewest-some (w .fuel) y, w .place)
 
   stored : (d : ℕ) → set out (k - 1) d ≡ put o (k - 1) (d ∷ w .tail)
   stored d =
       let e : suc (k - 1) ≡ k = omega (arith, written-room) in
       ap (λ (t : List ℕ). set t (k - 1) d) (w .bytes ∙ ap (λ (i : ℕ). put o i (w .tail)) (sym e))
-      ∙ store-before o (k - 1) d (w .tail) (omega (arith, w .place, written-room))
+      ∙ put-before o (k - 1) d (w .tail) (omega (arith, w .place, written-room))
 
   pub written-more : 10 ≤ y → Written o end x (set out (k - 1) (48 + y % 10)) (k - 1) (y / 10)
   written-more h = by (w .fuel) (w .digits) (w .small)
@@ -92,7 +70,7 @@ module _ (o : List ℕ) (end x : ℕ) (out : List ℕ) (k y : ℕ) (w : Written 
             tail = (48 + y % 10) ∷ w .tail;
             digits = e ∙ ap (λ (t : List ℕ). t ++ w .tail) (last-of (suc j) y h)
                 ∙ append-snoc (fewest (suc j) (y / 10)) (48 + y % 10) (w .tail);
-            small = tenth (suc j) y l;
+            small = ten-down (suc j) y l;
             bytes = stored (48 + y % 10);
             place = omega (arith, w .place, written-room);
           }

@@ -8,23 +8,21 @@ use native.Mathlib.Omega.{arith}
 use lib.ListN.{length, getD}
 use Rattle.octets.specs.Bytes.{part, same}
 use Rattle.octets.specs.Loop.{tab}
-use Rattle.octets.proofs.Table.{tab-of}
+use Rattle.octets.proofs.Table.{tab-spelled}
 use Rattle.octets.proofs.Test.{not-true-false, same-true, same-refl}
 use Rattle.view.specs.Report.{Counts}
 use Rattle.view.specs.declared.Report.{Report}
 use Rattle.digits.specs.Decimal.{value, decimal}
 use Rattle.digits.proofs.DecimalBack.{value-spaces, value-decimal}
 use Rattle.figures.specs.declared.Totals.{Totals}
+use Rattle.figures.proofs.Bounds.{Fit}
 use Rattle.page.specs.Page.{labelWidth, countWidth, feed, space, dash, equals, right, pageLine, countsLine}
 use Rattle.page.specs.Page.{nodeLine, figuresLine}
 use Rattle.page.specs.Read.{columns, countIn, shownIn, figuresIn}
 use Rattle.page.proofs.Columns.{right-decimal}
-use Rattle.page.proofs.Lines.{Fitting, right-length, digits-most}
+use Rattle.page.proofs.Lines.{right-length, digits-most}
 
 -- ---- columns
-
-spelled : (k : ℕ) (s : List ℕ) → length s ≡ k → s ≡ tab k (λ i. getD s i 0)
-spelled k s e = sym (tab-of s 0) ∙ ap (λ (j : ℕ). tab j (λ i. getD s i 0)) e
 
 pub record InColumns (l a b c d : List ℕ) : Type 0 where
   pub first : columns l 0 ≡ a
@@ -37,7 +35,13 @@ placed : (l a b c d : List ℕ) → length l ≡ labelWidth → length a ≡ cou
     → InColumns (l ++ (space ∷ a) ++ (space ∷ b) ++ (space ∷ c) ++ (space ∷ d) ++ feed) a b c d
 unfolding tab part
 placed l a b c d e f g h i =
-    rw (spelled 2 l e, spelled 7 a f, spelled 7 b g, spelled 7 c h, spelled 7 d i)
+    rw (
+      tab-spelled labelWidth l 0 e,
+      tab-spelled countWidth a 0 f,
+      tab-spelled countWidth b 0 g,
+      tab-spelled countWidth c 0 h,
+      tab-spelled countWidth d 0 i,
+    )
     (record { first = refl; second = refl; third = refl; fourth = refl })
 
 line-columns : (l a b c d : List ℕ) → length l ≤ labelWidth → length a ≤ countWidth → length b ≤ countWidth
@@ -64,6 +68,14 @@ no-dash x h =
     (λ e. let q : 48 + x % 10 ≡ 45 = ap (λ (s : List ℕ). getD s 6 0)
     (sym (right-decimal 6 x h (omega arith)) ∙ same-true (right countWidth (decimal x)) (right countWidth dash) e) in
     omega arith)
+
+-- a line of dashes
+pub none-back : (k : ℕ) → k < 10 ^ labelWidth → shownIn (nodeLine k none) ≡ none
+unfolding shownIn
+none-back k h =
+    let c = line-columns (decimal k) dash dash dash dash (digits-most labelWidth k h (omega arith)) (omega arith)
+    (omega arith) (omega arith) (omega arith) in
+    rw (ap (λ (s : List ℕ). same s (right countWidth dash)) (c .first) ∙ same-refl (right countWidth dash)) refl
 
 -- four counts in a line
 module _ (l : List ℕ) (a b c d : ℕ) (e : length l ≤ labelWidth) (f : a < 10 ^ countWidth) (g : b < 10 ^ countWidth)
@@ -101,27 +113,27 @@ module _ (l : List ℕ) (a b c d : ℕ) (e : length l ≤ labelWidth) (f : a < 1
 
 -- ---- lines
 
-pub none-back : (k : ℕ) → k < 10 ^ labelWidth → shownIn (nodeLine k none) ≡ none
-unfolding shownIn
-none-back k h =
-    let c = line-columns (decimal k) dash dash dash dash (digits-most labelWidth k h (omega arith)) (omega arith)
-    (omega arith) (omega arith) (omega arith) in
-    rw (ap (λ (s : List ℕ). same s (right countWidth dash)) (c .first) ∙ same-refl (right countWidth dash)) refl
-
 pub some-back : (k : ℕ) (p : Report) → k < 10 ^ labelWidth → Counts p → shownIn (nodeLine k (some p)) ≡ some p
 some-back k p h c =
     counts-shown (decimal k) (p .extensions) (p .lines) (p .waiting) (p .wakeups)
     (digits-most labelWidth k h (omega arith)) (omega (arith, c .extensions)) (omega (arith, c .lines))
     (omega (arith, c .waiting)) (omega (arith, c .wakeups))
 
-pub figures-back : (t : Totals) → Fitting t → figuresIn (figuresLine t) ≡ t
+pub figures-back : (t : Totals) → Fit t → figuresIn (figuresLine t) ≡ t
 unfolding figuresIn
 figures-back t h =
-    let f = t .extensions in
-    let e : length equals ≤ labelWidth = omega arith in
+    let l : length equals ≤ labelWidth = omega arith in
+    let a = t .extensions in
+    let b = t .lines in
+    let c = t .waiting in
+    let d = t .wakeups in
+    let e : a < 10 ^ countWidth = omega (arith, h .extensions) in
+    let f : b < 10 ^ countWidth = omega (arith, h .lines) in
+    let g : c < 10 ^ countWidth = omega (arith, h .waiting) in
+    let i : d < 10 ^ countWidth = omega (arith, h .wakeups) in
     rw (
-      first-said equals f (t .lines) (t .waiting) (t .wakeups) e (h .extensions) (h .lines) (h .waiting) (h .wakeups),
-      second-said equals f (t .lines) (t .waiting) (t .wakeups) e (h .extensions) (h .lines) (h .waiting) (h .wakeups),
-      third-said equals f (t .lines) (t .waiting) (t .wakeups) e (h .extensions) (h .lines) (h .waiting) (h .wakeups),
-      fourth-said equals f (t .lines) (t .waiting) (t .wakeups) e (h .extensions) (h .lines) (h .waiting) (h .wakeups),
+      first-said equals a b c d l e f g i,
+      second-said equals a b c d l e f g i,
+      third-said equals a b c d l e f g i,
+      fourth-said equals a b c d l e f g i,
     ) refl

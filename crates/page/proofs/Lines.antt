@@ -23,9 +23,8 @@ use Rattle.page.specs.Page.{labelWidth, countWidth, cellSize, lineSize, 
 use Rattle.page.specs.Page.{equals, pageLine, countsLine, nodeLine, figuresLine, shownAt, nodeLines}
 
 -- its parts, one after the other
-pub line-is : (l a b c d : List ℕ) {n p q r s : List ℕ} → n ≡ right labelWidth l → p ≡ cellText a → q ≡ cellText b → r
-    ≡ cellText c
-    → s ≡ cellText d → n ++ p ++ q ++ r ++ s ++ feed ≡ pageLine l a b c d
+pub line-is : (l a b c d : List ℕ) {n p q r s : List ℕ} → n ≡ right labelWidth l → p ≡ cellText a → q ≡ cellText b
+    → r ≡ cellText c → s ≡ cellText d → n ++ p ++ q ++ r ++ s ++ feed ≡ pageLine l a b c d
 unfolding pageLine
 line-is l a b c d e f g h i = rw (e, f, g, h, i) refl
 
@@ -77,47 +76,30 @@ counts-length l a b c d e f g h i =
     (digits-most countWidth b g (omega arith)) (digits-most countWidth c h (omega arith)) (digits-most countWidth d i
     (omega arith))
 
--- each figure fits its columns
-pub record Fitting (t : Totals) : Type 0 where
-  pub extensions : t .extensions < 10 ^ countWidth
-  pub lines : t .lines < 10 ^ countWidth
-  pub waiting : t .waiting < 10 ^ countWidth
-  pub wakeups : t .wakeups < 10 ^ countWidth
-
-pub figures-length : (t : Totals) → Fitting t → length (figuresLine t) ≡ lineSize
+pub figures-length : (t : Totals) → Fit t → length (figuresLine t) ≡ lineSize
 figures-length t h =
-    counts-length equals (t .extensions) (t .lines) (t .waiting) (t .wakeups) (omega arith) (h .extensions)
-    (h .lines) (h .waiting) (h .wakeups)
+    counts-length equals (t .extensions) (t .lines) (t .waiting) (t .wakeups) (omega arith)
+    (omega (arith, h .extensions)) (omega (arith, h .lines)) (omega (arith, h .waiting)) (omega (arith, h .wakeups))
 
-pub fitting : (t : Totals) → Fit t → Fitting t
-fitting t h =
-    record {
-      extensions = omega (arith, h .extensions);
-      lines = omega (arith, h .lines);
-      waiting = omega (arith, h .waiting);
-      wakeups = omega (arith, h .wakeups);
-    }
+pub counts-at : (v : List ℕ) (i : ℕ) → Bytes v → Counts (reportAt v i)
+counts-at v i h =
+    counts-of (part v (entrySize * i + tagSize) reportSize) (part-bytes v (entrySize * i + tagSize) reportSize h)
 
-module _ (v : List ℕ) (i : ℕ) (h : Bytes v) (l : i < nodes) where
-  pub counts-at : Counts (reportAt v i)
-  counts-at =
-      counts-of (part v (entrySize * i + tagSize) reportSize) (part-bytes v (entrySize * i + tagSize) reportSize h)
+pub node-length : (v : List ℕ) (i : ℕ) → Bytes v → i < nodes → length (nodeLine (i + 1) (shownAt v i)) ≡ lineSize
+node-length v i h l = by-tag (eqb (tagAt v i) 0)
+  where
+    name : length (decimal (i + 1)) ≤ labelWidth
+    name = digits-most labelWidth (i + 1) (omega arith) (omega arith)
 
-  pub node-length : length (nodeLine (i + 1) (shownAt v i)) ≡ lineSize
-  node-length = by-tag (eqb (tagAt v i) 0)
-    where
-      name : length (decimal (i + 1)) ≤ labelWidth
-      name = digits-most labelWidth (i + 1) (omega arith) (omega arith)
-
-      by-tag : (t : Bool) → length (nodeLine (i + 1) (pick t none (some (reportAt v i)))) ≡ lineSize
-      by-tag true = line-length (decimal (i + 1)) dash dash dash dash name (omega arith) (omega arith) (omega arith)
-          (omega arith)
-      by-tag false =
-          let p = reportAt v i in
-          let c = counts-at in
-          counts-length (decimal (i + 1)) (p .extensions) (p .lines) (p .waiting) (p .wakeups) name
-          (omega (arith, c .extensions)) (omega (arith, c .lines)) (omega (arith, c .waiting))
-          (omega (arith, c .wakeups))
+    by-tag : (t : Bool) → length (nodeLine (i + 1) (pick t none (some (reportAt v i)))) ≡ lineSize
+    by-tag true = line-length (decimal (i + 1)) dash dash dash dash name (omega arith) (omega arith) (omega arith)
+        (omega arith)
+    by-tag false =
+        let p = reportAt v i in
+        let c = counts-at v i h in
+        counts-length (decimal (i + 1)) (p .extensions) (p .lines) (p .waiting) (p .wakeups) name
+        (omega (arith, c .extensions)) (omega (arith, c .lines)) (omega (arith, c .waiting))
+        (omega (arith, c .wakeups))
 
 pub nodes-length : (n : ℕ) (v : List ℕ) → Bytes v → n ≤ nodes → length (nodeLines n v) ≡ lineSize * n
 nodes-length n v h l =

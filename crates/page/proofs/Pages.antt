@@ -17,7 +17,7 @@ use Rattle.figures.specs.declared.Totals.{Totals}
 use Rattle.figures.proofs.Accepted.{Accepted, accepted-back, accepted-size, accepted-fit}
 use Rattle.page.specs.Page.{lineSize, nodeLine, figuresLine, shownAt, nodeLines, Contents, mapResult, contents}
 use Rattle.page.specs.Page.{contentsOf, pageText, pageOf, inRoom, pageIn}
-use Rattle.page.proofs.Lines.{nodes-length, figures-length, fitting}
+use Rattle.page.proofs.Lines.{nodes-length, figures-length}
 
 -- the lines of a view are those of its contents
 printed-is : (n : ℕ) (v : List ℕ) (t : Totals) → pageText (contents n v t) ≡ nodeLines n v ++ figuresLine t
@@ -42,7 +42,7 @@ module _ (n : ℕ) (v : List ℕ) (t : Totals) (h : Accepted n v t) where
   page-length b =
       length-append (nodeLines n v) (figuresLine t)
       ∙ ap₂ (λ (x y : ℕ). x + y) (nodes-length n v b (accepted-size n v t h))
-      (figures-length t (fitting t (accepted-fit n v t h b)))
+      (figures-length t (accepted-fit n v t h b))
 
   pub in-room : (room : ℕ) → Bytes v → lineSize * n + lineSize ≤ room
       → pageIn n v room ≡ result (nodeLines n v ++ figuresLine t)

@@ -29,7 +29,7 @@ use Rattle.page.specs.Page.{contentsOf, pageText, pageOf}
 use Rattle.page.specs.Read.{lineAt, shownIn, figuresIn, nodesOn, contentsIn, viewFor, allBytes, answers}
 use Rattle.page.specs.Read.{isPageOf, read}
 use Rattle.page.proofs.LineBack.{none-back, some-back, figures-back}
-use Rattle.page.proofs.Lines.{counts-at, node-length, nodes-length, figures-length, fitting}
+use Rattle.page.proofs.Lines.{counts-at, node-length, nodes-length, figures-length}
 use Rattle.page.proofs.Pages.{page-is, page-length}
 use Rattle.page.proofs.Showing.{Counted, same-page, length-for, shown-for, ok-for, all-bytes-for}
 
@@ -71,14 +71,14 @@ module _ (n : ℕ) (v : List ℕ) (t : Totals) (h : Accepted n v t) (b : Bytes v
   pub last-line : lineAt text n ≡ figuresLine t
   last-line =
       part-right (nodeLines n v) (figuresLine t) (lineSize * n) 0 lineSize (omega (arith, long))
-      ∙ part-all (figuresLine t) lineSize (le-of-eq (figures-length t (fitting t (accepted-fit n v t h b))))
+      ∙ part-all (figuresLine t) lineSize (le-of-eq (figures-length t (accepted-fit n v t h b)))
 
   -- ---- and what they tell
 
   shown-by : (i : ℕ) → i < nodes → (x : Bool) → shownIn (nodeLine (i + 1) (pick x none (some (reportAt v i))))
       ≡ pick x none (some (reportAt v i))
   shown-by i l true = none-back (i + 1) (omega arith)
-  shown-by i l false = some-back (i + 1) (reportAt v i) (omega arith) (counts-at v i b l)
+  shown-by i l false = some-back (i + 1) (reportAt v i) (omega arith) (counts-at v i b)
 
   shown-back : (i : ℕ) → i < n → shownIn (lineAt text i) ≡ shownAt v i
   shown-back i l =
@@ -95,7 +95,7 @@ module _ (n : ℕ) (v : List ℕ) (t : Totals) (h : Accepted n v t) (b : Bytes v
       (ap (λ (k : ℕ). tab k (λ i. shownIn (lineAt text i))) count-back
       ∙ tab-ext n (λ i. shownIn (lineAt text i)) (shownAt v) shown-back)
       (ap (λ (k : ℕ). figuresIn (lineAt text k)) count-back ∙ ap figuresIn last-line
-      ∙ figures-back t (fitting t (accepted-fit n v t h b)))
+      ∙ figures-back t (accepted-fit n v t h b))
     where
       with : List (Option Report) → Totals → Contents
       with s u = record { shown = s; figures = u }
@@ -115,7 +115,7 @@ module _ (n : ℕ) (v : List ℕ) (t : Totals) (h : Accepted n v t) (b : Bytes v
     waiting = omega arith;
     wakeups = omega arith;
   }
-  counts-by i m false = counts-at v i b m
+  counts-by i m false = counts-at v i b
 
   counted : (i : ℕ) → i < length reports → Counted (getD reports i none)
   counted i m =

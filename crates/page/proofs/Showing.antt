@@ -83,16 +83,16 @@ module _ (l : List (Option Report)) where
   alone : viewBytes (length l) shows ++ [] ≡ viewFor l
   alone = append-nil (viewBytes (length l) shows)
 
-  chosen : (o : Option Report) → pick (eqb (tagFor o) 0) none (some (reportFor o)) ≡ o
-  chosen none = refl
-  chosen (some p) = refl
+  shown-of : (o : Option Report) → pick (eqb (tagFor o) 0) none (some (reportFor o)) ≡ o
+  shown-of none = refl
+  shown-of (some p) = refl
 
   pub shown-for : (i : ℕ) → i < length l → shownAt (viewFor l) i ≡ getD l i none
   shown-for i m =
       ap₂ (λ (t : ℕ) (p : Report). pick (eqb t 0) none (some p))
       (ap (λ (b : List ℕ). tagAt b i) (sym alone) ∙ tag-written (length l) shows [] i m ∙ tag-for i)
       (ap (λ (b : List ℕ). reportAt b i) (sym alone) ∙ report-written (length l) shows [] i m ∙ report-for i)
-      ∙ chosen (getD l i none)
+      ∙ shown-of (getD l i none)
 
   none-beside : (o : Option Report) → tagFor o ≡ 0 → reportFor o ≡ noReport
   none-beside none e = refl

@@ -8,10 +8,9 @@ use Rattle.octets.specs.Bytes.{Bytes, put}
 use Rattle.octets.proofs.Put.{put-then}
 use Rattle.digits.specs.Decimal.{decimal}
 use Rattle.figures.specs.Figures.{totals}
-use Rattle.figures.specs.declared.Totals.{Totals}
-use Rattle.figures.proofs.Bounds.{totals-fit}
+use Rattle.figures.proofs.Bounds.{Fit, totals-fit}
 use Rattle.page.specs.Page.{lineSize, right, equals, figuresLine, nodeLines}
-use Rattle.page.proofs.Lines.{Fitting, fitting, line-is, nodes-length}
+use Rattle.page.proofs.Lines.{line-is, nodes-length}
 use Rattle.page.proofs.put_page.Statement.{statement}
 use Rattle.page.proofs.put_page.Tie as tie
 
@@ -20,11 +19,15 @@ put-counts-requires c κs =
     let a = c .before .before .before .before .before .before .before .before .args in
     let v = a .v .now in
     let b : Bytes v = λ k. c .before .before .before .before .before .before .shared-slice-known .given k .fits in
-    let h : Fitting (c .before .before .before .before .put-nodes .result) = subst (λ (t : Totals). Fitting t) (sym (c
-    .before .before .before .before .put-nodes .ensures .0))
-    (fitting (totals (a .n) v) (totals-fit (a .n) v b (c .before .before .before .before .before .before .before
-    .before .pre .0))) in
-    (h .extensions, h .lines, h .waiting, h .wakeups, search needs)
+    let h : Fit (c .before .before .before .before .put-nodes .result) = subst Fit (sym (c .before .before .before
+    .before .put-nodes .ensures .0)) (totals-fit (a .n) v b (c .before .before .before .before .before .before .before
+    .before .pre .0)) in (
+      omega (arith, h .extensions),
+      omega (arith, h .lines),
+      omega (arith, h .waiting),
+      omega (arith, h .wakeups),
+      search needs,
+    )
 
 returns : tie.Need-returns
 unfolding right
