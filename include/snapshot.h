@@ -325,12 +325,13 @@ uint8_t snapshot_read(size_t n, const uint8_t *bytes, size_t bytes_len, uint64_t
 uint8_t snapshot_write(size_t n, const uint64_t numbers[4], const uint8_t report[SNAPSHOT_REPORT], const uint8_t *view,
                        size_t view_len, uint8_t *out, size_t out_len, size_t *length);
 
-/* The house figures: the four sums over a view of n entries; no report adds zero.
+/* The house figures over a view of n entries: three sums, and of calls waiting the largest count, since all nodes watch
+ * one queue. All are 0 where no node has reported.
  *   12  view_len is not 16 n
  *   1   n is not 1 to 16
  *   7   a tag above its limit, or bytes that are not zero beside tag 0
- * Answers 0. Writes the sums: extensions busy, outside lines busy, calls waiting, wake-up calls set. */
-uint8_t snapshot_figures(size_t n, const uint8_t *view, size_t view_len, uint32_t sums[4]);
+ * Answers 0. Writes the figures: extensions busy, outside lines busy, calls waiting, wake-up calls set. */
+uint8_t snapshot_figures(size_t n, const uint8_t *view, size_t view_len, uint32_t figures[4]);
 
 /* The desk's page of a view of n entries, as text: a line for each node, then one with == and the house figures. A line
  * has the node right in 2 columns, then each of the four counts right in 7 after one space; where there is no report,

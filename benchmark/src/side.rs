@@ -39,7 +39,7 @@ pub trait Side {
     fn apply(b: &mut [u8], event: &Event, view: &mut View) -> u8;
     fn read(n: usize, b: &[u8], numbers: &mut Numbers, report: &mut Report) -> u8;
     fn write(n: usize, numbers: &Numbers, report: &Report, view: &[u8], out: &mut [u8], length: &mut usize) -> u8;
-    fn figures(n: usize, view: &[u8], sums: &mut [u32; 4]) -> u8;
+    fn figures(n: usize, view: &[u8], out: &mut [u32; 4]) -> u8;
     fn page(n: usize, view: &[u8], out: &mut [u8], length: &mut usize) -> u8;
     fn node_size() -> usize;
     fn node_fresh(n: usize, own: usize, record: &mut [u8]) -> u8;
@@ -102,8 +102,8 @@ impl Side for Proved {
         lent::write(n, numbers, report, view, out, length)
     }
 
-    fn figures(n: usize, view: &[u8], sums: &mut [u32; 4]) -> u8 {
-        lent::figures(n, view, sums)
+    fn figures(n: usize, view: &[u8], out: &mut [u32; 4]) -> u8 {
+        lent::figures(n, view, out)
     }
 
     fn page(n: usize, view: &[u8], out: &mut [u8], length: &mut usize) -> u8 {
@@ -254,8 +254,8 @@ impl Side for Plain {
     }
 
     #[inline(never)]
-    fn figures(n: usize, view: &[u8], sums: &mut [u32; 4]) -> u8 {
-        put(figures(n, view), sums)
+    fn figures(n: usize, view: &[u8], out: &mut [u32; 4]) -> u8 {
+        put(figures(n, view), out)
     }
 
     #[inline(never)]

@@ -21,9 +21,9 @@ struct region {
     uint8_t before[ROOM]; /* what it held before the call */
 };
 
-static struct region record, out, length, view, bytes, report, route, numbers, sums, cluster;
+static struct region record, out, length, view, bytes, report, route, numbers, figures, cluster;
 static struct region *const regions[] = {&record, &out,   &length,  &view, &bytes,
-                                         &report, &route, &numbers, &sums, &cluster};
+                                         &report, &route, &numbers, &figures, &cluster};
 
 #define REGIONS (sizeof regions / sizeof *regions)
 
@@ -273,8 +273,8 @@ static void call_figures(void)
 {
     size_t right = any_nodes(), nodes = about(right), given = 0;
     uint8_t *shown = lend_view(right, &given);
-    uint32_t *sum = lend_any(&sums, 4 * sizeof *sum);
-    if (accepted(FIGURES, snapshot_figures(nodes, shown, given, sum)))
+    uint32_t *house = lend_any(&figures, 4 * sizeof *house);
+    if (accepted(FIGURES, snapshot_figures(nodes, shown, given, house)))
         kept(&bytes, 0);
 }
 

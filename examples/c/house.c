@@ -128,7 +128,7 @@ static void run(void)
 int main(void)
 {
     static const uint8_t report[SNAPSHOT_REPORT] = {0, 1, 0, 2, 0, 3, 0, 4};
-    uint32_t sums[4] = {0};
+    uint32_t figures[4] = {0};
     for (size_t node = 1; node <= NODES; node++)
         expect_taken("fresh", snapshot_node_fresh(NODES, node, records[node], SNAPSHOT_RECORD));
 
@@ -139,7 +139,8 @@ int main(void)
     send_output(3, 0);
     run();
 
-    expect_taken("figures", snapshot_figures(NODES, view, SNAPSHOT_ENTRY * NODES, sums));
-    printf("figures %u %u %u %u\n", (unsigned)sums[0], (unsigned)sums[1], (unsigned)sums[2], (unsigned)sums[3]);
+    expect_taken("figures", snapshot_figures(NODES, view, SNAPSHOT_ENTRY * NODES, figures));
+    printf("figures %u %u %u %u\n", (unsigned)figures[0], (unsigned)figures[1], (unsigned)figures[2],
+           (unsigned)figures[3]);
     return 0;
 }

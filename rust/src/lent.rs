@@ -121,11 +121,11 @@ pub fn write(
     unsafe { raw::snapshot_write(n, numbers, report, view.as_ptr(), view.len(), at, room, length) }
 }
 
-/// The four sums over a view of n nodes. Refusals: 12, 1, 7.
+/// The house figures over a view of n nodes. Refusals: 12, 1, 7.
 #[inline]
-pub fn figures(n: usize, view: &[u8], sums: &mut [u32; 4]) -> u8 {
+pub fn figures(n: usize, view: &[u8], figures: &mut [u32; 4]) -> u8 {
     // SAFETY: pointer and length of one slice; the array is lent by `&mut`, so it is apart from it.
-    unsafe { raw::snapshot_figures(n, view.as_ptr(), view.len(), sums) }
+    unsafe { raw::snapshot_figures(n, view.as_ptr(), view.len(), figures) }
 }
 
 /// Writes the desk's page of a view of n nodes at the front of `out`, and its length to `length`. Refusals: 12, 1, 7,

@@ -41,7 +41,7 @@ extern "C" {
         out_len: usize,
         length: *mut usize,
     ) -> u8;
-    pub fn snapshot_figures(n: usize, view: *const u8, view_len: usize, sums: *mut [u32; 4]) -> u8;
+    pub fn snapshot_figures(n: usize, view: *const u8, view_len: usize, figures: *mut [u32; 4]) -> u8;
     pub fn snapshot_page(
         n: usize,
         view: *const u8,

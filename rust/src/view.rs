@@ -107,7 +107,7 @@ impl View {
         (tag > 0).then(|| Entry { tag, report: Report::from_bytes(report.try_into().unwrap()) })
     }
 
-    /// The sums over its reports.
+    /// The house figures over its reports.
     pub fn figures(&self) -> Figures {
         figures(self.nodes, self.as_bytes()).expect("a view has figures")
     }
@@ -138,35 +138,37 @@ impl View {
     }
 }
 
-/// Sums over the reports of a view (document 01's house figures); a node without a report adds nothing.
+/// The house figures over the reports of a view; all are 0 where no node has reported.
 #[derive(Clone, Copy, Debug, Default, PartialEq, Eq)]
 pub struct Figures {
-    /// Extensions busy.
+    /// Extensions busy, added up.
     pub extensions: u32,
-    /// Outside lines busy.
+    /// Outside lines busy, added up.
     pub lines: u32,
-    /// Calls waiting.
+    /// Calls waiting, the largest count: all nodes watch one queue.
     pub waiting: u32,
-    /// Wake-up calls set.
+    /// Wake-up calls set, added up.
     pub wakeups: u32,
 }
 
-/// The sums over a view of n nodes in these bytes.
+/// The house figures over a view of n nodes in these bytes.
 ///
 /// Refusals: 12 (not 16n bytes), 1 (n is not 1 to 16), 7 (a tag above its limit, or a report beside tag 0).
 ///
 /// ```
 /// use snapshot::{figures, Refusal};
 ///
-/// let bytes = [0, 0, 0, 0, 0, 0, 0, 9, 0, 1, 0, 2, 0, 3, 0, 4];
-/// assert_eq!(figures(1, &bytes)?.lines, 2);
-/// assert_eq!(figures(2, &bytes), Err(Refusal::Length));
+/// let bytes = [[0, 0, 0, 0, 0, 0, 0, 9, 0, 1, 0, 2, 0, 3, 0, 4], [0, 0, 0, 0, 0, 0, 0, 8, 0, 1, 0, 2, 0, 5, 0, 4]];
+/// let bytes = bytes.concat();
+/// assert_eq!(figures(2, &bytes)?.lines, 4);
+/// assert_eq!(figures(2, &bytes)?.waiting, 5);
+/// assert_eq!(figures(1, &bytes), Err(Refusal::Length));
 /// # Ok::<(), Refusal>(())
 /// ```
 pub fn figures(n: usize, view: &[u8]) -> Result<Figures, Refusal> {
-    let mut sums = [0; 4];
-    accepted(lent::figures(n, view, &mut sums))?;
-    let [extensions, lines, waiting, wakeups] = sums;
+    let mut figures = [0; 4];
+    accepted(lent::figures(n, view, &mut figures))?;
+    let [extensions, lines, waiting, wakeups] = figures;
     Ok(Figures { extensions, lines, waiting, wakeups })
 }
 
@@ -248,7 +250,19 @@ mod tests {
         let all = [[0, 0, 0, 0, 0, 0, 0, 1], [255; 8]].concat().repeat(16);
         let sum = 16 * 65535;
         let figures = figures(16, &all).unwrap();
-        assert_eq!(figures, Figures { extensions: sum, lines: sum, waiting: sum, wakeups: sum });
+        assert_eq!(figures, Figures { extensions: sum, lines: sum, waiting: 65535, wakeups: sum });
+    }
+
+    #[test]
+    fn calls_waiting_are_the_largest_count() {
+        let three = [[0, 0, 0, 0, 0, 0, 0, 1], [0, 1, 0, 2, 0, 3, 0, 4]].concat();
+        let five = [[0, 0, 0, 0, 0, 0, 0, 2], [0, 10, 0, 20, 0, 5, 0, 40]].concat();
+        let both = Figures { extensions: 11, lines: 22, waiting: 5, wakeups: 44 };
+        assert_eq!(figures(2, &[&three[..], &five].concat()), Ok(both));
+        assert_eq!(figures(3, &[&five[..], &[0; 16], &three].concat()), Ok(both));
+        for n in 1..=16 {
+            assert_eq!(figures(n, &vec![0; ENTRY * n]), Ok(Figures::default()));
+        }
     }
 
     #[test]

@@ -30,8 +30,9 @@ fn printed(entries: &[Entry]) -> String {
         None => line(node, [(); 4].map(|()| "-".to_string())),
     };
     let lines: String = (1..).zip(entries).map(node).collect();
-    let sum = |i: usize| entries.iter().flatten().map(|(_, counts)| u32::from(counts[i])).sum::<u32>();
-    lines + &line("==", [0, 1, 2, 3].map(|i| sum(i).to_string()))
+    let each = |i: usize| entries.iter().flatten().map(move |(_, counts)| u32::from(counts[i]));
+    let figures = [each(0).sum(), each(1).sum(), each(2).max().unwrap_or(0), each(3).sum()];
+    lines + &line("==", figures.map(|figure| figure.to_string()))
 }
 
 /// Calls for a page with a buffer of so many bytes. A refusal leaves all of it and the length as they were; a page all
@@ -85,7 +86,7 @@ fn the_greatest_counts() {
     assert_eq!(lines.len(), 17);
     assert_eq!(lines[0], " 1   65535   65535   65535   65535");
     assert_eq!(lines[15], "16   65535   65535   65535   65535");
-    assert_eq!(lines[16], "== 1048560 1048560 1048560 1048560");
+    assert_eq!(lines[16], "== 1048560 1048560   65535 1048560");
 }
 
 #[test]

@@ -31,7 +31,7 @@ pub fn figures() -> f64 {
     for n in [1, 3, 5, 16] {
         for (absent, name) in [(0, "all"), (250, "some absent")] {
             let views = some_views(&mut dice, n, absent);
-            let t = Times::of(|| sum_all::<Proved>(n, &views), || sum_all::<Plain>(n, &views));
+            let t = Times::of(|| count_all::<Proved>(n, &views), || count_all::<Plain>(n, &views));
             let count = (ROUNDS * views.len()) as f64;
             println!("{n:>6} {name:>12} {:>12.0} {:>12.0} {:>8.2}", count / t.proved, count / t.plain, t.ratio());
             largest = largest.max(t.ratio());
@@ -40,13 +40,13 @@ pub fn figures() -> f64 {
     largest
 }
 
-fn sum_all<S: Side>(n: usize, views: &[Vec<u8>]) -> f64 {
-    let mut sums = [0; 4];
+fn count_all<S: Side>(n: usize, views: &[Vec<u8>]) -> f64 {
+    let mut figures = [0; 4];
     seconds(|| {
         for _ in 0..ROUNDS {
             for view in views {
-                black_box(S::figures(n, black_box(view), &mut sums));
-                black_box(&sums);
+                black_box(S::figures(n, black_box(view), &mut figures));
+                black_box(&figures);
             }
         }
     })

@@ -13,8 +13,8 @@ const CELL: usize = 8;
 
 /// The figures of the view and the bytes of `out` that are for the page; or 12, 1, 7, 15.
 fn admitted<'a>(n: usize, view: &[u8], out: &'a mut [u8]) -> Result<([u32; 4], &'a mut [u8]), Refusal> {
-    let sums = figures(n, view)?;
-    Ok((sums, out.get_mut(..LINE * (n + 1)).ok_or(15)?))
+    let figures = figures(n, view)?;
+    Ok((figures, out.get_mut(..LINE * (n + 1)).ok_or(15)?))
 }
 
 /// The counts of an entry; none where it has no report.
@@ -46,7 +46,7 @@ fn put_counts(line: &mut [u8], counts: Option<[u32; 4]>) {
 
 /// Writes the page of a view of n nodes at the front of `out`: its length, or 12, 1, 7, 15.
 pub fn page(n: usize, view: &[u8], out: &mut [u8]) -> Result<usize, Refusal> {
-    let (sums, page) = admitted(n, view, out)?;
+    let (figures, page) = admitted(n, view, out)?;
     page.fill(b' ');
     let (lines, last) = page.split_at_mut(LINE * n);
     for ((node, line), entry) in (1..).zip(lines.chunks_exact_mut(LINE)).zip(view.chunks_exact(16)) {
@@ -54,24 +54,24 @@ pub fn page(n: usize, view: &[u8], out: &mut [u8]) -> Result<usize, Refusal> {
         put_counts(line, counts(entry));
     }
     last[..LABEL].fill(b'=');
-    put_counts(last, Some(sums));
+    put_counts(last, Some(figures));
     Ok(LINE * (n + 1))
 }
 
 /// The same by the formats of the standard library.
 pub fn page_by_write(n: usize, view: &[u8], out: &mut [u8]) -> Result<usize, Refusal> {
-    let (sums, page) = admitted(n, view, out)?;
-    write_lines(view, sums, page).expect("a page has room for its lines");
+    let (figures, page) = admitted(n, view, out)?;
+    write_lines(view, figures, page).expect("a page has room for its lines");
     Ok(LINE * (n + 1))
 }
 
-fn write_lines(view: &[u8], sums: [u32; 4], mut page: &mut [u8]) -> io::Result<()> {
+fn write_lines(view: &[u8], figures: [u32; 4], mut page: &mut [u8]) -> io::Result<()> {
     for (node, entry) in (1..).zip(view.chunks_exact(16)) {
         match counts(entry) {
             Some([a, b, c, d]) => writeln!(page, "{node:>2} {a:>7} {b:>7} {c:>7} {d:>7}")?,
             None => writeln!(page, "{node:>2} {0:>7} {0:>7} {0:>7} {0:>7}", '-')?,
         }
     }
-    let [a, b, c, d] = sums;
+    let [a, b, c, d] = figures;
     writeln!(page, "== {a:>7} {b:>7} {c:>7} {d:>7}")
 }

@@ -68,7 +68,7 @@ pub record Apart : Type 0 where
   pub reading : (n : ℕ) (b : List ℕ) → Numbered lastRefusal (decode n b)
   pub walking : (n : ℕ) (b : List ℕ) → Numbered lastRefusal (front n b)
   pub writing : (n : ℕ) (m : Message) (v : List ℕ) (room : ℕ) → Numbered lastRefusal (answer n m v room)
-  pub summing : (n : ℕ) (v : List ℕ) → Numbered lastRefusal (figuresOf n v)
+  pub counting : (n : ℕ) (v : List ℕ) → Numbered lastRefusal (figuresOf n v)
   pub printing : (n : ℕ) (v : List ℕ) (room : ℕ) → Numbered pageRefusal (pageIn n v room)
   -- No ending has a refusal's code, nor any other that is left for one: below those of done, and not spent's.
   pub endings : (k : ℕ) → 1 ≤ k → k < doneFrom → (k ≡ spentNumber → ⊥) → (x : Ending) (v : View)

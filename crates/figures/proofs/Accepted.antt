@@ -1,5 +1,5 @@
 -- What is known where there are figures, and that they depend on what is counted of each node alone.
-use Prim.Native.Nat.{ℕ, _*_, _<_, _≤_}
+use Prim.Native.Nat.{ℕ, _+_, _*_, _<_, _≤_, max}
 use mathlib.Core.Path.{_≡_, refl, sym, ap}
 use mathlib.Core.Bool.{Bool, true, false}
 use mathlib.Core.List.{List}
@@ -10,7 +10,7 @@ use borrow.Author.Tests.{eqb-true, eq-eqb, leb-true}
 use Rattle.octets.specs.Answer.{Answer, result, refused}
 use Rattle.octets.specs.Test.{pick}
 use Rattle.octets.specs.Bytes.{Bytes}
-use Rattle.octets.proofs.Loop.{sumTo-ext}
+use Rattle.octets.proofs.Loop.{foldTo-ext}
 use Rattle.octets.proofs.Test.{both-right}
 use Rattle.view.specs.Size.{nodes, isSize, limit, entrySize, viewSize}
 use Rattle.view.specs.View.{viewOk}
@@ -72,18 +72,18 @@ module _ (n : ℕ) (v : List ℕ) (t : Totals) (h : Accepted n v t) where
   accepted-fit b = rw (h .are) (totals-fit n v b accepted-size)
 
 -- the same reports counted give the same figures
-total-same : (count : Report → ℕ) (n : ℕ) (v w : List ℕ)
-    → ((i : ℕ) → i < n → countedReport v i ≡ countedReport w i) → total count n v ≡ total count n w
-total-same count n v w h =
-    sumTo-ext n (λ i. count (countedReport v i)) (λ i. count (countedReport w i)) (λ i l. ap count (h i l))
+total-same : (op : ℕ → ℕ → ℕ) (count : Report → ℕ) (n : ℕ) (v w : List ℕ)
+    → ((i : ℕ) → i < n → countedReport v i ≡ countedReport w i) → total op count n v ≡ total op count n w
+total-same op count n v w h =
+    foldTo-ext n op 0 (λ i. count (countedReport v i)) (λ i. count (countedReport w i)) (λ i l. ap count (h i l))
 
 pub totals-same : (n : ℕ) (v w : List ℕ) → ((i : ℕ) → i < n → countedReport v i ≡ countedReport w i)
     → totals n v ≡ totals n w
 unfolding totals
 totals-same n v w h =
     rw (
-      total-same (λ p. p .extensions) n v w h,
-      total-same (λ p. p .lines) n v w h,
-      total-same (λ p. p .waiting) n v w h,
-      total-same (λ p. p .wakeups) n v w h,
+      total-same _+_ (λ p. p .extensions) n v w h,
+      total-same _+_ (λ p. p .lines) n v w h,
+      total-same max (λ p. p .waiting) n v w h,
+      total-same _+_ (λ p. p .wakeups) n v w h,
     )

@@ -1,30 +1,28 @@
--- The length of n entries, what an entry of a valid view shows, and how great a figure can be.
-use Prim.Native.Nat.{ℕ, _+_, _*_, _/_, _%_, _^_, _<_, _≤_}
+-- The length of n entries, when an entry may stand in a view and what it shows there, and how great a figure can be.
+use Prim.Native.Nat.{ℕ, _+_, _*_, _/_, _%_, _^_, _<_, _≤_, max}
 use mathlib.Core.Path.{_≡_, refl, sym, ap, _∙_}
 use mathlib.Core.Bool.{Bool, true, false}
 use mathlib.Core.List.{List}
 use native.Mathlib.Decide.{ℕ-discrete}
 use native.Mathlib.Omega.{arith}
 use lib.ListN.{length, getD}
-use lib.Dec.{eqb, ltb}
-use borrow.Author.Tests.{eqb-true, eq-eqb, ne-eqb, le-leb, ltb-true}
+use lib.Dec.{eqb, ltb, leb}
+use borrow.Author.Tests.{eqb-true, eq-eqb, ne-eqb, leb-true, le-leb, ltb-true, lt-ltb}
 use Rattle.octets.specs.Test.{pick, both}
 use Rattle.octets.specs.Bytes.{Bytes, part}
 use Rattle.octets.proofs.Test.{both-left, both-right, both-true}
 use Rattle.octets.proofs.Number.{num-eight}
 use Rattle.octets.proofs.Put.{part-bytes, getD-part, length-part}
-use Rattle.octets.specs.Loop.{allTo}
-use Rattle.octets.proofs.Loop.{sumTo-le, allTo-at, allTo-all}
+use Rattle.octets.proofs.Loop.{foldTo-le}
 use Rattle.octets.specs.Word.{word}
 use Rattle.view.specs.Report.{noReport, reportOf}
 use Rattle.view.specs.Size.{nodes, limit, tagSize, reportSize, entrySize}
-use Rattle.view.specs.View.{tagAt, reportAt, viewOk, entryOkAt}
+use Rattle.view.specs.View.{tagAt, reportAt, viewOk, entryOk}
 use Rattle.view.proofs.ReportBytes.{counts-of}
 use Rattle.view.proofs.ViewBytes.{ok-report}
 use Rattle.view.specs.declared.Report.{Report}
 use Rattle.figures.specs.declared.Totals.{Totals}
 use Rattle.figures.specs.Figures.{countedReport, total, totals, countMost, figureMost}
-use Rattle.figures.specs.Plain.{plain}
 
 same-test : (x y : Bool) → (x ≡ true → y ≡ true) → (y ≡ true → x ≡ true) → x ≡ y
 same-test true y f g = sym (f refl)
@@ -49,27 +47,14 @@ long-is n len =
         let e : len ≡ entrySize * n = eqb-true len (entrySize * n) h in
         both-true (eq-eqb (len % entrySize) 0 (omega arith)) (eq-eqb (len / entrySize) n (omega arith))
 
--- entry i is plain
-abbrev pub plainAt : List ℕ → ℕ → Bool
-plainAt v i = plain (getD v (entrySize * i) 0) (getD v (entrySize * i + 7) 0)
-
 -- any report may stand beside a tag that is not 0
 beside : (tag report : ℕ) → (tag ≡ 0 → ⊥) → pick (eqb tag 0) (eqb report 0) true ≡ true
 beside tag report t = rw (ne-eqb tag 0 t) refl
 
--- a plain entry may stand in a view
-module _ (v : List ℕ) (i : ℕ) (h : Bytes v) (l : entrySize * i + tagSize ≤ length v) where
-  abbrev at : ℕ
-  at = entrySize * i
-
-  abbrev lo : Bool
-  lo = ltb (getD v at 0) 128
-
-  abbrev hi : Bool
-  hi = ltb 0 (getD v (at + 7) 0)
-
+-- an entry whose tag has a last byte that is not 0 is judged by the first byte
+module _ (v : List ℕ) (at : ℕ) (h : Bytes v) (l : at + tagSize ≤ length v) where
   g : Bytes (part v at tagSize)
-  g = part-bytes v at 8 h
+  g = part-bytes v at tagSize h
 
   first : getD (part v at tagSize) 0 0 ≡ getD v at 0
   first = let z : at + 0 ≡ at = omega arith in getD-part v at tagSize 0 (omega arith) ∙ ap (λ (j : ℕ). getD v j 0) z
@@ -77,29 +62,31 @@ module _ (v : List ℕ) (i : ℕ) (h : Bytes v) (l : entrySize * i + tagSize ≤
   last : getD (part v at tagSize) 7 0 ≡ getD v (at + 7) 0
   last = getD-part v at tagSize 7 (omega arith)
 
-  pub plain-entry : plainAt v i ≡ true → entryOkAt limit v i ≡ true
-  plain-entry e =
+  pub by-first : 0 < getD v (at + 7) 0 → entryOk limit (word v at) (word v (at + tagSize)) ≡ ltb (getD v at 0) 128
+  by-first m =
       let k = num-eight (part v at tagSize) (length-part v at tagSize l) in
-      let m : getD v at 0 < 128 = ltb-true _ _ (both-left lo hi e) in
-      let n : 0 < getD v (at + 7) 0 = ltb-true _ _ (both-right lo hi e) in
-      let t : word v at ≡ 0 → ⊥ = λ y. omega (arith, k, last, n, y) in
-      both-true (le-leb (word v at) limit (omega (arith, k, first, m, g 1, g 2, g 3, g 4, g 5, g 6, g 7)))
-      (beside (word v at) (word v (at + tagSize)) t)
+      let t : word v at ≡ 0 → ⊥ = λ y. omega (arith, k, last, m, y) in
+      same-test (entryOk limit (word v at) (word v (at + tagSize))) (ltb (getD v at 0) 128)
+      (λ e. lt-ltb (getD v at 0) 128
+      (omega (arith, k, first, leb-true (word v at) limit (both-left (leb (word v at) limit) _ e))))
+      (λ e. both-true (le-leb (word v at) limit
+      (omega (arith, k, first, ltb-true (getD v at 0) 128 e, g 1, g 2, g 3, g 4, g 5, g 6, g 7)))
+      (beside (word v at) (word v (at + tagSize)) t))
 
--- plain entries are a view
-pub plain-view : (n : ℕ) (v : List ℕ) → Bytes v → entrySize * n ≤ length v → allTo n (plainAt v) ≡ true
-    → viewOk n limit v ≡ true
-unfolding viewOk
-plain-view n v h l e =
-    allTo-all n (entryOkAt limit v) (λ i m. plain-entry v i h (omega arith) (allTo-at n (plainAt v) i e m))
+-- what an entry counts with, by its tag
+module _ (v : List ℕ) (i : ℕ) where
+  pub counted-none : tagAt v i ≡ 0 → countedReport v i ≡ noReport
+  counted-none e = ap (λ (t : Bool). pick t noReport (reportAt v i)) (eq-eqb (tagAt v i) 0 e)
+
+  pub counted-some : (tagAt v i ≡ 0 → ⊥) → countedReport v i ≡ reportAt v i
+  counted-some e = ap (λ (t : Bool). pick t noReport (reportAt v i)) (ne-eqb (tagAt v i) 0 e)
 
 -- an entry of a valid view shows its report, which is none beside tag 0
 pub countedReport-is : (n : ℕ) (v : List ℕ) → viewOk n limit v ≡ true → Bytes v → entrySize * n ≤ length v
     → (i : ℕ) → i < n → reportAt v i ≡ countedReport v i
 countedReport-is n v ok h l i m = elim (ℕ-discrete (tagAt v i) 0) [
-  | yes e ↦ ok-report n limit v ok i m h l e ∙ sym (ap (λ (t : Bool). pick t noReport (reportAt v i))
-      (eq-eqb (tagAt v i) 0 e))
-  | no e ↦ sym (ap (λ (t : Bool). pick t noReport (reportAt v i)) (ne-eqb (tagAt v i) 0 e))
+  | yes e ↦ ok-report n limit v ok i m h l e ∙ sym (counted-none v i e)
+  | no e ↦ sym (counted-some v i e)
 ]
 
 -- a count has sixteen bits in each report that bytes are, so it is at most `countMost`
@@ -112,25 +99,22 @@ countedReport-most : (count : Report → ℕ) → Count count → (t : Bool) (b 
 countedReport-most count c true b h = rw (c .none) (omega arith)
 countedReport-most count c false b h = omega (arith, c .most b h)
 
-pub total-fits : (count : Report → ℕ) (n : ℕ) (v : List ℕ) → Count count → Bytes v → n ≤ nodes
-    → total count n v ≤ figureMost
-total-fits count n v c h l =
-    let m : total count n v ≤ n * countMost =
-    sumTo-le n countMost (λ i. count (countedReport v i))
+-- put together to no more than their sum
+pub total-fits : (op : ℕ → ℕ → ℕ) → ((a b : ℕ) → op a b ≤ a + b) → (count : Report → ℕ) → Count count
+    → (n : ℕ) (v : List ℕ) → Bytes v → n ≤ nodes → total op count n v ≤ figureMost
+total-fits op less count c n v h l =
+    let m : total op count n v ≤ n * countMost =
+    foldTo-le n countMost op (λ i. count (countedReport v i)) less
     (λ i. countedReport-most count c (eqb (tagAt v i) 0) (part v (entrySize * i + tagSize) reportSize)
     (part-bytes v (entrySize * i + tagSize) reportSize h)) in
     omega arith
 
--- each of the four figures is at most m
-pub record AtMost (m : ℕ) (t : Totals) : Type 0 where
-  pub extensions : t .extensions ≤ m
-  pub lines : t .lines ≤ m
-  pub waiting : t .waiting ≤ m
-  pub wakeups : t .wakeups ≤ m
-
--- at most the greatest, which fits 32 bits
-abbrev pub Fit : Totals → Type 0
-Fit t = AtMost figureMost t
+-- each of the four figures is at most the greatest, which fits 32 bits
+pub record Fit (t : Totals) : Type 0 where
+  pub extensions : t .extensions ≤ figureMost
+  pub lines : t .lines ≤ figureMost
+  pub waiting : t .waiting ≤ figureMost
+  pub wakeups : t .wakeups ≤ figureMost
 
 pub most-fits : figureMost < 2 ^ 32
 most-fits = omega arith
@@ -139,9 +123,12 @@ pub totals-fit : (n : ℕ) (v : List ℕ) → Bytes v → n ≤ nodes → Fit (t
 unfolding totals
 totals-fit n v h l =
     let c = counts-of in
+    let sum : (count : Report → ℕ) → Count count → total _+_ count n v ≤ figureMost =
+    λ count k. total-fits _+_ (λ a b. omega arith) count k n v h l in
     record {
-      extensions = total-fits (λ p. p .extensions) n v (record { none = refl; most = λ b g. c b g .extensions }) h l;
-      lines = total-fits (λ p. p .lines) n v (record { none = refl; most = λ b g. c b g .lines }) h l;
-      waiting = total-fits (λ p. p .waiting) n v (record { none = refl; most = λ b g. c b g .waiting }) h l;
-      wakeups = total-fits (λ p. p .wakeups) n v (record { none = refl; most = λ b g. c b g .wakeups }) h l;
+      extensions = sum (λ p. p .extensions) (record { none = refl; most = λ b g. c b g .extensions });
+      lines = sum (λ p. p .lines) (record { none = refl; most = λ b g. c b g .lines });
+      waiting = total-fits max (λ a b. omega arith) (λ p. p .waiting)
+          (record { none = refl; most = λ b g. c b g .waiting }) n v h l;
+      wakeups = sum (λ p. p .wakeups) (record { none = refl; most = λ b g. c b g .wakeups });
     }

@@ -1,34 +1,35 @@
--- House figures of document 01: four sums over a view for n nodes, in which no report adds zero.
-use Prim.Native.Nat.{ℕ, _+_, _*_}
+-- House figures: over a view for n nodes, each count of the reports put together; no report counts as four zeros. Three
+-- are sums, as in document 01. Of calls waiting it is the largest, by document 02, since all nodes watch one queue.
+use Prim.Native.Nat.{ℕ, _+_, _*_, max}
 use mathlib.Core.List.{List}
 use lib.ListN.{length}
 use lib.Dec.{eqb}
 use Rattle.octets.specs.Answer.{Answer, result, refused}
 use Rattle.octets.specs.Test.{pick}
-use Rattle.octets.specs.Loop.{sumTo}
+use Rattle.octets.specs.Loop.{foldTo}
 use Rattle.view.specs.Size.{nodes, isSize, limit, entrySize}
 use Rattle.view.specs.Report.{noReport}
 use Rattle.view.specs.View.{tagAt, reportAt, viewOk}
 use Rattle.view.specs.declared.Report.{Report}
 use Rattle.figures.specs.declared.Totals.{Totals}
-use Rattle.figures.specs.declared.Summed.{Summed}
-use Rattle.figures.specs.declared.Summed.the-variants.{Sums, Refused}
+use Rattle.figures.specs.declared.Counted.{Counted}
+use Rattle.figures.specs.declared.Counted.the-variants.{Figures, Refused}
 
 -- the report that entry i counts with: no report, four zeros, beside tag 0
 abbrev pub countedReport : List ℕ → ℕ → Report
 countedReport v i = pick (eqb (tagAt v i) 0) noReport (reportAt v i)
 
--- the sum of one count over n entries
-abbrev pub total : (Report → ℕ) → ℕ → List ℕ → ℕ
-total count n v = sumTo n (λ i. count (countedReport v i))
+-- one count over n entries, put together by `op`
+abbrev pub total : (op : ℕ → ℕ → ℕ) (count : Report → ℕ) → ℕ → List ℕ → ℕ
+total op count n v = foldTo n op 0 (λ i. count (countedReport v i))
 
 unfoldable pub totals : ℕ → List ℕ → Totals
 totals n v =
     record {
-      extensions = total (λ p. p .extensions) n v;
-      lines = total (λ p. p .lines) n v;
-      waiting = total (λ p. p .waiting) n v;
-      wakeups = total (λ p. p .wakeups) n v;
+      extensions = total _+_ (λ p. p .extensions) n v;
+      lines = total _+_ (λ p. p .lines) n v;
+      waiting = total max (λ p. p .waiting) n v;
+      wakeups = total _+_ (λ p. p .wakeups) n v;
     }
 
 -- the figures of no report, and those with one more
@@ -40,7 +41,7 @@ withReport t p =
     record {
       extensions = t .extensions + p .extensions;
       lines = t .lines + p .lines;
-      waiting = t .waiting + p .waiting;
+      waiting = max (t .waiting) (p .waiting);
       wakeups = t .wakeups + p .wakeups;
     }
 
@@ -58,6 +59,6 @@ figuresOf n v =
     (pick (isSize n) (pick (viewOk n limit v) (result (totals n v)) (refused 7)) (refused 1)) (refused 12)
 
 -- what the answer says in document 01's terms
-abbrev pub summed : Summed → Answer Totals
-summed (Sums t) = result t
-summed (Refused c) = refused c
+abbrev pub counted : Counted → Answer Totals
+counted (Figures t) = result t
+counted (Refused c) = refused c

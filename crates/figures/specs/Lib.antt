@@ -1,3 +1,3 @@
+pub mod Claims
 pub mod Figures
-pub mod Plain
 pub mod Room

@@ -1,21 +1,22 @@
-// House figures: four sums over the bytes of a view.
+// House figures over the bytes of a view: three sums, and the largest of calls waiting.
 ghost use mathlib.Core.Path.{_≡_};
-ghost use mathlib.Core.Bool.{true};
-ghost use Prim.Native.Nat.{_≤_};
+ghost use Prim.Native.Nat.{_+_, _≤_, max};
 ghost use lib.ListN.{length};
 ghost use lib.Dec.{eqb};
-ghost use Rattle.view.specs.Size.{nodes, limit, viewSize};
-ghost use Rattle.view.specs.View.{viewOk};
-ghost use Rattle.figures.specs.Figures.{noTotals, withReport, totals, figuresOf, summed};
+ghost use Rattle.octets.specs.Answer.{result, refused};
+ghost use Rattle.octets.specs.Test.{pick};
+ghost use Rattle.octets.specs.Word.{word};
+ghost use Rattle.view.specs.Size.{nodes, limit, tagSize, entrySize, viewSize};
+ghost use Rattle.view.specs.View.{entryOk, viewOk};
+ghost use Rattle.figures.specs.Figures.{noTotals, withReport, totals, figuresOf, counted};
 ghost use Rattle.figures.specs.Room.{Roomy};
-ghost use Rattle.figures.specs.Plain.{plain};
 use view::ENTRY;
 use view::LIMIT;
 use view::NODES;
 use view::Report;
 use view::TAG;
 
-// The four sums.
+// The four figures: sums, and of calls waiting the largest.
 pub struct Totals {
     pub extensions: u32,
     pub lines: u32,
@@ -23,9 +24,9 @@ pub struct Totals {
     pub wakeups: u32,
 }
 
-// The sums, or the number of a refusal.
-pub enum Summed {
-    Sums(Totals),
+// The figures, or the number of a refusal.
+pub enum Counted {
+    Figures(Totals),
     Refused(u8),
 }
 
@@ -39,18 +40,11 @@ pub fn is_long(n: usize, len: usize) -> bool
 // Where the last byte of a tag stands in it.
 const LAST: usize = TAG - 1;
 
-// Whether the first and the last byte of a tag show that it may stand in a view beside any report: it is within its
-// limit where the first is below 128, and not 0 where the last is not.
-fn is_plain(first: u8, last: u8) -> bool
-    ensures { λ r. ⌜ r ≡ plain first last ⌝ }
+// The larger of two numbers.
+fn larger(a: u32, b: u32) -> u32
+    ensures { λ r. ⌜ r ≡ max a b ⌝ }
 {
-    octets::and(first < 128, 0 < last)
-}
-
-// The sums over n entries, and whether each of them is plain.
-struct Tally {
-    sums: Totals,
-    plain: bool,
+    if a <= b { b } else { a }
 }
 
 // No report counted.
@@ -73,57 +67,56 @@ pub fn with_report(t: Totals, p: Report) -> Totals
     Totals {
         extensions: t.extensions + p.extensions as u32,
         lines: t.lines + p.lines as u32,
-        waiting: t.waiting + p.waiting as u32,
+        waiting: larger(t.waiting, p.waiting as u32),
         wakeups: t.wakeups + p.wakeups as u32,
     }
 }
 
-// Adds up n entries. If all are plain, they are a view; if not, they may be one, and what stands beside tag 0 of a view
-// adds nothing. The loop tests no report, and is quicker so.
-fn add_up(n: usize, v: &[u8]) -> Tally
-    requires { ⌜ (n ≤ nodes) × (viewSize n ≤ length (now v)) ⌝ }
-    ensures { λ r. ⌜ (r .plain ≡ true → viewOk n limit (now (v .entry)) ≡ true)
-        × (viewOk n limit (now (v .entry)) ≡ true → r .sums ≡ totals n (now (v .entry))) ⌝ }
+// Whether the entry at a place may stand in a view. A tag whose last byte is not 0 is not 0, so any report may stand
+// beside it, and its first byte tells whether it is within its limit: two bytes are read of most entries.
+fn is_entry(v: &[u8], at: usize) -> bool
+    requires { ⌜ at + entrySize ≤ length (now v) ⌝ }
+    ensures { λ r. ⌜ r ≡ entryOk limit (word (now (v .entry)) at) (word (now (v .entry)) (at + tagSize)) ⌝ }
 {
-    let mut sums = no_totals();
-    let mut all = true;
+    if 0 < v[at + LAST] {
+        return v[at] < 128;
+    }
+    view::entry_ok(LIMIT, v, at)
+}
+
+// The figures over n entries, or 7 where one of them cannot stand in a view.
+fn count_entries(n: usize, v: &[u8]) -> Counted
+    requires { ⌜ (n ≤ nodes) × (viewSize n ≤ length (now v)) ⌝ }
+    ensures { λ r. ⌜ counted r
+        ≡ pick (viewOk n limit (now (v .entry))) (result (totals n (now (v .entry)))) (refused 7) ⌝ }
+{
+    let mut t = no_totals();
     let mut i = 0;
     while i < n {
         let at = ENTRY * i;
-        let middle = at + TAG;
-        let end = at + ENTRY;
-        let p = view::read_report(&v[middle..end]);
-        all = octets::and(is_plain(v[at], v[at + LAST]), all);
-        sums = with_report(sums, p);
-        i += 1;
+        if is_entry(v, at) {
+            let middle = at + TAG;
+            let end = at + ENTRY;
+            t = with_report(t, view::read_report(&v[middle..end]));
+            i += 1;
+        } else {
+            return Counted::Refused(7);
+        }
     }
-    Tally {
-        sums: sums,
-        plain: all,
-    }
+    Counted::Figures(t)
 }
 
-// The four sums over a view of n nodes, or 12, 1, 7.
-pub fn figures(n: usize, v: &[u8]) -> Summed
-    ensures { λ r. ⌜ summed r ≡ figuresOf n (now (v .entry)) ⌝ }
+// The figures over a view of n nodes, or 12, 1, 7.
+pub fn figures(n: usize, v: &[u8]) -> Counted
+    ensures { λ r. ⌜ counted r ≡ figuresOf n (now (v .entry)) ⌝ }
 {
     if is_long(n, v.len()) {
         if octets::and(1 <= n, n <= NODES) {
-            let t = add_up(n, v);
-            let sums = t.sums;
-            if t.plain {
-                Summed::Sums(sums)
-            } else {
-                if view::view_ok(n, LIMIT, v) {
-                    Summed::Sums(sums)
-                } else {
-                    Summed::Refused(7)
-                }
-            }
+            count_entries(n, v)
         } else {
-            Summed::Refused(1)
+            Counted::Refused(1)
         }
     } else {
-        Summed::Refused(12)
+        Counted::Refused(12)
     }
 }

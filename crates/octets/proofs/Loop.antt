@@ -8,7 +8,7 @@ use native.Mathlib.Nat.{le-of-suc-le-suc, eq-or-lt-of-le, not-suc-le-zero}
 use native.Mathlib.Numerals.{add-one}
 use native.Mathlib.Omega.{arith}
 use Rattle.octets.specs.Test.{both}
-use Rattle.octets.specs.Loop.{upTo, allTo, sumTo, each}
+use Rattle.octets.specs.Loop.{upTo, foldTo, Combining, allTo, each}
 use Rattle.octets.proofs.Test.{both-left, both-right, both-true}
 
 -- k below n + 1 is n, or below n
@@ -37,6 +37,35 @@ pub upTo-first : {A : Type 0} (k : ℕ) (f : ℕ → A → A) (a : A) → upTo (
 unfolding upTo
 upTo-first zero f a = refl
 upTo-first (suc k) f a = ap (f (suc k)) (upTo-first k f a)
+
+-- ---- foldTo
+
+pub foldTo-ext : {A : Type 0} (k : ℕ) (op : A → A → A) (none : A) (f g : ℕ → A) → ((i : ℕ) → i < k → f i ≡ g i)
+    → foldTo k op none f ≡ foldTo k op none g
+foldTo-ext k op none f g h = upTo-ext k (λ i a. op a (f i)) (λ i a. op a (g i)) none (λ i a l. ap (op a) (h i l))
+
+-- numbers of at most m each, put together to no more than their sum
+pub foldTo-le : (k m : ℕ) (op : ℕ → ℕ → ℕ) (f : ℕ → ℕ) → ((a b : ℕ) → op a b ≤ a + b) → ((i : ℕ) → f i ≤ m)
+    → foldTo k op 0 f ≤ k * m
+unfolding upTo
+foldTo-le zero m op f g h = omega arith
+foldTo-le (suc k) m op f g h = omega (arith, foldTo-le k m op f g h, g (foldTo k op 0 f) (f k), h k)
+
+-- two rules, put together number by number or each by itself first
+module _ {A : Type 0} {op : A → A → A} {none : A} (c : Combining op none) where
+  crossed : (a b x y : A) → op (op a b) (op x y) ≡ op (op a x) (op b y)
+  crossed a b x y =
+      c .associative a b (op x y)
+      ∙ ap (op a) (sym (c .associative b x y) ∙ ap (λ z. op z y) (c .commutative b x) ∙ c .associative x b y)
+      ∙ sym (c .associative a x (op b y))
+
+  pub foldTo-both : (k : ℕ) (f g : ℕ → A)
+      → foldTo k op none (λ i. op (f i) (g i)) ≡ op (foldTo k op none f) (foldTo k op none g)
+  unfolding upTo
+  foldTo-both zero f g = sym (c .neutral none)
+  foldTo-both (suc k) f g =
+      ap (λ z. op z (op (f k) (g k))) (foldTo-both k f g)
+      ∙ crossed (foldTo k op none f) (foldTo k op none g) (f k) (g k)
 
 -- ---- allTo
 
@@ -75,28 +104,6 @@ pub allTo-ext : (k : ℕ) (p q : ℕ → Bool) → ((i : ℕ) → i < k → p i 
 unfolding allTo
 allTo-ext zero p q h = refl
 allTo-ext (suc k) p q h = ap₂ both (h k (omega arith)) (allTo-ext k p q (λ i l. h i (omega arith)))
-
--- ---- sumTo
-
-pub sumTo-none : (f : ℕ → ℕ) → sumTo 0 f ≡ 0
-unfolding sumTo
-sumTo-none f = refl
-
-pub sumTo-more : (k : ℕ) (f : ℕ → ℕ) → sumTo (k + 1) f ≡ sumTo k f + f k
-unfolding sumTo
-sumTo-more k f = rw (add-one k)
-
--- numbers below m have a sum of at most m each
-pub sumTo-le : (k m : ℕ) (f : ℕ → ℕ) → ((i : ℕ) → f i ≤ m) → sumTo k f ≤ k * m
-unfolding sumTo
-sumTo-le zero m f h = omega arith
-sumTo-le (suc k) m f h = omega (arith, sumTo-le k m f h, h k)
-
-pub sumTo-ext : (k : ℕ) (f g : ℕ → ℕ) → ((i : ℕ) → i < k → f i ≡ g i) → sumTo k f ≡ sumTo k g
-unfolding sumTo
-sumTo-ext zero f g h = refl
-sumTo-ext (suc k) f g h =
-    ap₂ (λ (x y : ℕ). x + y) (sumTo-ext k f g (λ i l. h i (omega arith))) (h k (omega arith))
 
 -- ---- each
 

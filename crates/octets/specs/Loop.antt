@@ -1,6 +1,7 @@
--- What loops compute: a value changed for each number below k, a test of all of them, the sum and the list of a rule's
--- values, the runs of a rule one after the other, and a value changed for each element of a list.
-use Prim.Native.Nat.{ℕ, zero, suc, _+_}
+-- What loops compute: a value changed for each number below k, a rule's values put together, a test of all of them, the
+-- list of them, the runs of a rule one after the other, and a value changed for each element of a list.
+use Prim.Native.Nat.{ℕ, zero, suc}
+use mathlib.Core.Path.{_≡_}
 use mathlib.Core.Bool.{Bool, true}
 use mathlib.Core.List.{List, [], _∷_, _++_}
 use Rattle.octets.specs.Test.{both}
@@ -9,13 +10,19 @@ unfoldable pub upTo : {A : Type 0} → ℕ → (ℕ → A → A) → A → A
 upTo zero f a = a
 upTo (suc k) f a = f k (upTo k f a)
 
+-- f 0, f 1, .. f (k - 1) put together by `op`; where k is 0, `none`
+abbrev pub foldTo : {A : Type 0} → ℕ → (op : A → A → A) (none : A) → (ℕ → A) → A
+foldTo k op none f = upTo k (λ i a. op a (f i)) none
+
+-- What makes it no matter in which order values are put together, or in which groups.
+pub record Combining {A : Type 0} (op : A → A → A) (none : A) : Type 0 where
+  pub commutative : (a b : A) → op a b ≡ op b a
+  pub associative : (a b c : A) → op (op a b) c ≡ op a (op b c)
+  pub neutral : (a : A) → op a none ≡ a
+
 unfoldable pub allTo : ℕ → (ℕ → Bool) → Bool
 allTo zero p = true
 allTo (suc k) p = both (p k) (allTo k p)
-
-unfoldable pub sumTo : ℕ → (ℕ → ℕ) → ℕ
-sumTo zero f = 0
-sumTo (suc k) f = sumTo k f + f k
 
 -- f 0, f 1, .. f (k - 1)
 unfoldable pub tab : {A : Type 0} → ℕ → (ℕ → A) → List A

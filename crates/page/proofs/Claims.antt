@@ -10,7 +10,7 @@ use lib.Dec.{leb}
 use Rattle.octets.specs.Answer.{Answer, result, refused}
 use Rattle.octets.specs.Bytes.{Bytes, part, put}
 use Rattle.octets.specs.Test.{pick}
-use Rattle.octets.specs.Loop.{allTo, sumTo, tab, join}
+use Rattle.octets.specs.Loop.{upTo, allTo, tab, join}
 use Rattle.octets.proofs.Table.{length-tab, getD-tab}
 use Rattle.view.specs.Size.{nodes, limit}
 use Rattle.view.specs.Report.{reportOf}
@@ -165,9 +165,9 @@ leaves =
 -- ---- computed
 
 pub example : Example
-unfolding pageOf contentsOf figuresOf totals pageText join pageLine right fewest tab viewOk allTo part reportOf sumTo
+unfolding pageOf contentsOf figuresOf totals pageText join pageLine right fewest tab viewOk upTo allTo part reportOf
 example = refl
 
 pub reached : Reached
-unfolding figuresOf totals join viewOk allTo part reportOf sumTo
+unfolding figuresOf totals join viewOk upTo allTo part reportOf
 reached = (all-bytes full refl, (totals nodes full, refl, refl))

@@ -1,6 +1,6 @@
 -- The clauses of the points that follow from others, of any calls: from which single fact. They say a case in document
 -- 01's words, and rule out no call that that fact does not. In the law on channels `only` follows from `full`, by
--- `only-if-full`.
+-- `only-if-full`; the clauses on calls waiting follow from that on figures, by `one-queue-holds`.
 use Prim.Native.Nat.{ℕ, _+_, _*_, _≤_, _<_}
 use native.Mathlib.Omega.{arith}
 use mathlib.Core.Path.{_≡_, refl, sym, ap, _∙_}
@@ -9,7 +9,7 @@ use mathlib.Core.List.{List, [], _∷_, map}
 use lib.ListN.{length, replicate, length-replicate}
 use Rattle.octets.specs.Answer.{Answer, result}
 use Rattle.octets.specs.Bytes.{part, put}
-use Rattle.octets.specs.Loop.{allTo, sumTo}
+use Rattle.octets.specs.Loop.{upTo, allTo}
 use Rattle.octets.proofs.Put.{put-over}
 use Rattle.view.specs.Report.{reportOf}
 use Rattle.view.specs.Size.{limit}
@@ -42,20 +42,18 @@ use Rattle.points.specs.Messages.{zeros, readOne}
 use Rattle.points.proofs.Absences.{stands}
 use Rattle.points.proofs.Begins.{still-stands, one-each, no-room}
 use Rattle.points.proofs.Channels.{own-count, no-place}
+use Rattle.points.proofs.Figures.{Figures}
 use Rattle.points.proofs.LastTag.{used-by-answer, used-by-own}
 
 module _ (calls : Calls) where
   -- ---- n, f and messages
 
-  abbrev Sums : ℕ → Type 0
-  Sums n = (v : List ℕ) → length v ≡ 16 * n → viewOk n limit v ≡ true → calls .figures n v ≡ result (totals n v)
-
-  absent-one : Sums 1 → calls .figures 1 (replicate 16 0) ≡ result zeros
-  unfolding viewOk allTo sumTo totals reportOf part
+  absent-one : Figures calls 1 → calls .figures 1 (replicate 16 0) ≡ result zeros
+  unfolding viewOk upTo allTo totals reportOf part
   absent-one figures = figures (replicate 16 0) refl refl
 
-  absent-sixteen : Sums 16 → calls .figures 16 (replicate 256 0) ≡ result zeros
-  unfolding viewOk allTo sumTo totals reportOf part
+  absent-sixteen : Figures calls 16 → calls .figures 16 (replicate 256 0) ≡ result zeros
+  unfolding viewOk upTo allTo totals reportOf part
   absent-sixteen figures = figures (replicate 256 0) refl refl
 
   values : ((n : ℕ) → 1 ≤ n → (2 * calls .faults n < n) × (n ≤ 2 * (calls .faults n + 1)))

@@ -2,6 +2,7 @@ pub mod Absences
 pub mod Begins
 pub mod Channels
 pub mod Counts
+pub mod Figures
 pub mod Filled
 pub mod Follows
 pub mod Instance
@@ -11,6 +12,7 @@ pub mod Messages
 pub mod Proved
 pub mod RuledOut
 pub mod RuledOutChannels
+pub mod RuledOutFigures
 pub mod RuledOutNodes
 pub mod RuledOutRuns
 pub mod Stops

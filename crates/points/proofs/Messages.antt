@@ -8,7 +8,7 @@ use lib.ListN.{length, getD}
 use borrow.Author.Tests.{le-leb, eq-eqb, ne-eqb}
 use Rattle.octets.specs.Answer.{Answer, result, refused}
 use Rattle.octets.specs.Bytes.{part}
-use Rattle.octets.specs.Loop.{allTo, sumTo}
+use Rattle.octets.specs.Loop.{upTo, allTo}
 use Rattle.octets.proofs.Put.{put-over}
 use Rattle.octets.proofs.Test.{both-true}
 use Rattle.view.specs.Size.{isSize, nodes}
@@ -45,7 +45,7 @@ not-taken n s = record {
   figures = λ v e. rw (eq-eqb (length v) (16 * n) e, s) refl;
 }
 
-is-taken : (n : ℕ) → OneTo nodes n → Taken code n
+pub is-taken : (n : ℕ) → OneTo nodes n → Taken code n
 unfolding figuresOf N.fresh sizeFor
 is-taken n (low, small) = record {
   read = λ m v h. read-back n m v s h;
@@ -59,7 +59,7 @@ is-taken n (low, small) = record {
     s = both-true (le-leb 1 n low) (le-leb n 16 small)
 
 pub sizes-hold : Sizes code
-unfolding figuresOf viewOk allTo sumTo totals reportOf part
+unfolding figuresOf viewOk upTo allTo totals reportOf part
 sizes-hold = record {
   none = not-taken 0 refl;
   seventeen = not-taken 17 refl;

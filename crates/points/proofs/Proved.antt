@@ -1,11 +1,13 @@
--- Document 01's points marked P hold of the code, all of them.
+-- The points hold of the code, all of them.
 use mathlib.Core.Path.{refl}
+use Rattle.points.specs.Calls.{code}
 use Rattle.points.specs.Points.{Points}
-use Rattle.points.proofs.Messages.{sizes-hold, faults-hold, read-one-holds, good-bytes}
+use Rattle.points.proofs.Messages.{is-taken, sizes-hold, faults-hold, read-one-holds, good-bytes}
 use Rattle.points.proofs.LastTag.{last-tag-holds}
 use Rattle.points.proofs.Stops.{stops-hold}
 use Rattle.points.proofs.Instance.{absences-hold}
 use Rattle.points.proofs.Channels.{channels-hold}
+use Rattle.points.proofs.Figures.{one-queue-holds}
 
 pub points : Points
 points = record {
@@ -18,4 +20,5 @@ points = record {
   stops = stops-hold;
   absences = absences-hold;
   channels = channels-hold;
+  one-queue = one-queue-holds code (λ n o. is-taken n o .figures);
 }

@@ -12,7 +12,7 @@ use lib.Dec.{eqb}
 use lib.ListN.{length, getD, replicate, length-replicate}
 use Rattle.octets.specs.Answer.{Answer, result, refused}
 use Rattle.octets.specs.Bytes.{part}
-use Rattle.octets.specs.Loop.{allTo, sumTo}
+use Rattle.octets.specs.Loop.{upTo, allTo}
 use Rattle.octets.specs.Test.{pick, both}
 use Rattle.view.specs.Report.{reportOf}
 use Rattle.view.specs.Size.{isSize, nodes}
@@ -35,7 +35,7 @@ use Rattle.points.specs.Calls.{Calls, code}
 use Rattle.points.specs.Messages.{Refused, Taken, zeros}
 use Rattle.points.specs.Points.{PointsOf}
 use Rattle.points.proofs.Proved.{points}
-use Rattle.points.proofs.Wrong.{reads, writes, sums, fails, lends, makes, starts}
+use Rattle.points.proofs.Wrong.{reads, writes, counts, fails, lends, makes, starts}
 
 abbrev pub RuledOut : Calls → Type 0
 RuledOut calls = PointsOf calls → ⊥
@@ -50,7 +50,7 @@ answers p q = apart p (ap (λ (r : E.Result). r .answer) q)
 pub number : {A : Type 0} {j k : ℕ} → _≡_ {A = Answer A} (refused j) (refused k) → j ≡ k
 number e = cc
 
-value : {A : Type 0} {x y : A} → result x ≡ result y → x ≡ y
+pub value : {A : Type 0} {x y : A} → result x ≡ result y → x ≡ y
 value e = cc
 
 request : {j k : ℕ} → Read j ≡ Read k → j ≡ k
@@ -136,10 +136,10 @@ cluster-seventeen P = starts-it down 17 (omega arith, omega arith) (P .sizes .se
 abbrev short : ℕ → ℕ → List ℕ → Answer Totals
 short k n v = pick (eqb n k) (refused 12) (figuresOf n v)
 
-figures-zero : RuledOut (sums (short 0))
+figures-zero : RuledOut (counts (short 0))
 figures-zero P = let e : _≡_ {A = ℕ} 12 1 = number (P .sizes .none .figures [] refl) in omega arith
 
-figures-seventeen : RuledOut (sums (short 17))
+figures-seventeen : RuledOut (counts (short 17))
 figures-seventeen P =
     let e : _≡_ {A = ℕ} 12 1 = number (P .sizes .seventeen .figures (replicate 272 0) refl) in omega arith
 
@@ -189,14 +189,14 @@ abbrev zeroed : Answer Totals → Answer Totals
 zeroed (result t) = result zeros
 zeroed (refused k) = refused k
 
-all-zero : RuledOut (sums (λ n v. zeroed (figuresOf n v)))
-unfolding figuresOf busy viewOk allTo sumTo totals reportOf part
+all-zero : RuledOut (counts (λ n v. zeroed (figuresOf n v)))
+unfolding figuresOf busy viewOk upTo allTo totals reportOf part
 all-zero P =
     let f : zeros ≡ totals 1 busy = value (P .sizes .taken 1 (omega arith, omega arith) .figures busy refl refl) in
     let z : _≡_ {A = ℕ} 0 1 = ap (λ (t : Totals). t .extensions) f in omega arith
 
 -- The length of a view is judged after n.
-n-first : RuledOut (sums (λ n v. pick (isSize n) (figuresOf n v) (refused 1)))
+n-first : RuledOut (counts (λ n v. pick (isSize n) (figuresOf n v) (refused 1)))
 n-first P = let e : _≡_ {A = ℕ} 1 12 = number (P .sizes .length-first 17 [] (λ h. omega arith)) in omega arith
 
 -- ---- f: one too many of sixteen; one too many of seven, and none

@@ -41,8 +41,8 @@ writes f = record {
   stop = code .stop;
 }
 
-abbrev pub sums : (ℕ → List ℕ → Answer Totals) → Calls
-sums f = record {
+abbrev pub counts : (ℕ → List ℕ → Answer Totals) → Calls
+counts f = record {
   read = code .read;
   write = code .write;
   figures = f;

@@ -1,4 +1,5 @@
--- Document 01's points marked P, in its order. `PointsOf` says them of any calls, and `Points` of the code.
+-- Document 01's points marked P, in its order, and then that of document 02's request [3]. `PointsOf` says them of any
+-- calls, and `Points` of the code.
 use Prim.Native.Nat.{ℕ}
 use mathlib.Core.Path.{_≡_}
 use mathlib.Core.Bool.{true}
@@ -9,6 +10,7 @@ use Rattle.points.specs.LastTag.{LastTag}
 use Rattle.points.specs.Stops.{Stops}
 use Rattle.points.specs.Absences.{Absences}
 use Rattle.points.specs.Channels.{Channels}
+use Rattle.points.specs.Figures.{OneQueue}
 
 pub record PointsOf (calls : Calls) : Type 0 where
   -- n 0 and 17 refused; 1 and 16 taken.
@@ -28,6 +30,8 @@ pub record PointsOf (calls : Calls) : Type 0 where
   pub absences : Absences calls
   -- The sixteenth message on a trunk is taken, the seventeenth is 11.
   pub channels : Channels calls
+  -- Two nodes with 3 and 5 calls waiting give 5, nobody gives 0; the other counts are added as before.
+  pub one-queue : OneQueue calls
 
 abbrev pub Points : Type 0
 Points = PointsOf code

@@ -28,7 +28,7 @@ use codes::message_report;
 use codes::outcome_code;
 use codes::route_of;
 use codes::show;
-use figures::Summed;
+use figures::Counted;
 use node_bytes::Called;
 use page::Paged;
 use record::Operation;
@@ -56,7 +56,7 @@ ghost use Rattle.calls_bytes.specs.Frame.{frame as frameNode};
 ghost use Rattle.node_bytes.specs.Called.{tells};
 ghost use Rattle.calls_bytes.specs.Shown.{eventView};
 ghost use Rattle.codes.specs.Code.{extentOf, leaves};
-ghost use Rattle.codes.specs.Code.{numbers as numbersOf, reportIn, messageIn, sums as sumsOf};
+ghost use Rattle.codes.specs.Code.{numbers as numbersOf, reportIn, messageIn, inOrder};
 ghost use Rattle.codes.specs.Code.{answerCode, lent, wrote, wrotePage, lentCode, leavesNode, routeOf};
 
 // ---- a cluster in one buffer
@@ -316,18 +316,18 @@ pub extern "C" fn snapshot_write(
     }
 }
 
-// The four sums over a view of n nodes.
+// The house figures over a view of n nodes.
 #[no_mangle]
-pub extern "C" fn snapshot_figures(n: usize, view: &[u8], sums: &mut [u32; 4]) -> u8
+pub extern "C" fn snapshot_figures(n: usize, view: &[u8], figures: &mut [u32; 4]) -> u8
     ensures { λ r. ⌜ (r ≡ answerCode (figuresOf n (now (view .entry))))
-        × (now (sums .exit) ≡ lent sumsOf (figuresOf n (now (view .entry))) (now (sums .entry))) ⌝ }
+        × (now (figures .exit) ≡ lent inOrder (figuresOf n (now (view .entry))) (now (figures .entry))) ⌝ }
 {
     match figures::figures(n, view) {
-        Summed::Sums(t) => {
-            *sums = [t.extensions, t.lines, t.waiting, t.wakeups];
+        Counted::Figures(t) => {
+            *figures = [t.extensions, t.lines, t.waiting, t.wakeups];
             0
         }
-        Summed::Refused(k) => k,
+        Counted::Refused(k) => k,
     }
 }
 

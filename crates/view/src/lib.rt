@@ -104,7 +104,7 @@ pub fn report_bytes(p: Report) -> [u8; REPORT]
 
 // Whether the entry at a place may stand in a view whose tags are at most `top`. The report counts beside tag 0 alone,
 // and is not read elsewhere.
-fn entry_ok(top: u64, b: &[u8], at: usize) -> bool
+pub fn entry_ok(top: u64, b: &[u8], at: usize) -> bool
     requires { ⌜ at + entrySize ≤ length (now b) ⌝ }
     ensures { λ r. ⌜ r ≡ entryOk top (word (now (b .entry)) at) (word (now (b .entry)) (at + tagSize)) ⌝ }
 {

@@ -40,8 +40,21 @@ fn an_absent_report_stands_beside_one_of_zeros() {
 fn the_largest_figures_have_seven_digits() {
     let full = page(&vec![Some((1, u64::MAX)); 16]);
     let nodes = (1..=16).map(|node| format!("{node:>2}   65535   65535   65535   65535\n"));
-    assert_eq!(full, nodes.collect::<String>() + "== 1048560 1048560 1048560 1048560\n");
+    assert_eq!(full, nodes.collect::<String>() + "== 1048560 1048560   65535 1048560\n");
     assert_eq!(full.len(), 35 * 17);
+}
+
+/// All nodes watch one queue, so their calls waiting are not added up.
+#[test]
+fn calls_waiting_are_the_largest_count() {
+    let last = |view: View| page(&view).lines().last().map(str::to_string);
+    let [three, five] = [0x0001_0002_0003_0004, 0x0010_0020_0005_0040];
+    for view in [vec![Some((1, three)), Some((2, five))], vec![Some((2, five)), Some((1, three)), None]] {
+        assert_eq!(last(view).unwrap(), "==      17      34       5      68");
+    }
+    for view in [vec![None], vec![None; 16]] {
+        assert_eq!(last(view).unwrap(), "==       0       0       0       0");
+    }
 }
 
 #[test]

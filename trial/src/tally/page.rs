@@ -10,6 +10,7 @@ use oracle::wire::ENTRY;
 const ABSENT_BESIDE_ZEROS: &str = "page written: no report beside one of zeros";
 const ALL_ABSENT: &str = "page written: no report at all";
 const SEVEN_DIGITS: &str = "page written: the largest figures";
+const TWO_WAIT: &str = "page written: calls waiting at two nodes";
 const EXACT: &str = "page written: as long as its buffer";
 const LONGER: &str = "page written: a longer buffer";
 const ONE_SHORT: &str = "page refused: 15, one byte short";
@@ -49,6 +50,7 @@ fn written(page: &Page) -> Vec<&'static str> {
         (has((0, 0)) && zeros, ABSENT_BESIDE_ZEROS),
         (page.entries().all(|(tag, _)| tag == 0), ALL_ABSENT),
         (page.n == NODES && page.entries().all(|(_, report)| report == u64::MAX), SEVEN_DIGITS),
+        (page.entries().filter(|(_, report)| report >> 16 & 0xffff > 0).count() > 1, TWO_WAIT),
         (page.size == page.length(), EXACT),
         (page.size > page.length(), LONGER),
     ];
@@ -105,8 +107,9 @@ fn before(code: u8, fault: u8) -> String {
 /// What has to occur.
 pub(super) fn needed() -> Vec<String> {
     let special = [
-        [ABSENT_BESIDE_ZEROS, ALL_ABSENT, SEVEN_DIGITS, EXACT, LONGER, ONE_SHORT, NO_BUFFER, NO_VIEW].to_vec(),
-        [ODD_LENGTH, OTHER_LENGTH, WRAPPED, NO_NODE, ONE_NODE_MORE, MORE_NODES, ABOVE_LIMIT, BESIDE_ZERO].to_vec(),
+        [ABSENT_BESIDE_ZEROS, ALL_ABSENT, SEVEN_DIGITS, TWO_WAIT, EXACT, LONGER, ONE_SHORT, NO_BUFFER].to_vec(),
+        [NO_VIEW, ODD_LENGTH, OTHER_LENGTH, WRAPPED, NO_NODE, ONE_NODE_MORE, MORE_NODES].to_vec(),
+        [ABOVE_LIMIT, BESIDE_ZERO].to_vec(),
     ];
     let pairs = (0..FAULTS.len()).flat_map(|k| FAULTS[k + 1..].iter().map(move |&fault| before(FAULTS[k], fault)));
     let special = special.concat().into_iter().map(String::from);

@@ -1,19 +1,15 @@
 -- `page::put_nodes` meets its contract.
 use borrow.Author.Needs.{needs}
 use Prim.Native.Nat.{ℕ, _+_, _-_, _*_, _≤_}
-use mathlib.Core.Path.{_≡_, refl, sym, ap, ap₂, _∙_, subst}
+use mathlib.Core.Path.{_≡_, refl, sym, ap, _∙_}
 use mathlib.Core.List.{List}
 use native.Mathlib.Omega.{arith}
 use lib.ListN.{length}
 use Rattle.octets.specs.Bytes.{Bytes, put}
 use Rattle.octets.proofs.Put.{put-nil, put-then}
 use Rattle.octets.proofs.Table.{join-none, join-more}
-use Rattle.view.specs.declared.Report.{Report}
-use Rattle.figures.specs.declared.Totals.{Totals}
-use Rattle.figures.specs.Figures.{withReport, totals, figureMost}
-use Rattle.figures.specs.Room.{Roomy}
-use Rattle.figures.proofs.Adding.{totals-none, totals-more, more-roomy}
-use Rattle.figures.proofs.Bounds.{totals-fit}
+use Rattle.figures.specs.Figures.{totals}
+use Rattle.figures.proofs.Adding.{totals-none, more-roomy, one-more}
 use Rattle.page.specs.Page.{lineSize, nodeLine, shownAt, nodeLines}
 use Rattle.page.proofs.Lines.{nodes-length}
 use Rattle.page.proofs.put_nodes.Statement.{statement}
@@ -56,17 +52,14 @@ put-node-requires c κs =
 with-report-requires : tie.Need-with-report-requires Inv-loop μ-loop
 with-report-requires c κs =
     let a = c .before .before .before .before .before .before .before .before .before .args in
-    let i = c .before .before .before .before .before .loop .i in
-    let b : Bytes (a .v .now) = λ k. c .before .before .before .before .before .before .before .shared-slice-known
-    .given k .fits in
-    subst (λ (t : Totals). Roomy t) (sym (c .before .before .before .before .before .loop .inv .2))
-    (more-roomy figureMost (totals i (a .v .now)) (totals-fit i (a .v .now) b (omega (
+    more-roomy (c .before .before .before .before .before .loop .i) (a .v .now)
+    (c .before .before .before .before .before .loop .inv .2)
+    (λ k. c .before .before .before .before .before .before .before .shared-slice-known .given k .fits)
+    (omega (
       arith,
-      c .before .before .before
-          .before .before .before .before .before .before .pre .0,
+      c .before .before .before .before .before .before .before .before .before .pre .0,
       c .before .before .before .before .before .loop .inv .0,
-    )))
-    (omega arith))
+    ))
 
 loop-again : tie.Need-loop-again Inv-loop μ-loop
 loop-again c =
@@ -85,10 +78,8 @@ loop-again c =
     )) in (
       omega arith,
       search needs,
-      c .with-report .ensures
-          ∙ ap₂ (λ (t : Totals) (p : Report). withReport t p) (c .before .before .before .before .before .before .loop
-          .inv .2) (c .before .before .before .put-node .ensures .0)
-          ∙ sym (totals-more i v),
+      one-more i v (c .before .before .before .before .before .before .loop .inv .2) (c .with-report .ensures)
+          (c .before .before .before .put-node .ensures .0),
       put-then o 0 (nodeLines i v) (f i) (lineSize * i) (omega arith) (omega (arith, l)) (c .before .before .before
           .before .before .before .loop .inv .3)
           (c .before .before .before .put-node .ensures .1)

@@ -1,19 +1,19 @@
 -- `snapshot::snapshot_figures` meets its contract.
 use borrow.Author.Needs.{needs}
 use mathlib.Core.Path.{refl, sym, ap, _∙_}
-use Rattle.figures.specs.Figures.{summed}
+use Rattle.figures.specs.Figures.{counted}
 use Rattle.snapshot.proofs.snapshot_figures.Statement.{statement}
 use Rattle.snapshot.proofs.snapshot_figures.Tie as tie
 
 returns : tie.Need-returns
 returns c =
     let d = c .before .before in
-    rw (sym (d .before .before .figures .ensures) ∙ ap summed (d .t .given .1)) (refl, refl)
+    rw (sym (d .before .before .figures .ensures) ∙ ap counted (d .t .given .1)) (refl, refl)
 
 returns-2 : tie.Need-returns-2
 returns-2 c =
     let d = c .before in
-    rw (sym (d .before .before .figures .ensures) ∙ ap summed (d .k .given .1)) (refl, refl)
+    rw (sym (d .before .before .figures .ensures) ∙ ap counted (d .k .given .1)) (refl, refl)
 
 pub snapshot-figures-spec : {M : Type 1} → statement M
 snapshot-figures-spec =
