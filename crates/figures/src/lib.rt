@@ -40,11 +40,15 @@ pub fn is_long(n: usize, len: usize) -> bool
 // Where the last byte of a tag stands in it.
 const LAST: usize = TAG - 1;
 
-// The larger of two numbers.
-fn larger(a: u32, b: u32) -> u32
-    ensures { λ r. ⌜ r ≡ max a b ⌝ }
+// The larger of a figure and a count.
+fn larger(figure: u32, count: u16) -> u32
+    ensures { λ r. ⌜ r ≡ max figure count ⌝ }
 {
-    if a <= b { b } else { a }
+    if figure <= count as u32 {
+        count as u32
+    } else {
+        figure
+    }
 }
 
 // No report counted.
@@ -67,7 +71,7 @@ pub fn with_report(t: Totals, p: Report) -> Totals
     Totals {
         extensions: t.extensions + p.extensions as u32,
         lines: t.lines + p.lines as u32,
-        waiting: larger(t.waiting, p.waiting as u32),
+        waiting: larger(t.waiting, p.waiting),
         wakeups: t.wakeups + p.wakeups as u32,
     }
 }
