@@ -1,6 +1,6 @@
 -- The clauses of the points that follow from others, of any calls: from which single fact. They say a case in document
 -- 01's words, and rule out no call that that fact does not. In the law on channels `only` follows from `full`, by
--- `only-if-full`; the clauses on calls waiting follow from that on figures, by `one-queue-holds`.
+-- `only-if-full`; the clauses on calls waiting follow from that on figures, by `shows-five`, `shows-none`.
 use Prim.Native.Nat.{ℕ, _+_, _*_, _≤_, _<_}
 use native.Mathlib.Omega.{arith}
 use mathlib.Core.Path.{_≡_, refl, sym, ap, _∙_}

@@ -1,8 +1,7 @@
 -- The points hold of the code, all of them.
 use mathlib.Core.Path.{refl}
-use Rattle.points.specs.Calls.{code}
 use Rattle.points.specs.Points.{Points}
-use Rattle.points.proofs.Messages.{is-taken, sizes-hold, faults-hold, read-one-holds, good-bytes}
+use Rattle.points.proofs.Messages.{sizes-hold, faults-hold, read-one-holds, good-bytes}
 use Rattle.points.proofs.LastTag.{last-tag-holds}
 use Rattle.points.proofs.Stops.{stops-hold}
 use Rattle.points.proofs.Instance.{absences-hold}
@@ -20,5 +19,5 @@ points = record {
   stops = stops-hold;
   absences = absences-hold;
   channels = channels-hold;
-  one-queue = one-queue-holds code (λ n o. is-taken n o .figures);
+  one-queue = one-queue-holds;
 }
