@@ -326,7 +326,7 @@ uint8_t snapshot_write(size_t n, const uint64_t numbers[4], const uint8_t report
                        size_t view_len, uint8_t *out, size_t out_len, size_t *length);
 
 /* The house figures over a view of n entries: three sums, and of calls waiting the largest count, since all nodes watch
- * one queue. All are 0 where no node has reported.
+ * one queue. A node without a report counts for nothing; all are 0 where no node has reported.
  *   12  view_len is not 16 n
  *   1   n is not 1 to 16
  *   7   a tag above its limit, or bytes that are not zero beside tag 0

@@ -22,7 +22,7 @@ struct region {
 };
 
 static struct region record, out, length, view, bytes, report, route, numbers, figures, cluster;
-static struct region *const regions[] = {&record, &out,   &length,  &view, &bytes,
+static struct region *const regions[] = {&record, &out,   &length,  &view,    &bytes,
                                          &report, &route, &numbers, &figures, &cluster};
 
 #define REGIONS (sizeof regions / sizeof *regions)
@@ -273,8 +273,8 @@ static void call_figures(void)
 {
     size_t right = any_nodes(), nodes = about(right), given = 0;
     uint8_t *shown = lend_view(right, &given);
-    uint32_t *house = lend_any(&figures, 4 * sizeof *house);
-    if (accepted(FIGURES, snapshot_figures(nodes, shown, given, house)))
+    uint32_t *four = lend_any(&figures, 4 * sizeof *four);
+    if (accepted(FIGURES, snapshot_figures(nodes, shown, given, four)))
         kept(&bytes, 0);
 }
 

@@ -1,6 +1,6 @@
 /* A house of three cabinets in one program, each a node with a record of its own, and the links between them as queues:
- * what links owe (include/snapshot.h), in code. Node 1 updates; when that is done, node 3 scans. Which link hands over
- * next is random, from a fixed seed, and so is how many of its oldest messages it packs in a frame. It prints the
+ * what links owe (include/snapshot.h), in code. Nodes 1 and 2 update; when that is done, node 3 scans. Which link hands
+ * over next is random, from a fixed seed, and so is how many of its oldest messages it packs in a frame. It prints the
  * endings and the house figures. */
 #include "print.h"
 #include "snapshot.h"
@@ -9,7 +9,7 @@
 #include <string.h>
 
 #define NODES 3
-#define ROOM 64 /* of a link: more messages than an update and a scan of three nodes send on it */
+#define ROOM 64 /* of a link: more messages than two updates and a scan of three nodes send on it */
 
 struct message {
     size_t length;
@@ -127,13 +127,16 @@ static void run(void)
 
 int main(void)
 {
-    static const uint8_t report[SNAPSHOT_REPORT] = {0, 1, 0, 2, 0, 3, 0, 4};
+    static const uint8_t reports[][SNAPSHOT_REPORT] = {{0, 1, 0, 2, 0, 3, 0, 4}, {0, 10, 0, 20, 0, 5, 0, 40}};
     uint32_t figures[4] = {0};
     for (size_t node = 1; node <= NODES; node++)
         expect_taken("fresh", snapshot_node_fresh(NODES, node, records[node], SNAPSHOT_RECORD));
 
-    expect_taken("begin", snapshot_node_begin_update(records[1], SNAPSHOT_RECORD, report, out, sizeof out, &length));
-    send_output(1, 0);
+    for (size_t node = 1; node <= 2; node++) {
+        expect_taken("begin", snapshot_node_begin_update(records[node], SNAPSHOT_RECORD, reports[node - 1], out,
+                                                         sizeof out, &length));
+        send_output(node, 0);
+    }
     run();
     expect_taken("begin", snapshot_node_begin_scan(records[3], SNAPSHOT_RECORD, out, sizeof out, &length));
     send_output(3, 0);

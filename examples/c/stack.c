@@ -27,7 +27,7 @@ static size_t message_length;
 static uint8_t route;
 static uint64_t numbers[4];
 static uint8_t read_report[SNAPSHOT_REPORT];
-static uint32_t house[4];
+static uint32_t house_figures[4];
 
 static uint8_t code; /* what the last call answered */
 
@@ -64,7 +64,7 @@ static void write_one(void)
     code = snapshot_write(SNAPSHOT_NODES, numbers, report, view, sizeof view, out, sizeof out, &length);
 }
 static void next(void) { code = snapshot_next(SNAPSHOT_NODES, out, length, &message_length, &route); }
-static void figures(void) { code = snapshot_figures(SNAPSHOT_NODES, view, sizeof view, house); }
+static void figures(void) { code = snapshot_figures(SNAPSHOT_NODES, view, sizeof view, house_figures); }
 static void page(void) { code = snapshot_page(SNAPSHOT_NODES, view, sizeof view, out, sizeof out, &length); }
 
 /* The calls, what is stated of each in snapshot.h and README.md, and the most stack that each has taken. */

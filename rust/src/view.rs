@@ -138,7 +138,8 @@ impl View {
     }
 }
 
-/// The house figures over the reports of a view; all are 0 where no node has reported.
+/// The house figures over the reports of a view. A node without a report counts for nothing; all are 0 where no node
+/// has reported.
 #[derive(Clone, Copy, Debug, Default, PartialEq, Eq)]
 pub struct Figures {
     /// Extensions busy, added up.

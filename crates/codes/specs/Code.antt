@@ -111,8 +111,8 @@ abbrev pub messageIn : (numbers report : List ℕ) → Message
 messageIn b p = messageOf (getD b 0 0) (getD b 1 0) (getD b 2 0) (getD b 3 0) (reportOf p)
 
 -- The four figures in their order.
-abbrev pub inOrder : Totals → List ℕ
-inOrder t = t .extensions ∷ t .lines ∷ t .waiting ∷ t .wakeups ∷ []
+abbrev pub fourFigures : Totals → List ℕ
+fourFigures t = t .extensions ∷ t .lines ∷ t .waiting ∷ t .wakeups ∷ []
 
 -- What an event leaves: its answer's code and the lent bytes.
 abbrev pub leaves : ℕ → List ℕ → Result → Type 0

@@ -12,7 +12,7 @@ use Rattle.view.specs.declared.Report.{Report}
 use Rattle.figures.specs.declared.Totals.{Totals}
 use Rattle.figures.specs.Figures.{countedReport, noTotals, withReport, totals}
 use Rattle.figures.specs.Room.{Roomy}
-use Rattle.figures.proofs.Bounds.{counted-none, totals-fit}
+use Rattle.figures.proofs.Bounds.{countedReport-none, totals-fit}
 
 pub totals-none : (v : List ℕ) → totals 0 v ≡ noTotals
 unfolding totals
@@ -22,13 +22,13 @@ pub totals-more : (k : ℕ) (v : List ℕ) → totals (k + 1) v ≡ withReport (
 unfolding totals
 totals-more k v = simp upTo-more
 
--- of nobody that has reported
+-- where nobody has reported
 pub totals-nobody : (n : ℕ) (v : List ℕ) → ((i : ℕ) → i < n → tagAt v i ≡ 0) → totals n v ≡ noTotals
 totals-nobody zero v h = totals-none v
 totals-nobody (suc k) v h =
     ap (λ (n : ℕ). totals n v) (sym (add-one k)) ∙ totals-more k v
     ∙ ap₂ (λ (t : Totals) (p : Report). withReport t p) (totals-nobody k v (λ i l. h i (omega arith)))
-    (counted-none v k (h k (omega arith)))
+    (countedReport-none v k (h k (omega arith)))
 
 -- figures of k entries have room for one more, and with it are those of k + 1
 module _ (k : ℕ) (v : List ℕ) {s : Totals} (e : s ≡ totals k v) where

@@ -75,22 +75,22 @@ module _ (v : List ℕ) (at : ℕ) (h : Bytes v) (l : at + tagSize ≤ length v)
 
 -- what an entry counts with, by its tag
 module _ (v : List ℕ) (i : ℕ) where
-  pub counted-none : tagAt v i ≡ 0 → countedReport v i ≡ noReport
-  counted-none e = ap (λ (t : Bool). pick t noReport (reportAt v i)) (eq-eqb (tagAt v i) 0 e)
+  pub countedReport-none : tagAt v i ≡ 0 → countedReport v i ≡ noReport
+  countedReport-none e = ap (λ (t : Bool). pick t noReport (reportAt v i)) (eq-eqb (tagAt v i) 0 e)
 
-  pub counted-some : (tagAt v i ≡ 0 → ⊥) → countedReport v i ≡ reportAt v i
-  counted-some e = ap (λ (t : Bool). pick t noReport (reportAt v i)) (ne-eqb (tagAt v i) 0 e)
+  pub countedReport-some : (tagAt v i ≡ 0 → ⊥) → countedReport v i ≡ reportAt v i
+  countedReport-some e = ap (λ (t : Bool). pick t noReport (reportAt v i)) (ne-eqb (tagAt v i) 0 e)
 
 -- an entry of a valid view shows its report, which is none beside tag 0
 pub countedReport-is : (n : ℕ) (v : List ℕ) → viewOk n limit v ≡ true → Bytes v → entrySize * n ≤ length v
     → (i : ℕ) → i < n → reportAt v i ≡ countedReport v i
 countedReport-is n v ok h l i m = elim (ℕ-discrete (tagAt v i) 0) [
-  | yes e ↦ ok-report n limit v ok i m h l e ∙ sym (counted-none v i e)
-  | no e ↦ sym (counted-some v i e)
+  | yes e ↦ ok-report n limit v ok i m h l e ∙ sym (countedReport-none v i e)
+  | no e ↦ sym (countedReport-some v i e)
 ]
 
 -- a count has sixteen bits in each report that bytes are, so it is at most `countMost`
-pub record Count (count : Report → ℕ) : Type 0 where
+record Count (count : Report → ℕ) : Type 0 where
   pub none : count noReport ≡ 0
   pub most : (b : List ℕ) → Bytes b → count (reportOf b) < 2 ^ 16
 
@@ -99,8 +99,8 @@ countedReport-most : (count : Report → ℕ) → Count count → (t : Bool) (b 
 countedReport-most count c true b h = rw (c .none) (omega arith)
 countedReport-most count c false b h = omega (arith, c .most b h)
 
--- put together to no more than their sum
-pub total-fits : (op : ℕ → ℕ → ℕ) → ((a b : ℕ) → op a b ≤ a + b) → (count : Report → ℕ) → Count count
+-- counts that are put together to no more than their sum
+total-fits : (op : ℕ → ℕ → ℕ) → ((a b : ℕ) → op a b ≤ a + b) → (count : Report → ℕ) → Count count
     → (n : ℕ) (v : List ℕ) → Bytes v → n ≤ nodes → total op count n v ≤ figureMost
 total-fits op less count c n v h l =
     let m : total op count n v ≤ n * countMost =

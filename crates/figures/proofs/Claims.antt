@@ -1,5 +1,5 @@
 -- The claims of the figures hold.
-use Prim.Native.Nat.{ℕ, zero, suc, _+_, _<_, _≤_, max}
+use Prim.Native.Nat.{ℕ, zero, suc, max}
 use mathlib.Core.Path.{_≡_, refl, sym, ap, _∙_}
 use mathlib.Core.Bool.{Bool, true, false}
 use mathlib.Core.Logic.{inl, inr}
@@ -7,7 +7,7 @@ use mathlib.Core.List.{List}
 use native.Mathlib.Decide.{ℕ-discrete, decLe}
 use native.Mathlib.Omega.{arith}
 use Rattle.octets.specs.Test.{pick}
-use Rattle.octets.specs.Loop.{upTo, foldTo, Combining}
+use Rattle.octets.specs.Loop.{upTo}
 use Rattle.octets.proofs.Loop.{below-suc, foldTo-ext, foldTo-both}
 use Rattle.view.specs.View.{tagAt, reportAt}
 use Rattle.view.specs.declared.Report.{Report}
@@ -15,7 +15,7 @@ use Rattle.figures.specs.Figures.{countedReport, total, totals}
 use Rattle.figures.specs.Claims as claim
 use Rattle.figures.proofs.Accepted.{accepted}
 use Rattle.figures.proofs.Adding.{totals-nobody}
-use Rattle.figures.proofs.Bounds.{counted-none, counted-some}
+use Rattle.figures.proofs.Bounds.{countedReport-none, countedReport-some}
 
 pub ways : claim.Ways
 ways =
@@ -41,7 +41,7 @@ module _ (k : ℕ) (v : List ℕ) (m : ℕ) (h : claim.Largest k v m) where
 
   absent : tagAt v k ≡ 0 → claim.Largest (suc k) v (max m w)
   absent e =
-      let y : w ≡ 0 = ap (λ (p : Report). p .waiting) (counted-none v k e) in
+      let y : w ≡ 0 = ap (λ (p : Report). p .waiting) (countedReport-none v k e) in
       let z : max m w ≡ m = omega arith in
       rw z
       (record {
@@ -54,7 +54,7 @@ module _ (k : ℕ) (v : List ℕ) (m : ℕ) (h : claim.Largest k v m) where
 
   there : (tagAt v k ≡ 0 → ⊥) → claim.Largest (suc k) v (max m w)
   there e =
-      let z : w ≡ reportAt v k .waiting = ap (λ (p : Report). p .waiting) (counted-some v k e) in
+      let z : w ≡ reportAt v k .waiting = ap (λ (p : Report). p .waiting) (countedReport-some v k e) in
       record {
         most = λ i l t. below-suc l
             (λ q. let r : reportAt v i .waiting ≡ w = ap (λ (j : ℕ). reportAt v j .waiting) q ∙ sym z in omega arith)
@@ -71,14 +71,14 @@ module _ (k : ℕ) (v : List ℕ) (m : ℕ) (h : claim.Largest k v m) where
   largest-more : claim.Largest (suc k) v (max m w)
   largest-more = elim (ℕ-discrete (tagAt v k) 0) [ yes e ↦ absent e | no e ↦ there e ]
 
-largest : (k : ℕ) (v : List ℕ) → claim.Largest k v (total max (λ p. p .waiting) k v)
+largest-is : (k : ℕ) (v : List ℕ) → claim.Largest k v (total max (λ p. p .waiting) k v)
 unfolding upTo
-largest zero v = record { most = λ i l t. absurd (omega arith); some = inr (λ i l. absurd (omega arith), refl) }
-largest (suc k) v = largest-more k v (total max (λ p. p .waiting) k v) (largest k v)
+largest-is zero v = record { most = λ i l t. absurd (omega arith); some = inr (λ i l. absurd (omega arith), refl) }
+largest-is (suc k) v = largest-more k v (total max (λ p. p .waiting) k v) (largest-is k v)
 
 pub nobody : claim.Nobody
 nobody n v t e h = accepted n v t e .are ∙ totals-nobody n v h
 
 pub one-queue : claim.OneQueue
 unfolding totals
-one-queue n v t e = rw (accepted n v t e .are) (largest n v)
+one-queue n v t e = rw (accepted n v t e .are) (largest-is n v)

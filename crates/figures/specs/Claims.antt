@@ -1,4 +1,4 @@
--- What is claimed of the figures of every view.
+-- What is claimed of how counts are put together, and of the figures of every view.
 use Prim.Native.Nat.{ℕ, _+_, _<_, _≤_, max}
 use mathlib.Core.Path.{_≡_}
 use mathlib.Core.Bool.{Bool}
@@ -11,12 +11,13 @@ use Rattle.view.specs.View.{tagAt, reportAt}
 use Rattle.figures.specs.Figures.{noTotals, figuresOf}
 use Rattle.figures.specs.declared.Totals.{Totals}
 
--- Both ways to put counts together: nodes may be taken in any order and in any groups.
+-- Both ways to put counts together have the laws by which order and groups do not matter.
 pub record Ways : Type 0 where
   pub sum : Combining _+_ 0
   pub largest : Combining max 0
 
--- So for each of them: the counts of two groups of nodes, put together, are those of all.
+-- So for each of them: the counts of two groups of nodes, put together, are those of all. Node i + 1 is of the first
+-- group where `first i` says so.
 abbrev pub Groups : Type 0
 Groups = (op : ℕ → ℕ → ℕ) → Combining op 0 → (n : ℕ) (count : ℕ → ℕ) (first : ℕ → Bool)
     → op (foldTo n op 0 (λ i. pick (first i) (count i) 0)) (foldTo n op 0 (λ i. pick (first i) 0 (count i)))

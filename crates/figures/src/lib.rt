@@ -37,9 +37,6 @@ pub fn is_long(n: usize, len: usize) -> bool
     octets::and(len % ENTRY == 0, len / ENTRY == n)
 }
 
-// Where the last byte of a tag stands in it.
-const LAST: usize = TAG - 1;
-
 // The larger of a figure and a count.
 fn larger(figure: u32, count: u16) -> u32
     ensures { λ r. ⌜ r ≡ max figure count ⌝ }
@@ -75,6 +72,9 @@ pub fn with_report(t: Totals, p: Report) -> Totals
         wakeups: t.wakeups + p.wakeups as u32,
     }
 }
+
+// Where the last byte of a tag stands in it.
+const LAST: usize = TAG - 1;
 
 // Whether the entry at a place may stand in a view. A tag whose last byte is not 0 is not 0, so any report may stand
 // beside it, and its first byte tells whether it is within its limit: two bytes are read of most entries.

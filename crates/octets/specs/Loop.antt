@@ -14,7 +14,7 @@ upTo (suc k) f a = f k (upTo k f a)
 abbrev pub foldTo : {A : Type 0} → ℕ → (op : A → A → A) (none : A) → (ℕ → A) → A
 foldTo k op none f = upTo k (λ i a. op a (f i)) none
 
--- What makes it no matter in which order values are put together, or in which groups.
+-- The laws by which neither the order nor the groups matter in which values are put together.
 pub record Combining {A : Type 0} (op : A → A → A) (none : A) : Type 0 where
   pub commutative : (a b : A) → op a b ≡ op b a
   pub associative : (a b c : A) → op (op a b) c ≡ op a (op b c)

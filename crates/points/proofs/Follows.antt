@@ -1,5 +1,5 @@
--- The clauses of the points that follow from others, of any calls: from which single fact. They say a case in document
--- 01's words, and rule out no call that that fact does not. In the law on channels `only` follows from `full`, by
+-- The clauses of the points that follow from others, of any calls: from which single fact. They say a case in the
+-- documents' words, and rule out no call that that fact does not. In the law on channels `only` follows from `full`, by
 -- `only-if-full`; the clauses on calls waiting follow from that on figures, by `shows-five`, `shows-none`.
 use Prim.Native.Nat.{ℕ, _+_, _*_, _≤_, _<_}
 use native.Mathlib.Omega.{arith}
@@ -42,17 +42,17 @@ use Rattle.points.specs.Messages.{zeros, readOne}
 use Rattle.points.proofs.Absences.{stands}
 use Rattle.points.proofs.Begins.{still-stands, one-each, no-room}
 use Rattle.points.proofs.Channels.{own-count, no-place}
-use Rattle.points.proofs.Figures.{Figures}
+use Rattle.points.proofs.Figures.{FiguresOf}
 use Rattle.points.proofs.LastTag.{used-by-answer, used-by-own}
 
 module _ (calls : Calls) where
   -- ---- n, f and messages
 
-  absent-one : Figures calls 1 → calls .figures 1 (replicate 16 0) ≡ result zeros
+  absent-one : FiguresOf calls 1 → calls .figures 1 (replicate 16 0) ≡ result zeros
   unfolding viewOk upTo allTo totals reportOf part
   absent-one figures = figures (replicate 16 0) refl refl
 
-  absent-sixteen : Figures calls 16 → calls .figures 16 (replicate 256 0) ≡ result zeros
+  absent-sixteen : FiguresOf calls 16 → calls .figures 16 (replicate 256 0) ≡ result zeros
   unfolding viewOk upTo allTo totals reportOf part
   absent-sixteen figures = figures (replicate 256 0) refl refl
 

@@ -6,7 +6,7 @@ use Rattle.points.proofs.LastTag.{last-tag-holds}
 use Rattle.points.proofs.Stops.{stops-hold}
 use Rattle.points.proofs.Instance.{absences-hold}
 use Rattle.points.proofs.Channels.{channels-hold}
-use Rattle.points.proofs.Figures.{one-queue-holds}
+use Rattle.points.proofs.Figures.{three-and-five-holds}
 
 pub points : Points
 points = record {
@@ -19,5 +19,5 @@ points = record {
   stops = stops-hold;
   absences = absences-hold;
   channels = channels-hold;
-  one-queue = one-queue-holds;
+  three-and-five = three-and-five-holds;
 }

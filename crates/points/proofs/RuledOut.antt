@@ -1,7 +1,7 @@
 -- For the clauses of the points wrong calls that they rule out: no calls with that one in them have the points. A wrong
 -- call is the code's but where a test says so, and no other clause rules it out; this is not proved. Two kinds of
--- clause rule out no call alone: one that follows from others (`Follows`), which has a wrong call where it has document
--- 01's words; and one that says of the code that there is such a case. Here for n, f and messages: `absent-1` and
+-- clause rule out no call alone: one that follows from others (`Follows`), which has a wrong call where it has a document's
+-- words; and one that says of the code that there is such a case. Here for n, f and messages: `absent-1` and
 -- `absent-16`, `values`, `written`, `read` and `long` follow.
 use Prim.Native.Nat.{ℕ, _+_, _*_, _≤_, _<_, min, max}
 use native.Mathlib.Omega.{arith}
@@ -144,7 +144,7 @@ figures-seventeen P =
     let e : _≡_ {A = ℕ} 12 1 = number (P .sizes .seventeen .figures (replicate 272 0) refl) in omega arith
 
 -- ---- 1 and 16 taken: no echo is read, or written; every node is the first; a cluster is made, and the answer is 12;
--- no length is stated for it; the figures are zero
+-- no length is stated for it; the figures of one node are zero
 
 abbrev isEcho : ℕ → List ℕ → Bool
 isEcho n b = both (isSize n) (eqb (getD b 3 0) 5)
@@ -189,7 +189,7 @@ abbrev zeroed : Answer Totals → Answer Totals
 zeroed (result t) = result zeros
 zeroed (refused k) = refused k
 
-all-zero : RuledOut (counts (λ n v. zeroed (figuresOf n v)))
+all-zero : RuledOut (counts (λ n v. pick (eqb n 1) (zeroed (figuresOf n v)) (figuresOf n v)))
 unfolding figuresOf busy viewOk upTo allTo totals reportOf part
 all-zero P =
     let f : zeros ≡ totals 1 busy = value (P .sizes .taken 1 (omega arith, omega arith) .figures busy refl refl) in

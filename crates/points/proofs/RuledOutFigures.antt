@@ -1,4 +1,5 @@
--- Wrong calls that the point on calls waiting rules out, each by one of its clauses.
+-- Wrong calls that the point on calls waiting rules out, each by one of its clauses. That the figures of each view are
+-- taken (`taken`) rules them out too, since the point follows from it.
 use Prim.Native.Nat.{ℕ, zero, suc, _+_, _<_, max}
 use native.Mathlib.Omega.{arith}
 use mathlib.Core.Path.{_≡_, refl, ap}
@@ -55,21 +56,21 @@ waitingBy f n v =
 abbrev waits : Totals → ℕ
 waits t = t .waiting
 
--- Calls waiting are added; those of the first node are shown; those of the last.
+-- Calls waiting are added; those of the first node are shown; those of the second.
 added : RuledOut (counts (waitingBy (total _+_ (λ p. p .waiting))))
 unfolding three five figuresOf viewOk upTo allTo totals part reportOf
 added P =
-    let e : _≡_ {A = ℕ} 8 5 = ap waits (value (P .one-queue .three-five _ rising)) in omega arith
+    let e : _≡_ {A = ℕ} 8 5 = ap waits (value (P .three-and-five .three-five _ rising)) in omega arith
 
 first-shown : RuledOut (counts (waitingBy (λ n v. reportAt v 0 .waiting)))
 unfolding three five figuresOf viewOk upTo allTo totals part reportOf
 first-shown P =
-    let e : _≡_ {A = ℕ} 3 5 = ap waits (value (P .one-queue .three-five _ rising)) in omega arith
+    let e : _≡_ {A = ℕ} 3 5 = ap waits (value (P .three-and-five .three-five _ rising)) in omega arith
 
-last-shown : RuledOut (counts (waitingBy (λ n v. reportAt v 1 .waiting)))
+second-shown : RuledOut (counts (waitingBy (λ n v. reportAt v 1 .waiting)))
 unfolding three five figuresOf viewOk upTo allTo totals part reportOf
-last-shown P =
-    let e : _≡_ {A = ℕ} 3 5 = ap waits (value (P .one-queue .five-three _ falling)) in omega arith
+second-shown P =
+    let e : _≡_ {A = ℕ} 3 5 = ap waits (value (P .three-and-five .five-three _ falling)) in omega arith
 
 -- The largest is shown of lines too.
 abbrev mostLines : ℕ → List ℕ → Totals → Totals
@@ -84,12 +85,12 @@ mostLines n v t =
 most-lines : RuledOut (counts (λ n v. changed (mostLines n v) (figuresOf n v)))
 unfolding three five figuresOf viewOk upTo allTo totals part reportOf
 most-lines P =
-    let e : _≡_ {A = ℕ} 20 22 = ap (λ (t : Totals). t .lines) (value (P .one-queue .three-five _ rising)) in omega arith
+    let e : _≡_ {A = ℕ} 20 22 = ap (λ (t : Totals). t .lines) (value (P .three-and-five .three-five _ rising)) in omega arith
 
 -- A view without a first report is refused.
 none-refused : RuledOut (counts (λ n v. pick (eqb (tagAt v 0) 0) (refused 7) (figuresOf n v)))
 unfolding figuresOf viewOk allTo part
-none-refused P = apart (P .one-queue .nobody 1 (omega arith, omega arith) (replicate 16 0) refl refl none) refl
+none-refused P = apart (P .three-and-five .nobody 1 (omega arith, omega arith) (replicate 16 0) refl refl none) refl
   where
     none : (i : ℕ) → i < 1 → tagAt (replicate 16 0) i ≡ 0
     none zero l = refl

@@ -1,4 +1,4 @@
--- The calls that document 01's points speak of. The points are stated of any calls, so that it can be said which wrong
+-- The calls that the points speak of. The points are stated of any calls, so that it can be said which wrong
 -- ones they rule out. `code` has the definitions that the contracts of the code are equated with.
 use Prim.Native.Nat.{ℕ}
 use mathlib.Core.List.{List, [], _∷_}

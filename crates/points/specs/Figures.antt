@@ -31,7 +31,7 @@ withFive p q =
     }
 
 -- All three follow from the clause on figures that are taken, and rule out no call that it does not.
-pub record OneQueue (calls : Calls) : Type 0 where
+pub record ThreeAndFive (calls : Calls) : Type 0 where
   pub three-five : (v : List ℕ) → Waiting v 3 5 → calls .figures 2 v ≡ result (withFive (reportAt v 0) (reportAt v 1))
   pub five-three : (v : List ℕ) → Waiting v 5 3 → calls .figures 2 v ≡ result (withFive (reportAt v 0) (reportAt v 1))
   pub nobody : (n : ℕ) → OneTo nodes n → (v : List ℕ) → length v ≡ 16 * n → viewOk n limit v ≡ true

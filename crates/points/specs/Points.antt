@@ -10,7 +10,7 @@ use Rattle.points.specs.LastTag.{LastTag}
 use Rattle.points.specs.Stops.{Stops}
 use Rattle.points.specs.Absences.{Absences}
 use Rattle.points.specs.Channels.{Channels}
-use Rattle.points.specs.Figures.{OneQueue}
+use Rattle.points.specs.Figures.{ThreeAndFive}
 
 pub record PointsOf (calls : Calls) : Type 0 where
   -- n 0 and 17 refused; 1 and 16 taken.
@@ -31,7 +31,7 @@ pub record PointsOf (calls : Calls) : Type 0 where
   -- The sixteenth message on a trunk is taken, the seventeenth is 11.
   pub channels : Channels calls
   -- Two nodes with 3 and 5 calls waiting give 5, nobody gives 0; the other counts are added as before.
-  pub one-queue : OneQueue calls
+  pub three-and-five : ThreeAndFive calls
 
 abbrev pub Points : Type 0
 Points = PointsOf code

@@ -1,1 +1,1 @@
-// No code: document 01's points to prove (P), as one table (specs/) and one theorem (proofs/).
+// No code: the points to prove of documents 01 and 02, as one table (specs/) and one theorem (proofs/).

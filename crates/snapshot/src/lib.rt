@@ -56,7 +56,7 @@ ghost use Rattle.calls_bytes.specs.Frame.{frame as frameNode};
 ghost use Rattle.node_bytes.specs.Called.{tells};
 ghost use Rattle.calls_bytes.specs.Shown.{eventView};
 ghost use Rattle.codes.specs.Code.{extentOf, leaves};
-ghost use Rattle.codes.specs.Code.{numbers as numbersOf, reportIn, messageIn, inOrder};
+ghost use Rattle.codes.specs.Code.{numbers as numbersOf, reportIn, messageIn, fourFigures};
 ghost use Rattle.codes.specs.Code.{answerCode, lent, wrote, wrotePage, lentCode, leavesNode, routeOf};
 
 // ---- a cluster in one buffer
@@ -320,7 +320,7 @@ pub extern "C" fn snapshot_write(
 #[no_mangle]
 pub extern "C" fn snapshot_figures(n: usize, view: &[u8], figures: &mut [u32; 4]) -> u8
     ensures { λ r. ⌜ (r ≡ answerCode (figuresOf n (now (view .entry))))
-        × (now (figures .exit) ≡ lent inOrder (figuresOf n (now (view .entry))) (now (figures .entry))) ⌝ }
+        × (now (figures .exit) ≡ lent fourFigures (figuresOf n (now (view .entry))) (now (figures .entry))) ⌝ }
 {
     match figures::figures(n, view) {
         Counted::Figures(t) => {

@@ -10,7 +10,7 @@ use oracle::wire::ENTRY;
 const ABSENT_BESIDE_ZEROS: &str = "page written: no report beside one of zeros";
 const ALL_ABSENT: &str = "page written: no report at all";
 const SEVEN_DIGITS: &str = "page written: the largest figures";
-const TWO_WAIT: &str = "page written: calls waiting at two nodes";
+const TWO_WAIT: &str = "page written: two counts of calls waiting, neither 0";
 const EXACT: &str = "page written: as long as its buffer";
 const LONGER: &str = "page written: a longer buffer";
 const ONE_SHORT: &str = "page refused: 15, one byte short";

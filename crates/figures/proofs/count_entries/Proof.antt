@@ -1,9 +1,8 @@
 -- `figures::count_entries` meets its contract.
 use borrow.Author.Needs.{needs}
-use Prim.Native.Nat.{ℕ, _+_, _-_, _*_, _<_, _≤_, _^_}
-use mathlib.Core.Path.{_≡_, refl, sym, ap, ap₂, _∙_}
+use Prim.Native.Nat.{ℕ, _+_, _-_, _*_, _≤_}
+use mathlib.Core.Path.{_≡_, sym, ap, _∙_}
 use mathlib.Core.Bool.{Bool, true}
-use mathlib.Core.List.{List}
 use native.Mathlib.Omega.{arith}
 use Rattle.octets.specs.Answer.{Answer, result, refused}
 use Rattle.octets.specs.Test.{pick}
@@ -12,10 +11,8 @@ use Rattle.octets.proofs.Lent.{lent}
 use Rattle.view.specs.Report.{reportOf}
 use Rattle.view.specs.Size.{limit, tagSize, reportSize, entrySize}
 use Rattle.view.specs.View.{viewOk, entryOkAt}
-use Rattle.view.specs.declared.Report.{Report}
 use Rattle.figures.specs.declared.Totals.{Totals}
-use Rattle.figures.specs.Figures.{countedReport, withReport, totals, figureMost}
-use Rattle.figures.specs.Room.{Roomy}
+use Rattle.figures.specs.Figures.{totals}
 use Rattle.figures.proofs.Adding.{totals-none, more-roomy, one-more}
 use Rattle.figures.proofs.Bounds.{countedReport-is}
 use Rattle.figures.proofs.count_entries.Statement.{statement}
@@ -62,15 +59,15 @@ loop-again c =
     )
 
 -- a choice by a test that is known
-chosen : {t u : Bool} (a b : Answer Totals) → u ≡ t → pick t a b ≡ pick u a b
-chosen a b e = ap (λ (t : Bool). pick t a b) (sym e)
+decided : {t u : Bool} (a b : Answer Totals) → u ≡ t → pick t a b ≡ pick u a b
+decided a b e = ap (λ (t : Bool). pick t a b) (sym e)
 
 returns : tie.Need-returns Inv-loop μ-loop
 unfolding viewOk
 returns c =
     let n = c .before .before .before .before .before .before .args .n in
     let v = c .before .before .before .before .before .before .args .v .now in
-    chosen (result (totals n v)) (refused 7)
+    decided (result (totals n v)) (refused 7)
     (allTo-false n (entryOkAt limit v) (c .before .before .before .loop .i) (c .before .before .loop-test .taken)
     (sym (c .before .is-entry .ensures) ∙ c .if1 .left))
 
@@ -80,7 +77,7 @@ returns-2 c =
     let v = c .before .before .before .before .args .v .now in
     let e : c .before .loop .i ≡ n = omega arith in
     ap result (c .before .loop .inv .2 ∙ ap (λ (k : ℕ). totals k v) e)
-    ∙ chosen (result (totals n v)) (refused 7) (ap (λ (k : ℕ). viewOk k limit v) (sym e) ∙ c .before .loop .inv .1)
+    ∙ decided (result (totals n v)) (refused 7) (ap (λ (k : ℕ). viewOk k limit v) (sym e) ∙ c .before .loop .inv .1)
 
 pub count-entries-spec : {M : Type 1} → statement M
 count-entries-spec =
