@@ -76,9 +76,9 @@ unfolding upTo
 largest-is zero v = record { most = λ i l t. absurd (omega arith); some = inr (λ i l. absurd (omega arith), refl) }
 largest-is (suc k) v = largest-more k v (total max (λ p. p .waiting) k v) (largest-is k v)
 
-pub nobody : claim.Nobody
-nobody n v t e h = accepted n v t e .are ∙ totals-nobody n v h
-
 pub one-queue : claim.OneQueue
 unfolding totals
 one-queue n v t e = rw (accepted n v t e .are) (largest-is n v)
+
+pub nobody : claim.Nobody
+nobody n v t e h = accepted n v t e .are ∙ totals-nobody n v h

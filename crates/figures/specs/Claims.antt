@@ -29,10 +29,10 @@ pub record Largest (n : ℕ) (v : List ℕ) (m : ℕ) : Type 0 where
   pub some : ((i : ℕ) × (i < n) × (tagAt v i ≡ 0 → ⊥) × (reportAt v i .waiting ≡ m))
       ⊎ (((i : ℕ) → i < n → tagAt v i ≡ 0) × (m ≡ 0))
 
+abbrev pub OneQueue : Type 0
+OneQueue = (n : ℕ) (v : List ℕ) (t : Totals) → figuresOf n v ≡ result t → Largest n v (t .waiting)
+
 -- All figures are 0 where nobody has reported.
 abbrev pub Nobody : Type 0
 Nobody = (n : ℕ) (v : List ℕ) (t : Totals) → figuresOf n v ≡ result t → ((i : ℕ) → i < n → tagAt v i ≡ 0)
     → t ≡ noTotals
-
-abbrev pub OneQueue : Type 0
-OneQueue = (n : ℕ) (v : List ℕ) (t : Totals) → figuresOf n v ≡ result t → Largest n v (t .waiting)

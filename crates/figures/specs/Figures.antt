@@ -1,6 +1,6 @@
 -- House figures: over a view for n nodes, each count of the reports put together; no report counts as four zeros. Three
--- are sums, as in document 01. Of calls waiting it is the largest, by document 02, since all nodes watch one queue; it is
--- called a total all the same.
+-- are sums, as in document 01. Of calls waiting it is the largest, by document 02, since all nodes watch one queue; it
+-- is called a total all the same.
 use Prim.Native.Nat.{ℕ, _+_, _*_, max}
 use mathlib.Core.List.{List}
 use lib.ListN.{length}

@@ -85,7 +85,8 @@ mostLines n v t =
 most-lines : RuledOut (counts (λ n v. changed (mostLines n v) (figuresOf n v)))
 unfolding three five figuresOf viewOk upTo allTo totals part reportOf
 most-lines P =
-    let e : _≡_ {A = ℕ} 20 22 = ap (λ (t : Totals). t .lines) (value (P .three-and-five .three-five _ rising)) in omega arith
+    let e : _≡_ {A = ℕ} 20 22 = ap (λ (t : Totals). t .lines) (value (P .three-and-five .three-five _ rising)) in
+    omega arith
 
 -- A view without a first report is refused.
 none-refused : RuledOut (counts (λ n v. pick (eqb (tagAt v 0) 0) (refused 7) (figuresOf n v)))
