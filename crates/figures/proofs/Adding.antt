@@ -10,7 +10,7 @@ use Rattle.view.specs.Size.{nodes}
 use Rattle.view.specs.View.{tagAt}
 use Rattle.view.specs.declared.Report.{Report}
 use Rattle.figures.specs.declared.Totals.{Totals}
-use Rattle.figures.specs.Figures.{countedReport, noTotals, withReport, totals}
+use Rattle.figures.specs.Figures.{countedReport, noTotals, withReport, totals, waitingSum}
 use Rattle.figures.specs.Room.{Roomy}
 use Rattle.figures.proofs.Bounds.{countedReport-none, totals-fit}
 
@@ -21,6 +21,13 @@ totals-none v = simp upTo-none
 pub totals-more : (k : ℕ) (v : List ℕ) → totals (k + 1) v ≡ withReport (totals k v) (countedReport v k)
 unfolding totals
 totals-more k v = simp upTo-more
+
+-- the plain sum of calls waiting, which stands beside the figures
+pub waitingSum-none : (v : List ℕ) → waitingSum 0 v ≡ 0
+waitingSum-none v = upTo-none _ 0
+
+pub waitingSum-more : (k : ℕ) (v : List ℕ) → waitingSum (k + 1) v ≡ waitingSum k v + countedReport v k .waiting
+waitingSum-more k v = upTo-more k _ 0
 
 -- where nobody has reported
 pub totals-nobody : (n : ℕ) (v : List ℕ) → ((i : ℕ) → i < n → tagAt v i ≡ 0) → totals n v ≡ noTotals

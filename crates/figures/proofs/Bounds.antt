@@ -22,7 +22,7 @@ use Rattle.view.proofs.ReportBytes.{counts-of}
 use Rattle.view.proofs.ViewBytes.{ok-report}
 use Rattle.view.specs.declared.Report.{Report}
 use Rattle.figures.specs.declared.Totals.{Totals}
-use Rattle.figures.specs.Figures.{countedReport, total, totals, countMost, figureMost}
+use Rattle.figures.specs.Figures.{countedReport, total, totals, waitingSum, countMost, figureMost}
 
 same-test : (x y : Bool) → (x ≡ true → y ≡ true) → (y ≡ true → x ≡ true) → x ≡ y
 same-test true y f g = sym (f refl)
@@ -119,16 +119,23 @@ pub record Fit (t : Totals) : Type 0 where
 pub most-fits : figureMost < 2 ^ 32
 most-fits = omega arith
 
-pub totals-fit : (n : ℕ) (v : List ℕ) → Bytes v → n ≤ nodes → Fit (totals n v)
-unfolding totals
-totals-fit n v h l =
-    let c = counts-of in
-    let sum : (count : Report → ℕ) → Count count → total _+_ count n v ≤ figureMost =
-    λ count k. total-fits _+_ (λ a b. omega arith) count k n v h l in
-    record {
-      extensions = sum (λ p. p .extensions) (record { none = refl; most = λ b g. c b g .extensions });
-      lines = sum (λ p. p .lines) (record { none = refl; most = λ b g. c b g .lines });
-      waiting = total-fits max (λ a b. omega arith) (λ p. p .waiting)
-          (record { none = refl; most = λ b g. c b g .waiting }) n v h l;
-      wakeups = sum (λ p. p .wakeups) (record { none = refl; most = λ b g. c b g .wakeups });
-    }
+-- calls waiting in a report, as a count
+waits : Count (λ p. p .waiting)
+waits = record { none = refl; most = λ b g. counts-of b g .waiting }
+
+module _ (n : ℕ) (v : List ℕ) (h : Bytes v) (l : n ≤ nodes) where
+  sum-fits : (count : Report → ℕ) → Count count → total _+_ count n v ≤ figureMost
+  sum-fits count c = total-fits _+_ (λ a b. omega arith) count c n v h l
+
+  pub waitingSum-fits : waitingSum n v ≤ figureMost
+  waitingSum-fits = sum-fits (λ p. p .waiting) waits
+
+  pub totals-fit : Fit (totals n v)
+  unfolding totals
+  totals-fit =
+      record {
+        extensions = sum-fits (λ p. p .extensions) (record { none = refl; most = λ b g. counts-of b g .extensions });
+        lines = sum-fits (λ p. p .lines) (record { none = refl; most = λ b g. counts-of b g .lines });
+        waiting = total-fits max (λ a b. omega arith) (λ p. p .waiting) waits n v h l;
+        wakeups = sum-fits (λ p. p .wakeups) (record { none = refl; most = λ b g. counts-of b g .wakeups });
+      }

@@ -2,6 +2,7 @@
 -- are sums, as in document 01. Of calls waiting it is the largest, by document 02, since all nodes watch one queue; it
 -- is called a total all the same.
 use Prim.Native.Nat.{ℕ, _+_, _*_, max}
+use mathlib.Core.Path.{_≡_}
 use mathlib.Core.List.{List}
 use lib.ListN.{length}
 use lib.Dec.{eqb}
@@ -61,5 +62,13 @@ figuresOf n v =
 
 -- what the answer says in document 01's terms
 abbrev pub counted : Counted → Answer Totals
-counted (Figures t) = result t
+counted (Figures t s) = result t
 counted (Refused c) = refused c
+
+-- what stands beside figures: the plain sum of calls waiting
+abbrev pub waitingSum : ℕ → List ℕ → ℕ
+waitingSum n v = total _+_ (λ p. p .waiting) n v
+
+abbrev pub SumBeside : ℕ → List ℕ → Counted → Type 0
+SumBeside n v (Figures t s) = s ≡ waitingSum n v
+SumBeside n v (Refused c) = Unit {0}

@@ -8,7 +8,7 @@ ghost use Rattle.octets.specs.Test.{pick};
 ghost use Rattle.octets.specs.Word.{word};
 ghost use Rattle.view.specs.Size.{nodes, limit, tagSize, entrySize, viewSize};
 ghost use Rattle.view.specs.View.{entryOk, viewOk};
-ghost use Rattle.figures.specs.Figures.{noTotals, withReport, totals, figuresOf, counted};
+ghost use Rattle.figures.specs.Figures.{noTotals, withReport, totals, figuresOf, counted, SumBeside};
 ghost use Rattle.figures.specs.Room.{Roomy};
 use view::ENTRY;
 use view::LIMIT;
@@ -24,9 +24,9 @@ pub struct Totals {
     pub wakeups: u32,
 }
 
-// The figures, or the number of a refusal.
+// The figures, and beside them the plain sum of calls waiting; or the number of a refusal.
 pub enum Counted {
-    Figures(Totals),
+    Figures(Totals, u32),
     Refused(u8),
 }
 
@@ -88,31 +88,36 @@ fn is_entry(v: &[u8], at: usize) -> bool
     view::entry_ok(LIMIT, v, at)
 }
 
-// The figures over n entries, or 7 where one of them cannot stand in a view.
+// The figures over n entries, or 7 where one of them cannot stand in a view. Calls waiting are added up too: then the
+// four additions of an entry are one instruction.
 fn count_entries(n: usize, v: &[u8]) -> Counted
     requires { ⌜ (n ≤ nodes) × (viewSize n ≤ length (now v)) ⌝ }
-    ensures { λ r. ⌜ counted r
-        ≡ pick (viewOk n limit (now (v .entry))) (result (totals n (now (v .entry)))) (refused 7) ⌝ }
+    ensures { λ r. ⌜ (counted r
+        ≡ pick (viewOk n limit (now (v .entry))) (result (totals n (now (v .entry)))) (refused 7))
+        × SumBeside n (now (v .entry)) r ⌝ }
 {
     let mut t = no_totals();
+    let mut sum = 0;
     let mut i = 0;
     while i < n {
         let at = ENTRY * i;
         if is_entry(v, at) {
             let middle = at + TAG;
             let end = at + ENTRY;
-            t = with_report(t, view::read_report(&v[middle..end]));
+            let p = view::read_report(&v[middle..end]);
+            sum += p.waiting as u32;
+            t = with_report(t, p);
             i += 1;
         } else {
             return Counted::Refused(7);
         }
     }
-    Counted::Figures(t)
+    Counted::Figures(t, sum)
 }
 
 // The figures over a view of n nodes, or 12, 1, 7.
 pub fn figures(n: usize, v: &[u8]) -> Counted
-    ensures { λ r. ⌜ counted r ≡ figuresOf n (now (v .entry)) ⌝ }
+    ensures { λ r. ⌜ (counted r ≡ figuresOf n (now (v .entry))) × SumBeside n (now (v .entry)) r ⌝ }
 {
     if is_long(n, v.len()) {
         if octets::and(1 <= n, n <= NODES) {

@@ -316,6 +316,9 @@ pub extern "C" fn snapshot_write(
     }
 }
 
+// Where calls waiting stand among the figures.
+const WAITING: usize = 2;
+
 // The house figures over a view of n nodes.
 #[no_mangle]
 pub extern "C" fn snapshot_figures(n: usize, view: &[u8], figures: &mut [u32; 4]) -> u8
@@ -323,8 +326,12 @@ pub extern "C" fn snapshot_figures(n: usize, view: &[u8], figures: &mut [u32; 4]
         × (now (figures .exit) ≡ lent fourFigures (figuresOf n (now (view .entry))) (now (figures .entry))) ⌝ }
 {
     match figures::figures(n, view) {
-        Counted::Figures(t) => {
-            *figures = [t.extensions, t.lines, t.waiting, t.wakeups];
+        // Four sums are stored at once, and the largest over its sum where it is another number.
+        Counted::Figures(t, sum) => {
+            *figures = [t.extensions, t.lines, sum, t.wakeups];
+            if t.waiting != sum {
+                figures[WAITING] = t.waiting;
+            }
             0
         }
         Counted::Refused(k) => k,

@@ -35,11 +35,11 @@ unfolding figuresOf
 returns-2 c = rw (
   sym (c .before .before .before .is-long .ensures) ∙ c .before .before .if1 .taken,
   sym (c .before .and .ensures) ∙ c .if2 .left,
-) refl
+) (refl, tt)
 
 returns-3 : tie.Need-returns-3
 unfolding figuresOf
-returns-3 c = rw (sym (c .before .is-long .ensures) ∙ c .if1 .left) refl
+returns-3 c = rw (sym (c .before .is-long .ensures) ∙ c .if1 .left) (refl, tt)
 
 pub figures-spec : {M : Type 1} → statement M
 figures-spec =
