@@ -1,8 +1,8 @@
 -- For the clauses of the points wrong calls that they rule out: no calls with that one in them have the points. A wrong
 -- call is the code's but where a test says so, and no other clause rules it out; this is not proved. Two kinds of
--- clause rule out no call alone: one that follows from others (`Follows`), which has a wrong call where it has the words
--- of a document; and one that says of the code that there is such a case. Here for n, f and messages: `absent-1` and
--- `absent-16`, `values`, `written`, `read` and `long` follow.
+-- clause rule out no call alone: one that follows from others (`Follows`), which has a wrong call where it has the
+-- words of a document; and one that says of the code that there is such a case. Here for n, f and messages: `absent-1`
+-- and `absent-16`, `values`, `written`, `read` and `long` follow.
 use Prim.Native.Nat.{ℕ, _+_, _*_, _≤_, _<_, min, max}
 use native.Mathlib.Omega.{arith}
 use mathlib.Core.Path.{_≡_, refl, sym, ap, _∙_}
