@@ -53,24 +53,24 @@ waitingBy f n v =
     changed (λ t. record { extensions = t .extensions; lines = t .lines; waiting = f n v; wakeups = t .wakeups })
     (figuresOf n v)
 
-abbrev waits : Totals → ℕ
-waits t = t .waiting
+abbrev callsWaiting : Totals → ℕ
+callsWaiting t = t .waiting
 
 -- Calls waiting are added; those of the first node are shown; those of the second.
 added : RuledOut (counts (waitingBy (total _+_ (λ p. p .waiting))))
 unfolding three five figuresOf viewOk upTo allTo totals part reportOf
 added P =
-    let e : _≡_ {A = ℕ} 8 5 = ap waits (value (P .three-and-five .three-five _ rising)) in omega arith
+    let e : _≡_ {A = ℕ} 8 5 = ap callsWaiting (value (P .three-and-five .three-five _ rising)) in omega arith
 
 first-shown : RuledOut (counts (waitingBy (λ n v. reportAt v 0 .waiting)))
 unfolding three five figuresOf viewOk upTo allTo totals part reportOf
 first-shown P =
-    let e : _≡_ {A = ℕ} 3 5 = ap waits (value (P .three-and-five .three-five _ rising)) in omega arith
+    let e : _≡_ {A = ℕ} 3 5 = ap callsWaiting (value (P .three-and-five .three-five _ rising)) in omega arith
 
 second-shown : RuledOut (counts (waitingBy (λ n v. reportAt v 1 .waiting)))
 unfolding three five figuresOf viewOk upTo allTo totals part reportOf
 second-shown P =
-    let e : _≡_ {A = ℕ} 3 5 = ap waits (value (P .three-and-five .five-three _ falling)) in omega arith
+    let e : _≡_ {A = ℕ} 3 5 = ap callsWaiting (value (P .three-and-five .five-three _ falling)) in omega arith
 
 -- The largest is shown of lines too.
 abbrev mostLines : ℕ → List ℕ → Totals → Totals
