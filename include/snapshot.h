@@ -5,7 +5,7 @@
  * In this file a node is document 01's cabinet, a cluster its house, a channel its trunk, a tag its stamp, a scan its
  * look.
  *
- * There are three groups of calls:
+ * There are three groups of calls, and snapshot_most_faults, which serves the first two:
  *   one node         snapshot_node_..: a cabinet, in a record that you lend. You send and receive its messages.
  *   a cluster        snapshot_fresh, .._begin_.., .._deliver, .._stop: n nodes and the channels between them, in one
  *                    run of lent bytes, to try out a whole house in one program.
@@ -21,15 +21,18 @@
  *   4. All messages of an output are sent before the next call on the record, and before its ending is told to anyone.
  *   5. A record is never put back from an older copy (it may be moved: it holds no address). A node that has lost its
  *      record, or that was interrupted in the middle of a call or of sending, has stopped and does not come back.
- *   6. All nodes have the same n, each its own number, and each starts from snapshot_node_fresh.
+ *   6. All nodes have the same n and the same f, each its own number, and each starts from snapshot_node_fresh. No
+ *      message carries f, so no call finds out that two nodes differ in it.
  *   7. A link may hand over its oldest messages together, whole and in their order, as a frame (snapshot_node_frame).
  *      Who packs messages before they are sent owes rule 2 all the same: no message leaves in a frame for one node
  *      before all that stand before it have left for the others.
- * Fewer than half of the nodes may stop: f of n, where f is the largest whole number with 2f < n. While no more have,
- * each operation at a standing node is to end, once all messages to standing nodes are handed over. Both are proved of
- * the algorithm on links with room for anything. Of each call here it is proved that it does what its definition says,
- * and that definition follows the algorithm's step for each message that a run hands over. That a whole house of such
- * calls does the algorithm's run is proved of the cluster below, and not yet of links of your own.
+ * Fewer than half of the nodes may stop: f of n, where f is what all nodes were made with, 0 to 7 with 2f < n. With a
+ * smaller f fewer may stop, and an operation waits for a larger quorum, which is n - f nodes. While no more than f have
+ * stopped, each operation at a standing node is to end, once all messages to standing nodes are handed over. Both are
+ * proved, for every such f, of the algorithm on links with room for anything. Of each call here it is proved that it
+ * does what its definition says, and that definition follows the algorithm's step for each message that a run hands
+ * over. That a whole house of such calls does the algorithm's run is proved of the cluster below, and not yet of links
+ * of your own.
  *
  * WHAT THE CALLER OWES, of every call, since no call can test it:
  *   - A pointer is never null, not even beside length 0, where nothing is read or written through it. It points to as
@@ -44,14 +47,14 @@
  * Nothing is asked of contents: every call takes any numbers and any bytes, and answers its result or a refusal.
  *
  * WHAT EVERY CALL KEEPS:
- *   - It answers a code (but for the two sizes): a refusal, the first in the order that stands beside the call and only
- *     on its condition; an ending; or 0.
+ *   - It answers a code (but for the two sizes and snapshot_most_faults): a refusal, the first in the order that stands
+ *     beside the call and only on its condition; an ending; or 0.
  *   - A refusal writes nothing: each lent byte and number is as it was. Without a refusal exactly what is named beside
  *     the call is written, and every other lent byte is as it was.
  *   - It always returns. It has no state but what is lent, keeps no pointer, and neither allocates, blocks nor makes a
  *     system call. Of other code it calls memcpy and memset alone.
  *   - It takes little stack, in bytes: of one node a begin 500, a message 4200, a frame 4600; of a cluster fresh 2200,
- *     a begin 6900, a delivery 6800, a stop 300; all others 200. This is measured on x86-64 Linux, where no round fails
+ *     a begin 6900, a delivery 6800, a stop 400; all others 200. This is measured on x86-64 Linux, where no round fails
  *     (examples/c/stack.c), and rounded up: it is no proved bound.
  */
 #ifndef SNAPSHOT_H
@@ -77,7 +80,7 @@
 #define SNAPSHOT_VIEW 256
 
 /* The record of one node, as snapshot_node_size() answers. */
-#define SNAPSHOT_RECORD 3168
+#define SNAPSHOT_RECORD 3176
 
 /* The least length of an output, but for a frame's. The messages of one begin or one message take at most 341 of it. */
 #define SNAPSHOT_OUTPUT 512
@@ -98,11 +101,11 @@
 #define SNAPSHOT_PAGE(n) (SNAPSHOT_LINE * ((n) + 1))
 
 /* A cluster of n nodes, n from 1 to 16, as snapshot_size(n) answers: for the length of an array. */
-#define SNAPSHOT_CLUSTER(n) (1 + 73345 * (n))
+#define SNAPSHOT_CLUSTER(n) (2 + 73353 * (n))
 
 /* A refusal: the call did nothing, and wrote nothing. Refusals that are added later stay below 100. */
 enum snapshot_refusal {
-    SNAPSHOT_REFUSED_SIZE = 1,      /* n is not 1 to 16, or a node's own number is not 1 to n */
+    SNAPSHOT_REFUSED_SIZE = 1,      /* n is not 1 to 16, f not 0 to 7 with 2f < n, or an own number not 1 to n */
     SNAPSHOT_REFUSED_UNUSABLE = 2,  /* the record, or the cluster, is not one that can be used */
     SNAPSHOT_REFUSED_NODE = 3,      /* no node has this number: it is not 1 to n */
     SNAPSHOT_REFUSED_STOPPED = 4,   /* this node has stopped */
@@ -170,25 +173,34 @@ static inline bool snapshot_is_refusal(uint8_t code)
 extern "C" {
 #endif
 
+/* ---- How many nodes may stop ----
+ *
+ * Who makes a node or a cluster chooses f, 0 to 7 with 2f < n. It stands in the record, and no other call changes it.
+ */
+
+/* The largest f with 2f < n, which is document 01's: (n - 1) / 2 rounded down, and 0 where n is 0. Refuses nothing,
+ * writes nothing. */
+size_t snapshot_most_faults(size_t n);
+
 /* ---- One node ----
  *
  * `state` is its record, in SNAPSHOT_RECORD bytes that you lend.
  *
- * A record is unusable (refusal 2) where its n is not 1 to 16, its own number not 1 to n, the code of its wait not one
- * of the five, the kind of its open operation not one of the two, its round not 0 to 3, or a number above its limit;
- * where a report that is held for maxtag (the top tag, by writes and echoes), for the open round's tag, or in the kept
- * view has a tag above that one; where bytes that are not zero stand beside tag 0; or where fewer request numbers are
- * left than the open operation may still use. What these calls leave is usable.
+ * A record is unusable (refusal 2) where its n is not 1 to 16, its f not 0 to 7 with 2f < n, its own number not 1 to n,
+ * the code of its wait not one of the five, the kind of its open operation not one of the two, its round not 0 to 3, or
+ * a number above its limit; where a report that is held for maxtag (the top tag, by writes and echoes), for the open
+ * round's tag, or in the kept view has a tag above that one; where bytes that are not zero stand beside tag 0; or where
+ * fewer request numbers are left than the open operation may still use. What these calls leave is usable.
  */
 
 /* The length of a node's record: SNAPSHOT_RECORD. Refuses nothing, writes nothing. */
 size_t snapshot_node_size(void);
 
-/* Makes the record that of node `own` of n, which has heard nothing and has no open operation.
- *   1   n is not 1 to 16, or own is not 1 to n
+/* Makes the record that of node `own` of n, of which f may stop; it has heard nothing and has no open operation.
+ *   1   n is not 1 to 16, f is not 0 to 7 with 2f < n, or own is not 1 to n
  *   12  state_len is not SNAPSHOT_RECORD
  * Answers 0. Writes the whole record. */
-uint8_t snapshot_node_fresh(size_t n, size_t own, uint8_t *state, size_t state_len);
+uint8_t snapshot_node_fresh(size_t n, size_t f, size_t own, uint8_t *state, size_t state_len);
 
 /* Begins an update with this report. The messages to send stand in out[0] to out[*length - 1]: walk them with
  * snapshot_next. The update ends in a later snapshot_node_message or snapshot_node_frame.
@@ -247,8 +259,8 @@ uint8_t snapshot_next(size_t n, const uint8_t *bytes, size_t bytes_len, size_t *
  * `cluster` is the whole of it, cluster_len what snapshot_size answers for its n. Refusals 12 and 2 are the same for
  * all calls but snapshot_fresh:
  *   12  cluster_len is 0, or byte 0 states an n from 1 to 16 and cluster_len is not the length for it
- *   2   byte 0 states another n; a record is unusable, or that of another n or node; a channel counts above 16; or more
- *       than f nodes are stopped
+ *   2   byte 0 states another n; byte 1 states an f that is not 0 to 7 with 2f < n; a record is unusable, or that of
+ *       another n, f or node; a channel counts above 16; or more than f nodes are stopped
  * An event that is cut (cut is true) lets out only its first messages, as many as `entries` says, one for each receiver
  * counted, or all where there are fewer; then its node has stopped, and its ending is not given. Where cut is false
  * entries is not looked at.
@@ -257,11 +269,11 @@ uint8_t snapshot_next(size_t n, const uint8_t *bytes, size_t bytes_len, size_t *
 /* The bytes to lend for a cluster of n nodes; 0 where n is not 1 to 16. Refuses nothing, writes nothing. */
 size_t snapshot_size(size_t n);
 
-/* Makes the bytes a fresh cluster of n nodes.
- *   1   n is not 1 to 16
+/* Makes the bytes a fresh cluster of n nodes, of which f may stop.
+ *   1   n is not 1 to 16, or f is not 0 to 7 with 2f < n
  *   12  cluster_len is not snapshot_size(n)
  * Answers 0. Writes the whole cluster. */
-uint8_t snapshot_fresh(size_t n, uint8_t *cluster, size_t cluster_len);
+uint8_t snapshot_fresh(size_t n, size_t f, uint8_t *cluster, size_t cluster_len);
 
 /* Begins an update with this report at a node.
  *   12, 2  above

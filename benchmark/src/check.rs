@@ -4,16 +4,32 @@ mod node;
 mod page;
 
 use crate::dice::Dice;
+use crate::plain::bytes::{put_word, LIMIT};
+use crate::plain::cluster::{block_at, channel_at, CAPACITY, SLOT};
+use crate::plain::record::{F, HEARD, LAST, MAXTAG, REQUEST, SIZE as RECORD, WAIT};
 use crate::side::{Event, Numbers, Plain, Proved, Side, View, SCAN};
 use crate::workload::waiting;
 
 /// Numbers near the limits.
 fn odd_number(dice: &mut Dice) -> u64 {
-    const TOP: u64 = i64::MAX as u64;
-    let near = [0, 1, 2, 3, 4, 5, 16, 17, 255, 256, TOP - 5, TOP - 4, TOP - 1, TOP, TOP + 1, u64::MAX];
+    let near = [0, 1, 2, 3, 4, 5, 16, 17, 255, 256, LIMIT - 5, LIMIT - 4, LIMIT - 1, LIMIT, LIMIT + 1, u64::MAX];
     match dice.below(3) {
         0 => dice.number() >> dice.below(64),
         _ => near[dice.below(near.len())],
+    }
+}
+
+/// An f that n nodes may have.
+fn some_f(dice: &mut Dice, n: usize) -> usize {
+    dice.below(Plain::most_faults(n) + 1)
+}
+
+/// An f that n nodes may have, one too many, or one near the limits.
+fn odd_f(dice: &mut Dice, n: usize) -> usize {
+    match dice.below(4) {
+        0 => Plain::most_faults(n) + dice.below(2),
+        1 => odd_number(dice) as usize,
+        _ => some_f(dice, n),
     }
 }
 
@@ -48,46 +64,52 @@ fn some_event(dice: &mut Dice, n: usize, habits: &Habits, b: &[u8]) -> Event {
     Event::Deliver { from: node(dice), to: node(dice), cut }
 }
 
-fn put_word(b: &mut [u8], at: usize, x: u64) {
-    b[at..at + 8].copy_from_slice(&x.to_be_bytes());
-}
-
-/// Damages a record: a word, the request number and the wait, an entry of a view past n, or any byte.
+/// Damages a record: a word, f, the request number and the wait, an entry of a view past n, or any byte.
 fn damage_record(dice: &mut Dice, n: usize, record: &mut [u8]) {
-    match dice.below(8) {
-        0..=2 => put_word(record, 8 * dice.below(12), odd_number(dice)),
-        3 => put_word(record, 96 + 8 * dice.below(384), odd_number(dice)),
-        4..=6 => {
+    match dice.below(9) {
+        0..=2 => put_word(record, 8 * dice.below(HEARD / 8), odd_number(dice)),
+        3 => put_word(record, HEARD + 8 * dice.below((RECORD - HEARD) / 8), odd_number(dice)),
+        4 => put_word(record, F, odd_f(dice, n) as u64),
+        5..=7 => {
             // The request number near its limit, and the wait's code, kind and round.
-            put_word(record, 24, i64::MAX as u64 - dice.below(7) as u64);
-            for word in 5..8 {
+            put_word(record, REQUEST, LIMIT - dice.below(7) as u64);
+            for word in 0..3 {
                 if dice.chance(300) {
-                    put_word(record, 8 * word, dice.below(6) as u64);
+                    put_word(record, WAIT + 8 * word, dice.below(6) as u64);
                 }
             }
         }
         _ if n < 16 => {
             // A report past n, often one that refusal 2 lets pass: no view may show it.
-            let entry = 2144 + 256 * dice.below(4) + 16 * (n + dice.below(16 - n));
+            let entry = LAST + 256 * dice.below(4) + 16 * (n + dice.below(16 - n));
             put_word(record, entry, dice.below(3) as u64);
             put_word(record, entry + 8, dice.number());
         }
-        _ => record[dice.below(3168)] = dice.number() as u8,
+        _ => record[dice.below(RECORD)] = dice.number() as u8,
     }
 }
 
-/// Damages a place of a cluster: in a record, the head of a channel, the oldest message, or any byte.
+/// Damages a place of a cluster: in a record, f, the head of a channel, the oldest message, or any byte.
 fn damage(dice: &mut Dice, n: usize, b: &mut [u8]) {
-    let block = 1 + 73345 * dice.below(n);
-    let channel = block + 3169 + 4386 * dice.below(n);
-    match dice.below(13) {
-        0..=7 => damage_record(dice, n, &mut b[block + 1..block + 3169]),
+    let block = block_at(dice.below(n) + 1);
+    let channel = block + channel_at(dice.below(n) + 1);
+    match dice.below(15) {
+        0..=7 => damage_record(dice, n, &mut b[block + 1..block + 1 + RECORD]),
         8 => b[block] = dice.below(3) as u8,
         9 => b[channel] = dice.below(18) as u8,
         10 => b[channel + 1] = dice.number() as u8,
         11 => {
-            let slot = channel + 2 + 274 * (b[channel + 1] as usize % 16);
+            let slot = channel + 2 + SLOT * (b[channel + 1] as usize % CAPACITY);
             b[slot + dice.below(34)] = dice.below(9) as u8;
+        }
+        12 => b[1] = odd_f(dice, n) as u8,
+        13 => {
+            // Another f everywhere: more nodes may have stopped than it allows, and other quorums count.
+            let f = odd_f(dice, n);
+            b[1] = f as u8;
+            for c in 1..=n {
+                put_word(b, block_at(c) + 1 + F, f as u64);
+            }
         }
         _ => {
             let at = dice.below(b.len());
@@ -114,9 +136,9 @@ impl Pair {
         told.0
     }
 
-    fn fresh(&mut self, n: usize) -> u8 {
-        let told = (Proved::fresh(n, &mut self.proved), Plain::fresh(n, &mut self.plain));
-        self.same(told, &("fresh", n))
+    fn fresh(&mut self, n: usize, f: usize) -> u8 {
+        let told = (Proved::fresh(n, f, &mut self.proved), Plain::fresh(n, f, &mut self.plain));
+        self.same(told, &("fresh", n, f))
     }
 
     fn apply(&mut self, event: &Event) -> u8 {
@@ -142,8 +164,8 @@ type Tally = [u64; 256];
 
 /// The top tag and the last request number of a record, near their limit.
 fn age(dice: &mut Dice, record: &mut [u8]) {
-    for at in [16, 24] {
-        put_word(record, at, i64::MAX as u64 - dice.below(30) as u64);
+    for at in [MAXTAG, REQUEST] {
+        put_word(record, at, LIMIT - dice.below(30) as u64);
     }
 }
 
@@ -158,9 +180,9 @@ fn session(n: usize, seed: u64, events: usize, damaged: bool, tally: &mut Tally)
         stops: dice.below(3),
     };
     let mut pair = Pair::new((0..Proved::size(n)).map(|_| dice.number() as u8).collect());
-    tally[pair.fresh(n) as usize] += 1;
+    tally[pair.fresh(n, some_f(&mut dice, n)) as usize] += 1;
     if dice.chance(250) {
-        for block in (0..n).map(|i| 1 + 73345 * i) {
+        for block in (1..=n).map(block_at) {
             age(&mut dice, &mut pair.proved[block + 1..]);
         }
         pair.plain.copy_from_slice(&pair.proved);
@@ -183,12 +205,13 @@ fn session(n: usize, seed: u64, events: usize, damaged: bool, tally: &mut Tally)
     }
 }
 
-/// Lent bytes of a wrong length, or with any n stated in them.
+/// Lent bytes of a wrong length, or with any n stated in them; and fresh clusters of any n and f.
 fn strange_bytes(seed: u64, tally: &mut Tally) {
     let mut dice = Dice::new(seed);
     let habits = Habits { sender: 0, receiver: 0, begins: 300, stops: 100 };
+    let one = Proved::size(1);
     for n in 0..=18 {
-        for len in [0, 1, 2, 100, 73345, 73346, 73347, Proved::size(n)] {
+        for len in [0, 1, 2, 3, 100, one - 1, one, one + 1, Proved::size(n)] {
             let mut pair = Pair::new((0..len).map(|_| dice.number() as u8).collect());
             if len > 0 {
                 pair.proved[0] = n as u8;
@@ -197,7 +220,10 @@ fn strange_bytes(seed: u64, tally: &mut Tally) {
             for _ in 0..4 {
                 tally[pair.apply(&some_event(&mut dice, 3, &habits, &[])) as usize] += 1;
             }
-            tally[pair.fresh(n) as usize] += 1;
+            for _ in 0..4 {
+                let f = odd_f(&mut dice, n);
+                tally[pair.fresh(n, f) as usize] += 1;
+            }
         }
     }
 }
@@ -262,8 +288,9 @@ fn codec(seed: u64, rounds: usize, tally: &mut Tally) {
 
 /// Runs everything; panics at the first difference.
 pub fn check(seeds: u64) {
-    for n in 0..=20 {
+    for n in (0..=20).chain([usize::MAX / 2, usize::MAX]) {
         assert_eq!(Proved::size(n), Plain::size(n));
+        assert_eq!(Proved::most_faults(n), Plain::most_faults(n));
     }
     let mut events: Tally = [0; 256];
     for seed in 0..seeds {

@@ -75,10 +75,11 @@ pub struct Network {
 }
 
 impl Network {
-    pub fn new(n: usize, seed: u64, packing: Packing) -> Network {
+    /// One of n nodes, of which f may stop, though none does.
+    pub fn new(n: usize, f: usize, seed: u64, packing: Packing) -> Network {
         let fresh = |own| {
             let mut record = vec![0; Plain::node_size()];
-            Plain::node_fresh(n, own, &mut record);
+            Plain::node_fresh(n, f, own, &mut record);
             record
         };
         let records = (1..=n).map(fresh).collect();

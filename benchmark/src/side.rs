@@ -5,7 +5,7 @@ use crate::plain::message::{read, write, Message};
 use crate::plain::page::{page, page_by_write};
 pub use crate::plain::record::Operation;
 use crate::plain::step::{Ending, Rule};
-use crate::plain::{cluster, node, record, Refusal};
+use crate::plain::{cluster, most_faults, node, record, Refusal};
 use snapshot::lent;
 
 /// What a client asks of a cluster. A cut lets out its first entries, then the node stops.
@@ -34,15 +34,16 @@ pub fn is_refusal(code: u8) -> bool {
 
 /// The calls; each answers a code.
 pub trait Side {
+    fn most_faults(n: usize) -> usize;
     fn size(n: usize) -> usize;
-    fn fresh(n: usize, b: &mut [u8]) -> u8;
+    fn fresh(n: usize, f: usize, b: &mut [u8]) -> u8;
     fn apply(b: &mut [u8], event: &Event, view: &mut View) -> u8;
     fn read(n: usize, b: &[u8], numbers: &mut Numbers, report: &mut Report) -> u8;
     fn write(n: usize, numbers: &Numbers, report: &Report, view: &[u8], out: &mut [u8], length: &mut usize) -> u8;
     fn figures(n: usize, view: &[u8], out: &mut [u32; 4]) -> u8;
     fn page(n: usize, view: &[u8], out: &mut [u8], length: &mut usize) -> u8;
     fn node_size() -> usize;
-    fn node_fresh(n: usize, own: usize, record: &mut [u8]) -> u8;
+    fn node_fresh(n: usize, f: usize, own: usize, record: &mut [u8]) -> u8;
     fn node_begin(record: &mut [u8], operation: &Operation, out: &mut [u8], length: &mut usize) -> u8;
     fn node_message(
         record: &mut [u8],
@@ -67,12 +68,16 @@ pub trait Side {
 pub struct Proved;
 
 impl Side for Proved {
+    fn most_faults(n: usize) -> usize {
+        lent::most_faults(n)
+    }
+
     fn size(n: usize) -> usize {
         lent::size(n)
     }
 
-    fn fresh(n: usize, b: &mut [u8]) -> u8 {
-        lent::fresh(n, b)
+    fn fresh(n: usize, f: usize, b: &mut [u8]) -> u8 {
+        lent::fresh(n, f, b)
     }
 
     fn apply(b: &mut [u8], event: &Event, view: &mut View) -> u8 {
@@ -114,8 +119,8 @@ impl Side for Proved {
         lent::node_size()
     }
 
-    fn node_fresh(n: usize, own: usize, record: &mut [u8]) -> u8 {
-        lent::node_fresh(n, own, record)
+    fn node_fresh(n: usize, f: usize, own: usize, record: &mut [u8]) -> u8 {
+        lent::node_fresh(n, f, own, record)
     }
 
     fn node_begin(record: &mut [u8], operation: &Operation, out: &mut [u8], length: &mut usize) -> u8 {
@@ -199,13 +204,18 @@ impl Plain {
 // Called and not inlined, as a static library's functions are.
 impl Side for Plain {
     #[inline(never)]
+    fn most_faults(n: usize) -> usize {
+        most_faults(n)
+    }
+
+    #[inline(never)]
     fn size(n: usize) -> usize {
         cluster::size(n)
     }
 
     #[inline(never)]
-    fn fresh(n: usize, b: &mut [u8]) -> u8 {
-        code(cluster::fresh(n, b))
+    fn fresh(n: usize, f: usize, b: &mut [u8]) -> u8 {
+        code(cluster::fresh(n, f, b))
     }
 
     #[inline(never)]
@@ -269,8 +279,8 @@ impl Side for Plain {
     }
 
     #[inline(never)]
-    fn node_fresh(n: usize, own: usize, record: &mut [u8]) -> u8 {
-        code(node::fresh(n, own, record))
+    fn node_fresh(n: usize, f: usize, own: usize, record: &mut [u8]) -> u8 {
+        code(node::fresh(n, f, own, record))
     }
 
     #[inline(never)]

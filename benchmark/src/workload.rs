@@ -1,6 +1,7 @@
-//! A steady workload: updates and scans at all nodes, and deliveries in a random or a round robin order. The events are
-//! chosen beforehand, so that both sides are timed on the same list.
+//! A steady workload: updates and scans at all nodes, and deliveries in a random or a round robin order; f is the
+//! largest for n. The events are chosen beforehand, so that both sides are timed on the same list.
 use crate::dice::Dice;
+use crate::plain::cluster::{block_at, channel_at};
 use crate::side::{is_refusal, Event, Plain, Side, View};
 
 #[derive(Clone, Copy, PartialEq)]
@@ -14,7 +15,7 @@ const CALM: u8 = 6;
 
 /// How many messages wait on a channel, if the bytes go so far.
 pub fn waiting(b: &[u8], from: usize, to: usize) -> u8 {
-    *b.get(1 + 73345 * (to - 1) + 3169 + 4386 * (from - 1)).unwrap_or(&0)
+    *b.get(block_at(to) + channel_at(from)).unwrap_or(&0)
 }
 
 /// Chooses events on a cluster of its own and keeps those that are accepted.
@@ -29,7 +30,7 @@ pub struct Workload {
 impl Workload {
     pub fn new(n: usize, order: Order, seed: u64) -> Workload {
         let mut bytes = vec![0; Plain::size(n)];
-        Plain::fresh(n, &mut bytes);
+        Plain::fresh(n, Plain::most_faults(n), &mut bytes);
         Workload { n, order, dice: Dice::new(seed), next: 0, bytes }
     }
 

@@ -1,5 +1,6 @@
-/* One cabinet of a house as a program of its own: cabinet N OWN, the number of cabinets and its own. It steps on what
- * comes in on standard input and writes what is to be sent to standard output; the program around it owns the links.
+/* One cabinet of a house as a program of its own: cabinet N F OWN, the number of cabinets, how many of them may stop,
+ * and its own number. All cabinets of a house have the same N and the same F. It steps on what comes in on standard
+ * input and writes what is to be sent to standard output; the program around it owns the links.
  *
  * Standard input is a row of commands, standard output one of messages. Lengths have two bytes, high byte first.
  *   'u', 8 bytes                           begin an update with this report
@@ -170,20 +171,21 @@ static void messages(void)
     }
 }
 
-/* The number that a text of digits is; 0, which nothing here takes, for any other text. */
+/* The number that a text of digits is; the largest, which nothing here takes, for any other text. */
 static size_t number(const char *text)
 {
     char *end = NULL;
     unsigned long value = *text >= '0' && *text <= '9' ? strtoul(text, &end, 10) : 0;
-    return end != NULL && *end == '\0' ? value : 0;
+    return end != NULL && *end == '\0' ? value : SIZE_MAX;
 }
 
 int main(int argc, char **argv)
 {
-    n = argc == 3 ? number(argv[1]) : 0;
-    size_t own = argc == 3 ? number(argv[2]) : 0;
-    if (snapshot_node_fresh(n, own, record, sizeof record) != SNAPSHOT_TAKEN)
-        stop(BAD_ARGUMENTS, "two numbers are asked: of cabinets, 1 to 16, and the own one among them");
+    n = argc == 4 ? number(argv[1]) : 0;
+    size_t f = argc == 4 ? number(argv[2]) : 0, own = argc == 4 ? number(argv[3]) : 0;
+    if (snapshot_node_fresh(n, f, own, record, sizeof record) != SNAPSHOT_TAKEN)
+        stop(BAD_ARGUMENTS, "three numbers are asked: of cabinets, 1 to 16; of those that may stop, fewer than half; "
+                            "and the own one, 1 to all");
 #ifdef SIGPIPE
     signal(SIGPIPE, SIG_IGN); /* a pipe that nobody reads is output that cannot be written */
 #endif

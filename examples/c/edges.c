@@ -1,7 +1,8 @@
 /* Bad input: many calls with random numbers, lengths and bytes, right ones among them. All that is lent stands right
  * beside pages that cannot be touched, so that a byte read or written outside of it ends the program. After each call
  * all that it may not write must be as it was: after a refusal, everything. How often each call answered each code is
- * printed, code:times; the contracts leave no choice in it. */
+ * printed, code:times, and then what calls answer to an f that is given or recorded, f:code; the contracts leave no
+ * choice in it. */
 #define _DEFAULT_SOURCE
 #include "snapshot.h"
 #include <stdio.h>
@@ -82,18 +83,26 @@ static void open_regions(void)
     }
 }
 
-/* Lends so many bytes: those given, seldom with a bit changed, then zeros. They stand at one end of the pages. */
-static void *lend(struct region *r, size_t count, const void *given, size_t given_count)
+/* Lends so many bytes: those given, then zeros. They stand at one end of the pages. */
+static void *lend_exactly(struct region *r, size_t count, const void *given, size_t given_count)
 {
     r->at = r->pages + (below(2) == 0 ? 0 : ROOM - count);
     r->length = count;
     memset(r->at, 0, count);
     memcpy(r->at, given, given_count < count ? given_count : count);
+    memcpy(r->before, r->at, count);
+    return r->at;
+}
+
+/* The same, seldom with a bit changed. */
+static void *lend(struct region *r, size_t count, const void *given, size_t given_count)
+{
+    lend_exactly(r, count, given, given_count);
     if (count > 0 && below(100) == 0) {
         size_t at = below(count), bit = below(8);
         r->at[at] ^= (uint8_t)(1u << bit);
+        r->before[at] = r->at[at];
     }
-    memcpy(r->before, r->at, count);
     return r->at;
 }
 
@@ -138,8 +147,8 @@ static void send_output(void)
 
 static void call_node_fresh(void)
 {
-    size_t nodes = about(1 + below(2)), own = about(1), size = about_length(SNAPSHOT_RECORD);
-    if (accepted(NODE_FRESH, snapshot_node_fresh(nodes, own, lend_any(&record, size), size))) {
+    size_t nodes = about(1 + below(2)), f = about(0), own = about(1), size = about_length(SNAPSHOT_RECORD);
+    if (accepted(NODE_FRESH, snapshot_node_fresh(nodes, f, own, lend_any(&record, size), size))) {
         memcpy(node, record.at, sizeof node);
         n = nodes;
         waiting = 0;
@@ -296,11 +305,11 @@ static void call_page(void)
 static void call_cluster(size_t call)
 {
     size_t size = about_length(sizeof house), a = about(1 + below(NODES)), c = about(1 + below(NODES)), m = below(9);
-    size_t nodes = about(NODES);
+    size_t nodes = about(NODES), f = about(below(2));
     bool cut = below(200) == 0;
     uint8_t *b = lend(&cluster, size, house, sizeof house), *posted = lend_any(&report, SNAPSHOT_REPORT);
     uint8_t *shown = lend_any(&view, SNAPSHOT_VIEW);
-    uint8_t code = call == FRESH     ? snapshot_fresh(nodes, b, size)
+    uint8_t code = call == FRESH     ? snapshot_fresh(nodes, f, b, size)
                    : call == UPDATE  ? snapshot_begin_update(b, size, c, posted, cut, m)
                    : call == SCAN    ? snapshot_begin_scan(b, size, c, cut, m)
                    : call == DELIVER ? snapshot_deliver(b, size, a, c, cut, m, shown)
@@ -340,6 +349,74 @@ static void call_some(void)
         call_cluster(some < 910 ? UPDATE : some < 918 ? SCAN : DELIVER);
 }
 
+static void take_back(void)
+{
+    for (size_t i = 0; i < REGIONS; i++)
+        regions[i]->length = 0;
+}
+
+/* What a node and a cluster of NODES that are made with this f are answered: both the same. */
+static uint8_t made_with(size_t f)
+{
+    uint8_t *r = lend_any(&record, SNAPSHOT_RECORD), *b = lend(&cluster, sizeof house, house, sizeof house);
+    uint8_t code = snapshot_node_fresh(NODES, f, 1, r, SNAPSHOT_RECORD);
+    if (snapshot_fresh(NODES, f, b, sizeof house) != code)
+        fail("a node and a cluster are answered differently");
+    accepted(FRESH, code);
+    return code;
+}
+
+/* Puts an f where a record has it: eight bytes after those of n, high byte first. */
+static void put_faults(uint8_t *made, size_t f)
+{
+    for (size_t i = 0; i < 8; i++)
+        made[8 + i] = (uint8_t)(f >> (56 - 8 * i));
+}
+
+/* What is answered where a record that was made with f = 1 has this one. */
+static uint8_t recorded(size_t f)
+{
+    if (snapshot_node_fresh(NODES, 1, 1, node, sizeof node) != SNAPSHOT_TAKEN)
+        fail("no node");
+    put_faults(node, f);
+    uint8_t *r = lend_exactly(&record, sizeof node, node, sizeof node), *o = lend_any(&out, SNAPSHOT_OUTPUT);
+    size_t *count = lend_any(&length, sizeof *count);
+    uint8_t code = snapshot_node_begin_scan(r, sizeof node, o, SNAPSHOT_OUTPUT, count);
+    accepted(NODE_SCAN, code);
+    return code;
+}
+
+/* What is answered where a cluster that was made with f = 1 has this one in byte 1, or in the record of node 2, which
+ * stands a byte past the end of what a cluster of one node has. */
+static uint8_t in_cluster(size_t f, bool in_byte_1)
+{
+    if (snapshot_fresh(NODES, 1, house, sizeof house) != SNAPSHOT_TAKEN)
+        fail("no cluster");
+    if (in_byte_1)
+        house[1] = (uint8_t)f;
+    else
+        put_faults(house + SNAPSHOT_CLUSTER(1) + 1, f);
+    uint8_t *b = lend_exactly(&cluster, sizeof house, house, sizeof house);
+    uint8_t code = snapshot_stop(b, sizeof house, 1);
+    accepted(STOP, code);
+    return code;
+}
+
+static uint8_t stated(size_t f) { return in_cluster(f, true); }
+static uint8_t unequal(size_t f) { return in_cluster(f, false); }
+
+/* Tells what is answered to each f, up to the most that has room. */
+static void tell_faults(const char *name, uint8_t (*answer)(size_t f), size_t most)
+{
+    static const size_t faults[] = {0, 1, 2, 7, 8, UINT8_MAX, SIZE_MAX / 2, SIZE_MAX / 2 + 1, SIZE_MAX};
+    printf("%-12s", name);
+    for (size_t i = 0; i < sizeof faults / sizeof *faults && faults[i] <= most; i++) {
+        take_back();
+        printf(" %zu:%d", faults[i], answer(faults[i]));
+    }
+    printf("\n");
+}
+
 int main(void)
 {
     open_regions();
@@ -347,8 +424,7 @@ int main(void)
         uint8_t to = 0;
         if (snapshot_next(n, link, waiting, &front, &to) != SNAPSHOT_TAKEN)
             front = SNAPSHOT_ENTRY; /* no message, but some bytes */
-        for (size_t i = 0; i < REGIONS; i++)
-            regions[i]->length = 0;
+        take_back();
         call_some();
     }
     for (size_t call = 0; call < CALLS; call++) {
@@ -359,5 +435,9 @@ int main(void)
         }
         printf("\n");
     }
+    tell_faults("f given", made_with, SIZE_MAX);
+    tell_faults("f recorded", recorded, SIZE_MAX);
+    tell_faults("f unequal", unequal, SIZE_MAX);
+    tell_faults("f stated", stated, UINT8_MAX);
     return 0;
 }

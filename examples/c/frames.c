@@ -37,7 +37,8 @@ static void start(void)
     memset(node.out, PATTERN, sizeof node.out);
     memset(node.view, PATTERN, sizeof node.view);
     node.length = PATTERN;
-    expect("fresh", snapshot_node_fresh(NODES, OWN, node.record, sizeof node.record) == SNAPSHOT_TAKEN);
+    expect("fresh", snapshot_node_fresh(NODES, snapshot_most_faults(NODES), OWN, node.record, sizeof node.record) ==
+                        SNAPSHOT_TAKEN);
     frame_length = 0;
 }
 

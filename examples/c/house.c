@@ -129,8 +129,9 @@ int main(void)
 {
     static const uint8_t reports[][SNAPSHOT_REPORT] = {{0, 1, 0, 2, 0, 3, 0, 4}, {0, 10, 0, 20, 0, 5, 0, 40}};
     uint32_t figures[4] = {0};
+    size_t f = snapshot_most_faults(NODES); /* so many may stop, though none does */
     for (size_t node = 1; node <= NODES; node++)
-        expect_taken("fresh", snapshot_node_fresh(NODES, node, records[node], SNAPSHOT_RECORD));
+        expect_taken("fresh", snapshot_node_fresh(NODES, f, node, records[node], SNAPSHOT_RECORD));
 
     for (size_t node = 1; node <= 2; node++) {
         expect_taken("begin", snapshot_node_begin_update(records[node], SNAPSHOT_RECORD, reports[node - 1], out,

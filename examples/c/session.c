@@ -5,6 +5,7 @@
 #include <stdio.h>
 
 #define NODES 1
+#define FAULTS 0 /* so many may stop */
 
 static uint8_t cluster[SNAPSHOT_CLUSTER(NODES)];
 static uint8_t view[SNAPSHOT_VIEW];
@@ -36,7 +37,7 @@ static void deliver(int times)
 int main(void)
 {
     static const uint8_t report[SNAPSHOT_REPORT] = {0, 1, 0, 2, 0, 3, 0, 4};
-    if (snapshot_fresh(NODES, cluster, sizeof cluster) != SNAPSHOT_TAKEN)
+    if (snapshot_fresh(NODES, FAULTS, cluster, sizeof cluster) != SNAPSHOT_TAKEN)
         return 1;
     tell(snapshot_begin_update(cluster, sizeof cluster, 1, report, false, 0));
     deliver(11);

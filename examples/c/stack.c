@@ -10,12 +10,13 @@
 #include <string.h>
 #include <ucontext.h>
 
+#define MOST_FAULTS 7 /* of SNAPSHOT_NODES */
 #define STACK 262144
 #define PATTERN 0xa5
 
 static const uint8_t report[SNAPSHOT_REPORT] = {0, 1, 0, 2, 0, 3, 0, 4};
 static uint8_t view[SNAPSHOT_VIEW];
-static size_t n; /* the nodes that run one by one */
+static size_t n, f; /* the nodes that run one by one, and how many of them may stop */
 static uint8_t records[SNAPSHOT_NODES][SNAPSHOT_RECORD];
 static size_t own; /* the node that is called */
 static uint8_t out[SNAPSHOT_FRAME_OUTPUT];
@@ -32,8 +33,9 @@ static uint32_t house_figures[4];
 static uint8_t code; /* what the last call answered */
 
 static void nothing(void) {}
+static void most_faults(void) { code = snapshot_most_faults(SNAPSHOT_NODES) != MOST_FAULTS; }
 static void node_size(void) { code = snapshot_node_size() != SNAPSHOT_RECORD; }
-static void node_fresh(void) { code = snapshot_node_fresh(n, own, records[own - 1], SNAPSHOT_RECORD); }
+static void node_fresh(void) { code = snapshot_node_fresh(n, f, own, records[own - 1], SNAPSHOT_RECORD); }
 static void node_update(void)
 {
     code = snapshot_node_begin_update(records[own - 1], SNAPSHOT_RECORD, report, out, sizeof out, &length);
@@ -53,7 +55,7 @@ static void node_frame(void)
                                &length, view);
 }
 static void size(void) { code = snapshot_size(SNAPSHOT_NODES) != sizeof cluster; }
-static void fresh(void) { code = snapshot_fresh(SNAPSHOT_NODES, cluster, sizeof cluster); }
+static void fresh(void) { code = snapshot_fresh(SNAPSHOT_NODES, MOST_FAULTS, cluster, sizeof cluster); }
 static void update(void) { code = snapshot_begin_update(cluster, sizeof cluster, 1, report, false, 0); }
 static void scan(void) { code = snapshot_begin_scan(cluster, sizeof cluster, 2, false, 0); }
 static void deliver(void) { code = snapshot_deliver(cluster, sizeof cluster, from, to, false, 0, view); }
@@ -73,6 +75,7 @@ static struct call {
     void (*run)(void);
     size_t stated, most;
 } calls[] = {
+    {"snapshot_most_faults", most_faults, 200, 0},
     {"snapshot_node_size", node_size, 200, 0},
     {"snapshot_node_fresh", node_fresh, 200, 0},
     {"snapshot_node_begin_update", node_update, 500, 0},
@@ -84,7 +87,7 @@ static struct call {
     {"snapshot_begin_update", update, 6900, 0},
     {"snapshot_begin_scan", scan, 6900, 0},
     {"snapshot_deliver", deliver, 6800, 0},
-    {"snapshot_stop", halt, 300, 0},
+    {"snapshot_stop", halt, 400, 0},
     {"snapshot_read", read_one, 200, 0},
     {"snapshot_write", write_one, 200, 0},
     {"snapshot_next", next, 200, 0},
@@ -202,6 +205,7 @@ static void exchange(void (*begin)(void), void (*hand_over)(void))
 static void call_nodes(size_t nodes, void (*hand_over)(void))
 {
     n = nodes;
+    f = snapshot_most_faults(n);
     for (own = 1; own <= n; own++)
         expect(node_fresh);
     exchange(node_update, hand_over);
@@ -237,6 +241,7 @@ static void deliver_all(void)
 
 static void call_all(void)
 {
+    expect(most_faults);
     expect(node_size);
     call_nodes(1, node_message);
     call_nodes(SNAPSHOT_NODES, node_message);

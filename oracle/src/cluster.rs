@@ -5,6 +5,7 @@
 
 use crate::message::{Message, NodeId};
 use crate::node::{Ending, Node, Operation, Step, To};
+use crate::record::{BAD_NUMBER, NODES};
 use std::collections::VecDeque;
 
 /// The most messages that wait on one channel.
@@ -12,6 +13,19 @@ pub const CAPACITY: usize = 16;
 
 /// An operation needs at most this many request numbers.
 pub const REQUESTS: u64 = 5;
+
+/// The largest f that there is.
+const LARGEST_F: usize = 7;
+
+/// Whether f of n nodes may stop: 0 to 7, and fewer than half of them, so that any two quorums meet.
+pub fn can_bear(n: usize, f: usize) -> bool {
+    f <= LARGEST_F && 2 * f < n
+}
+
+/// The largest f with 2f < n, and 0 where there is none.
+pub fn most_faults(n: usize) -> usize {
+    n.saturating_sub(1) / 2
+}
 
 /// How much of a step's list an event lets out: all, or its first entries, after which the node stops.
 #[derive(Clone, Copy, Debug, PartialEq, Eq)]
@@ -71,6 +85,8 @@ pub type Outcome = Result<Accepted, Refusal>;
 #[derive(Clone)]
 pub struct Cluster {
     n: usize,
+    /// How many nodes may stop.
+    f: usize,
     /// Index 0 is unused, here and in the channels.
     nodes: Vec<Node>,
     stopped: Vec<bool>,
@@ -79,22 +95,19 @@ pub struct Cluster {
 }
 
 impl Cluster {
-    pub fn fresh(n: usize) -> Cluster {
-        Cluster {
+    pub fn fresh(n: usize, f: usize) -> Result<Cluster, Refusal> {
+        demand((1..=NODES).contains(&n) && can_bear(n, f), BAD_NUMBER)?;
+        Ok(Cluster {
             n,
-            nodes: (0..=n).map(|id| Node::fresh(id, n)).collect(),
+            f,
+            nodes: (0..=n).map(|id| Node::fresh(n, f, id)).collect(),
             stopped: vec![false; n + 1],
             channels: vec![vec![VecDeque::new(); n + 1]; n + 1],
-        }
+        })
     }
 
     pub fn n(&self) -> usize {
         self.n
-    }
-
-    /// How many nodes may stop: the largest f with 2f < n.
-    pub fn f(&self) -> usize {
-        (self.n - 1) / 2
     }
 
     pub fn stands(&self, node: NodeId) -> bool {
@@ -147,7 +160,7 @@ impl Cluster {
     /// An event that stops its node needs one of the f stops.
     fn demand_stoppable(&self, event: &Event) -> Result<(), Refusal> {
         let stopped = self.stopped.iter().filter(|&&stopped| stopped).count();
-        demand(!event.stops() || stopped < self.f(), TOO_MANY_STOPS)
+        demand(!event.stops() || stopped < self.f, TOO_MANY_STOPS)
     }
 
     /// Lets out what the extent allows, if every channel has room for it, and only then changes the cluster. The node

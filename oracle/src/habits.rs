@@ -1,7 +1,14 @@
-//! What a random session is like: how often things happen, and how its channels run.
+//! What a random session is like: how many nodes may stop, how often things happen, and how its channels run.
 
+use crate::cluster::most_faults;
 use crate::dice::Dice;
 use crate::message::NodeId;
+
+/// An f for n nodes: every third time the largest, else any.
+pub fn faults(dice: &mut Dice, n: usize) -> usize {
+    let any = dice.below(most_faults(n) + 1);
+    dice.pick(&[most_faults(n), any, any])
+}
 
 /// How often things happen in one session, in a thousand events.
 pub struct Habits {

@@ -3,7 +3,7 @@
 
 use crate::cluster::{entries, Event, Extent, REQUESTS};
 use crate::dice::Dice;
-use crate::habits::{Habits, Weather};
+use crate::habits::{faults, Habits, Weather};
 use crate::message::{Message, NodeId, LIMIT};
 use crate::node::{Ending, Operation, Rule, Step};
 use crate::record::{Record, LEAST_FRAME_OUTPUT, LEAST_OUTPUT, LONGEST_FRAME, NODES};
@@ -17,6 +17,7 @@ pub struct Network {
     /// How often, in a thousand deliveries, a link hands over several messages in a frame, if so many wait.
     frames: usize,
     n: usize,
+    f: usize,
     /// Index 0 is unused, here and in the links.
     records: Vec<Option<Record>>,
     stopped: Vec<bool>,
@@ -38,10 +39,11 @@ impl Network {
     /// A network of nodes that are fresh or, all of them, old: near the last tag, each near its last request number.
     pub fn draw(mut dice: Dice) -> Network {
         let n = dice.pick(&[1, 2, 2, 3, 3, 3, 4, 4, 5, 5, 5, 6, 7, 8, 9, 11, 13, 15, NODES]);
+        let f = faults(&mut dice, n);
         let old = dice.chance(400);
         let max_tag = if old { LIMIT - dice.pick(&[0, 1, 2, 3, 5, 8, 13, 100]) } else { 0 };
         let mut record = |own| {
-            let mut record = Record::fresh(n, own).ok()?;
+            let mut record = Record::fresh(n, f, own).ok()?;
             record.max_tag = max_tag;
             record.request = if old { LIMIT - dice.pick(&[4, 5, 6, 8, 11, 15, 20, 40]) } else { 0 };
             Some(record)
@@ -51,11 +53,15 @@ impl Network {
         let weather = Weather::draw(&mut dice, n);
         let frames = dice.pick(&[0, 100, 500, 1000]);
         let links = vec![vec![VecDeque::new(); n + 1]; n + 1];
-        Network { dice, habits, weather, frames, n, records, stopped: vec![false; n + 1], links }
+        Network { dice, habits, weather, frames, n, f, records, stopped: vec![false; n + 1], links }
     }
 
     pub fn n(&self) -> usize {
         self.n
+    }
+
+    pub fn f(&self) -> usize {
+        self.f
     }
 
     pub fn record(&self, node: NodeId) -> &Record {
@@ -120,7 +126,7 @@ impl Network {
 
     /// What happens next, and how many messages are delivered by it.
     fn choose(&mut self) -> Option<(Event, usize)> {
-        let stoppable = 2 * (self.stopped.iter().filter(|&&stopped| stopped).count() + 1) < self.n;
+        let stoppable = self.stopped.iter().filter(|&&stopped| stopped).count() < self.f;
         if stoppable && self.dice.chance(self.habits.stops) {
             let standing: Vec<NodeId> = (1..=self.n).filter(|&node| !self.stopped[node]).collect();
             return Some((Event::Stop { node: self.dice.pick(&standing) }, 0));

@@ -75,7 +75,7 @@ impl Step {
 pub struct Node {
     id: NodeId,
     n: usize,
-    /// n − f, where f is the largest number with 2f < n.
+    /// n − f, where f is how many nodes may stop.
     quorum: usize,
     /// V: the values received from each node; the own set has all values received from anybody. Index 0 is unused.
     values: Vec<BTreeSet<Value>>,
@@ -90,14 +90,14 @@ pub struct Node {
 
 impl Node {
     /// Lines 1 to 3.
-    pub fn fresh(id: NodeId, n: usize) -> Node {
-        let quorum = n - (n - 1) / 2;
-        Node { id, n, quorum, values: vec![BTreeSet::new(); n + 1], max_tag: 0, goods: vec![], request: 0, open: None }
+    pub fn fresh(n: usize, f: usize, id: NodeId) -> Node {
+        let (quorum, values) = (n - f, vec![BTreeSet::new(); n + 1]);
+        Node { id, n, quorum, values, max_tag: 0, goods: vec![], request: 0, open: None }
     }
 
     /// A node without a report that has come to this max_tag and has used these request numbers.
-    pub fn old(id: NodeId, n: usize, max_tag: Tag, request: u64) -> Node {
-        Node { max_tag, request, ..Node::fresh(id, n) }
+    pub fn old(n: usize, f: usize, id: NodeId, max_tag: Tag, request: u64) -> Node {
+        Node { max_tag, request, ..Node::fresh(n, f, id) }
     }
 
     pub fn is_idle(&self) -> bool {

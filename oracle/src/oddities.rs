@@ -2,12 +2,17 @@
 
 use crate::dice::Dice;
 
-/// Mostly the number of nodes, now and then with zeros before it or bad.
-pub fn first_line(dice: &mut Dice, n: usize) -> Vec<u8> {
+/// Mostly n and f, now and then with zeros before them or bad.
+pub fn first_line(dice: &mut Dice, n: usize, f: usize) -> Vec<u8> {
+    #[rustfmt::skip]
+    const BAD: [&str; 28] = [
+        "", " ", "0 0", "6 2", "16 7", " 3 1", "+3 1", "00003 1", "n f", "99999 0", "3", "3 ", "3  1", "3 1 ", "3 1 1",
+        "3\t1", "3,1", "3 1\r", "3 -1", "3 +1", "3 00001", "1 1", "2 1", "3 2", "4 2", "5 3", "5 8", "5 9999",
+    ];
     let line = match dice.below(100) {
-        0 => dice.pick(&["0", "6", "16", "", " 3", "3 ", "+3", "00003", "3\r", "n", "99999"]).to_string(),
-        1..=5 => format!("{n:04}"),
-        _ => n.to_string(),
+        0..=2 => dice.pick(&BAD).to_string(),
+        3..=7 => zeros_before_numbers(&format!("{n} {f}")),
+        _ => format!("{n} {f}"),
     };
     format!("{line}\n").into_bytes()
 }

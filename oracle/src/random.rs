@@ -3,7 +3,7 @@
 
 use crate::cluster::{Cluster, Event, Extent, Outcome, CHANNEL_FULL};
 use crate::dice::Dice;
-use crate::habits::{Habits, Weather};
+use crate::habits::{faults, Habits, Weather};
 use crate::message::{Message, NodeId, Report};
 use crate::node::{Ending, Operation, Rule};
 use crate::oddities::{bad_line, first_line, zeros_before_numbers};
@@ -13,8 +13,9 @@ use crate::text;
 pub fn session(seed: u64, events: usize, n: Option<usize>) -> Vec<u8> {
     let mut dice = Dice::new(seed);
     let n = n.unwrap_or_else(|| dice.pick(&[1, 2, 3, 3, 3, 3, 4, 4, 5, 5, 5, 5]));
-    let mut text = first_line(&mut dice, n);
-    let mut maker = Maker::new(dice, n);
+    let f = faults(&mut dice, n);
+    let mut text = first_line(&mut dice, n, f);
+    let mut maker = Maker::new(dice, n, f);
     for _ in 0..events {
         text.extend(maker.line());
         text.push(b'\n');
@@ -37,10 +38,11 @@ struct Maker {
 }
 
 impl Maker {
-    fn new(mut dice: Dice, n: usize) -> Maker {
+    fn new(mut dice: Dice, n: usize, f: usize) -> Maker {
         let habits = Habits::draw(&mut dice, n);
         let weather = Weather::draw(&mut dice, n);
-        Maker { dice, habits, weather, cluster: Cluster::fresh(n), jammed: false, calm: false }
+        let cluster = Cluster::fresh(n, f).expect("a session has at most five nodes, and their f can be borne");
+        Maker { dice, habits, weather, cluster, jammed: false, calm: false }
     }
 
     /// The next line of the session, without its line feed.

@@ -4,7 +4,7 @@
 mod frame;
 mod usable;
 
-use crate::cluster::{demand, Refusal, NO_SUCH_NODE, OPERATION_OPEN, REQUESTS, REQUESTS_USED_UP};
+use crate::cluster::{can_bear, demand, Refusal, NO_SUCH_NODE, OPERATION_OPEN, REQUESTS, REQUESTS_USED_UP};
 use crate::message::{Message, NodeId, Report, Tag, Value, View, LIMIT};
 use crate::node::{Ending, Operation, Rule, Step, To};
 use crate::wire;
@@ -46,6 +46,8 @@ pub enum Kind {
 #[derive(Clone, Debug, PartialEq, Eq)]
 pub struct Record {
     pub n: usize,
+    /// How many nodes may stop.
+    pub f: usize,
     pub own: NodeId,
     /// Document 01's top stamp.
     pub max_tag: Tag,
@@ -65,10 +67,11 @@ pub struct Record {
 }
 
 impl Record {
-    pub fn fresh(n: usize, own: NodeId) -> Result<Record, Refusal> {
-        demand((1..=NODES).contains(&n) && (1..=n).contains(&own), BAD_NUMBER)?;
+    pub fn fresh(n: usize, f: usize, own: NodeId) -> Result<Record, Refusal> {
+        demand((1..=NODES).contains(&n) && can_bear(n, f) && (1..=n).contains(&own), BAD_NUMBER)?;
         Ok(Record {
             n,
+            f,
             own,
             max_tag: 0,
             request: 0,
@@ -203,9 +206,8 @@ impl Record {
         step.send(To::All, Message::Value(value));
     }
 
-    /// n − f, where f is the largest number with 2f < n.
     fn quorum(&self) -> usize {
-        self.n - (self.n - 1) / 2
+        self.n - self.f
     }
 
     /// Moves the open operation on until it must wait or has ended. What is taken and not put back has ended.

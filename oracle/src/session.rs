@@ -18,10 +18,10 @@ pub struct Played {
 /// over without a cluster and ends the session.
 pub fn play<R: Read>(input: R, mut watch: impl FnMut(Played, Option<&Cluster>) -> io::Result<()>) -> io::Result<()> {
     let mut lines = Lines::new(input);
-    let Some(n) = lines.next_line()?.as_ref().and_then(parse_first) else {
+    let first = lines.next_line()?.as_ref().and_then(parse_first);
+    let Some(mut cluster) = first.and_then(|(n, f)| Cluster::fresh(n, f).ok()) else {
         return watch(Played { number: 0, event: None, outcome: Err(BAD_LINE) }, None);
     };
-    let mut cluster = Cluster::fresh(n);
     let mut number = 0;
     while let Some(line) = lines.next_line()? {
         number += 1;

@@ -1,5 +1,6 @@
 //! What the oracle is trusted for, told as small stories.
 
+mod faults;
 mod frame;
 mod page;
 mod record;
@@ -35,7 +36,7 @@ fn printed(session: &[u8]) -> String {
 
 #[test]
 fn document_01_session() {
-    let session = format!("1\nu 1 0001000200030004\n{}s 1\n{}", "d 1 1\n".repeat(11), "d 1 1\n".repeat(6));
+    let session = format!("1 0\nu 1 0001000200030004\n{}s 1\n{}", "d 1 1\n".repeat(11), "d 1 1\n".repeat(6));
     assert_eq!(printed(session.as_bytes()), "11 done 1\n17 scan 1 0001000200030004\n19 no 8\n");
 }
 
@@ -78,7 +79,7 @@ fn a_seed_gives_the_same_session_again() {
 fn wrong_lines_are_refused() {
     let update = |report: u64| format!("u 1 {report:016x}\n{}", "d 1 1\n".repeat(11));
     let scan = format!("s 1\n{}", "d 1 1\n".repeat(5));
-    let (n, all) = played(format!("1\n{scan}{}{scan}{}{scan}", update(1), update(2)).as_bytes());
+    let (n, all) = played(format!("1 0\n{scan}{}{scan}{}{scan}", update(1), update(2)).as_bytes());
     let ops = operations(&all).expect("each ending has its begin");
     let right = line(&ops);
     assert_eq!(right, [0, 1, 2, 3, 4]);
@@ -94,7 +95,7 @@ fn wrong_lines_are_refused() {
 #[test]
 fn a_false_view_breaks_the_order() {
     let update = format!("u 1 {:016x}\n{}", 5, "d 1 1\n".repeat(11));
-    let (n, mut all) = played(format!("1\n{update}s 1\n{}", "d 1 1\n".repeat(4)).as_bytes());
+    let (n, mut all) = played(format!("1 0\n{update}s 1\n{}", "d 1 1\n".repeat(4)).as_bytes());
     assert!(check(n, &all).is_ok());
     let last = all.last_mut().and_then(|played| played.outcome.as_mut().ok()).expect("the scan has ended");
     assert_eq!(last.ending, Some(Ending::Scan(Rule::Round(1), vec![Some((1, 5))])));
@@ -106,7 +107,7 @@ fn a_false_view_breaks_the_order() {
 #[test]
 fn an_update_at_the_last_tag_is_spent() {
     let ending_after = |top: u64, operation: Operation| {
-        let mut node = Node::fresh(1, 1);
+        let mut node = Node::fresh(1, 0, 1);
         node.receive(1, Message::Write { request: 1, tag: top });
         node.begin(operation);
         node.receive(1, Message::ReadAnswer { request: 1, tag: 0 })
@@ -155,7 +156,7 @@ fn lines_do_not_depend_on_how_the_input_comes() {
 /// A cut is judged before the channels are, and a stop only frees them.
 #[test]
 fn a_refused_event_changes_nothing() {
-    let (_, all) = played(b"3\nx 2\ns 1 cut 0\ns 1\ns 1\nd 1 1 cut 1\nd 1 1\n");
+    let (_, all) = played(b"3 1\nx 2\ns 1 cut 0\ns 1\ns 1\nd 1 1 cut 1\nd 1 1\n");
     let refusals: Vec<_> = all.iter().map(|played| played.outcome.as_ref().err().copied()).collect();
     assert_eq!(refusals, [None, Some(Refusal(10)), None, Some(Refusal(5)), Some(Refusal(10)), None]);
     assert_eq!(all[5].event, Some(Event::Deliver { from: 1, to: 1, extent: Extent::Whole }));

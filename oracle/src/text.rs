@@ -54,12 +54,13 @@ impl<R: Read> Lines<R> {
     }
 }
 
-/// The first line: how many nodes.
-pub fn parse_first(line: &Line) -> Option<usize> {
-    match line {
-        Line::Text(text) => number(text).filter(|n| (1..=MOST_NODES).contains(n)),
-        Line::Broken => None,
-    }
+/// The first line: n and f. Whether a cluster can have them is not looked at, but for the most nodes of a session.
+pub fn parse_first(line: &Line) -> Option<(usize, usize)> {
+    let Line::Text(text) = line else { return None };
+    let mut words = text.split(|&byte| byte == b' ');
+    let n = number(words.next()?).filter(|&n| n <= MOST_NODES)?;
+    let f = number(words.next()?)?;
+    words.next().is_none().then_some((n, f))
 }
 
 /// Any other line: an event, or None for a bad line.
@@ -101,7 +102,7 @@ fn extent<'a>(words: &mut impl Iterator<Item = &'a [u8]>) -> Option<Extent> {
 }
 
 /// One to four digits.
-fn number(word: &[u8]) -> Option<NodeId> {
+fn number(word: &[u8]) -> Option<usize> {
     if !(1..=4).contains(&word.len()) {
         return None;
     }

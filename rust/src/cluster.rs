@@ -31,10 +31,21 @@ pub struct Cluster {
 }
 
 impl Cluster {
-    /// A fresh cluster of n nodes. Refusals: 1 (n is not 1 to 16).
-    pub fn fresh(n: usize) -> Result<Cluster, Refusal> {
+    /// A fresh cluster of n nodes, of which f may stop; [`most_faults`](crate::most_faults) has the largest f.
+    /// Refusals: 1 (n is not 1 to 16, or f is not 0 to 7 with 2f < n).
+    ///
+    /// ```
+    /// use snapshot::{most_faults, Cluster, Refusal};
+    ///
+    /// let mut cluster = Cluster::fresh(5, most_faults(5))?;
+    /// assert_eq!([1, 2, 3].map(|node| cluster.stop(node)), [Ok(()), Ok(()), Err(Refusal::Stops)]);
+    /// let mut cluster = Cluster::fresh(5, 0)?; // all must answer
+    /// assert_eq!(cluster.stop(1), Err(Refusal::Stops));
+    /// # Ok::<(), Refusal>(())
+    /// ```
+    pub fn fresh(n: usize, f: usize) -> Result<Cluster, Refusal> {
         let mut bytes = vec![0; lent::size(n)];
-        accepted(lent::fresh(n, &mut bytes))?;
+        accepted(lent::fresh(n, f, &mut bytes))?;
         Ok(Cluster { bytes })
     }
 

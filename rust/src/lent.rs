@@ -16,8 +16,9 @@
 //! use snapshot::lent;
 //!
 //! let mut record = vec![0; lent::node_size()];
-//! assert_eq!(lent::node_fresh(3, 4, &mut record), 1); // node 4 of three
-//! assert_eq!(lent::node_fresh(3, 2, &mut record), 0);
+//! assert_eq!(lent::node_fresh(3, 1, 4, &mut record), 1); // node 4 of three
+//! assert_eq!(lent::node_fresh(3, 2, 2, &mut record), 1); // two of three may not stop
+//! assert_eq!(lent::node_fresh(3, 1, 2, &mut record), 0);
 //! ```
 //!
 //! This file has all the `unsafe` of the crate. What the calls ask is in the head of `crates/snapshot/src/lib.rt`: that
@@ -51,6 +52,21 @@ pub const TO_ALL: u8 = 0;
 /// The route of a message that goes to the sender of the message, or of the frame, that was handled.
 pub const TO_SENDER: u8 = 1;
 
+/// The most of n nodes that may stop: the largest f with 2f < n, and 0 where n is 0. It is document 01's f; a node or a
+/// cluster may be made with any from 0 to this. With a smaller one fewer nodes may stop, and an operation waits for a
+/// larger quorum, which is n − f nodes.
+///
+/// ```
+/// use snapshot::most_faults;
+///
+/// assert_eq!([1, 2, 3, 4, 5, 16].map(most_faults), [0, 0, 1, 1, 2, 7]);
+/// ```
+#[inline]
+pub fn most_faults(n: usize) -> usize {
+    // SAFETY: nothing is lent.
+    unsafe { raw::snapshot_most_faults(n) }
+}
+
 /// The bytes to lend for a cluster of n nodes; 0 where there may be none.
 #[inline]
 pub fn size(n: usize) -> usize {
@@ -58,11 +74,11 @@ pub fn size(n: usize) -> usize {
     unsafe { raw::snapshot_size(n) }
 }
 
-/// Makes the lent bytes a fresh cluster of n nodes. Refusals: 1, 12.
+/// Makes the lent bytes a fresh cluster of n nodes, of which f may stop. Refusals: 1, 12.
 #[inline]
-pub fn fresh(n: usize, cluster: &mut [u8]) -> u8 {
+pub fn fresh(n: usize, f: usize, cluster: &mut [u8]) -> u8 {
     // SAFETY: pointer and length of one slice.
-    unsafe { raw::snapshot_fresh(n, cluster.as_mut_ptr(), cluster.len()) }
+    unsafe { raw::snapshot_fresh(n, f, cluster.as_mut_ptr(), cluster.len()) }
 }
 
 /// Begins an update with this report at a node; where `cut`, only so many of the first messages go out as `entries`
@@ -144,11 +160,11 @@ pub fn node_size() -> usize {
     unsafe { raw::snapshot_node_size() }
 }
 
-/// Makes `state` the fresh record of node `own` of n. Refusals: 1, 12.
+/// Makes `state` the fresh record of node `own` of n, of which f may stop. Refusals: 1, 12.
 #[inline]
-pub fn node_fresh(n: usize, own: usize, state: &mut [u8]) -> u8 {
+pub fn node_fresh(n: usize, f: usize, own: usize, state: &mut [u8]) -> u8 {
     // SAFETY: pointer and length of one slice.
-    unsafe { raw::snapshot_node_fresh(n, own, state.as_mut_ptr(), state.len()) }
+    unsafe { raw::snapshot_node_fresh(n, f, own, state.as_mut_ptr(), state.len()) }
 }
 
 /// Begins an update with this report at the node whose record is in `state`; the messages to send go to the front of

@@ -17,7 +17,7 @@
 //! ```
 //! use snapshot::{Cluster, Ending, Extent, Operation, Refusal, Report};
 //!
-//! let mut cluster = Cluster::fresh(1)?;
+//! let mut cluster = Cluster::fresh(1, 0)?; // of one node none may stop
 //! let report = Report { extensions: 1, lines: 2, waiting: 3, wakeups: 4 };
 //! let mut told = Vec::new();
 //! for event in 1..=19 {
@@ -55,16 +55,19 @@
 //! 5. A record is never put back from an older copy, nor made fresh again: the others would hear the node contradict
 //!    itself. It may be moved. A node that has lost its record, or was interrupted in the middle of a call or of
 //!    sending, has stopped and does not come back.
-//! 6. All nodes have the same n and each its own number, and each has started fresh.
+//! 6. All nodes have the same n and the same f, each its own number, and each has started fresh. No message carries f,
+//!    so no call finds out that two nodes differ in it.
 //! 7. A link may hand over its oldest messages together, whole and in their order, as a frame ([`Node::frame`]). Who
 //!    packs messages before they are sent owes rule 2 all the same: no message leaves in a frame for one node before
 //!    all that stand before it have left for the others.
 //!
-//! Fewer than half of the nodes may stop. While no more have, each operation at a node that stands is to end, once all
-//! messages to nodes that stand are handed over. Both are proved of the algorithm on links with room for anything. Of
-//! each call it is proved that it does what its definition says, and that definition follows the algorithm's step for
-//! each message that a run hands over. That a whole house of such calls does the algorithm's run is proved of a
-//! [`Cluster`], and not yet of links of one's own.
+//! Fewer than half of the nodes may stop: f of n, where f is what all nodes were made with, 0 to [`most_faults`] of n.
+//! With a smaller f fewer may stop, and an operation waits for a larger quorum, which is n − f nodes. While no more
+//! than f have stopped, each operation at a node that stands is to end, once all messages to nodes that stand are
+//! handed over. Both are proved, for every such f, of the algorithm on links with room for anything. Of each call it is
+//! proved that it does what its definition says, and that definition follows the algorithm's step for each message that
+//! a run hands over. That a whole house of such calls does the algorithm's run is proved of a [`Cluster`], and not yet
+//! of links of one's own.
 #![deny(missing_docs, missing_debug_implementations, unsafe_code)]
 
 mod cluster;
@@ -78,6 +81,7 @@ mod refusal;
 mod view;
 
 pub use cluster::{Cluster, Extent};
+pub use lent::most_faults;
 pub use message::Message;
 pub use node::{Messages, Node, Output, To};
 pub use operation::{Ending, Operation, Rule};
@@ -85,7 +89,7 @@ pub use refusal::Refusal;
 pub use view::{figures, page, page_size, Entry, Figures, Report, View};
 
 /// The bytes of a node's record.
-pub const RECORD: usize = 3168;
+pub const RECORD: usize = 3176;
 
 /// The least bytes of an output, but for a frame's: what one begin or one message sends never takes more.
 pub const OUTPUT: usize = 512;

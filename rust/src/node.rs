@@ -12,7 +12,7 @@ use std::fmt;
 /// Three nodes on links in memory, to the end of an update and of a scan:
 ///
 /// ```
-/// use snapshot::{Ending, Node, Operation, Output, Refusal, Report, To};
+/// use snapshot::{most_faults, Ending, Node, Operation, Output, Refusal, Report, To};
 /// use std::collections::VecDeque;
 ///
 /// const N: usize = 3;
@@ -61,7 +61,7 @@ use std::fmt;
 ///     all.rev().find(|&(from, to)| !links.waiting[from - 1][to - 1].is_empty())
 /// }
 ///
-/// let mut nodes = (1..=N).map(|own| Node::fresh(N, own)).collect::<Result<Vec<_>, _>>()?;
+/// let mut nodes = (1..=N).map(|own| Node::fresh(N, most_faults(N), own)).collect::<Result<Vec<_>, _>>()?;
 /// let report = Report { extensions: 1, lines: 2, waiting: 3, wakeups: 4 };
 /// assert!(matches!(run(&mut nodes, 1, Operation::Update(report))?, Some(Ending::Done(_))));
 /// let Some(Ending::Scan(_, view)) = run(&mut nodes, 2, Operation::Scan)? else { panic!("no view") };
@@ -75,10 +75,12 @@ pub struct Node {
 }
 
 impl Node {
-    /// A fresh node, number `own` of n. Refusals: 1 (n is not 1 to 16, or `own` is not 1 to n).
-    pub fn fresh(n: usize, own: usize) -> Result<Node, Refusal> {
+    /// A fresh node, number `own` of n, of which f may stop; [`most_faults`](crate::most_faults) has the largest f. All
+    /// nodes have the same n and the same f. Refusals: 1 (n is not 1 to 16, f is not 0 to 7 with 2f < n, or `own` is
+    /// not 1 to n).
+    pub fn fresh(n: usize, f: usize, own: usize) -> Result<Node, Refusal> {
         let mut record = [0; RECORD];
-        accepted(lent::node_fresh(n, own, &mut record))?;
+        accepted(lent::node_fresh(n, f, own, &mut record))?;
         Ok(Node { record })
     }
 
@@ -89,7 +91,7 @@ impl Node {
     /// ```
     /// use snapshot::{Node, Operation, Output, Refusal};
     ///
-    /// let mut node = Node::fresh(1, 1)?;
+    /// let mut node = Node::fresh(1, 0, 1)?;
     /// let mut out = Output::new();
     /// node.begin(Operation::Scan, &mut out)?;
     /// let link: Vec<Vec<u8>> = out.messages().map(|(bytes, _)| bytes.to_vec()).collect(); // all of it is sent
@@ -160,7 +162,7 @@ impl Node {
     /// }
     /// assert_eq!(length, FRAME);
     ///
-    /// let (mut node, mut out) = (Node::fresh(3, 1)?, Output::new());
+    /// let (mut node, mut out) = (Node::fresh(3, 1, 1)?, Output::new());
     /// assert_eq!(node.frame(2, &frame, &mut out)?, None);
     /// for (request, (bytes, to)) in (1..=100).zip(&out) {
     ///     assert_eq!(Message::read(3, bytes)?.0, Message::ReadAnswer { request, tag: 0 });
@@ -210,7 +212,7 @@ pub enum To {
 /// use snapshot::{Message, Node, Operation, Output, Refusal, To};
 ///
 /// let mut out = Output::new();
-/// Node::fresh(3, 1)?.begin(Operation::Scan, &mut out)?;
+/// Node::fresh(3, 1, 1)?.begin(Operation::Scan, &mut out)?;
 /// let (bytes, to) = out.messages().next().unwrap();
 /// assert_eq!(Message::read(3, bytes)?.0, Message::Read { request: 1 });
 /// assert_eq!(to, To::All);

@@ -3,8 +3,9 @@
 use crate::{REPORT, VIEW};
 
 extern "C" {
+    pub fn snapshot_most_faults(n: usize) -> usize;
     pub fn snapshot_size(n: usize) -> usize;
-    pub fn snapshot_fresh(n: usize, cluster: *mut u8, cluster_len: usize) -> u8;
+    pub fn snapshot_fresh(n: usize, f: usize, cluster: *mut u8, cluster_len: usize) -> u8;
     pub fn snapshot_begin_update(
         cluster: *mut u8,
         cluster_len: usize,
@@ -51,7 +52,7 @@ extern "C" {
         length: *mut usize,
     ) -> u8;
     pub fn snapshot_node_size() -> usize;
-    pub fn snapshot_node_fresh(n: usize, own: usize, state: *mut u8, state_len: usize) -> u8;
+    pub fn snapshot_node_fresh(n: usize, f: usize, own: usize, state: *mut u8, state_len: usize) -> u8;
     pub fn snapshot_node_begin_update(
         state: *mut u8,
         state_len: usize,

@@ -10,7 +10,7 @@ use std::fmt;
 /// ```
 /// use snapshot::{Node, Refusal};
 ///
-/// let refusal = Node::fresh(17, 1).unwrap_err();
+/// let refusal = Node::fresh(17, 8, 1).unwrap_err();
 /// assert_eq!(refusal, Refusal::Size);
 /// assert_eq!(refusal.number(), 1);
 /// println!("refused: {refusal}");
@@ -18,9 +18,9 @@ use std::fmt;
 #[derive(Clone, Copy, Debug, PartialEq, Eq, Hash)]
 #[repr(u8)]
 pub enum Refusal {
-    /// The number of nodes is not 1 to 16, or the own number not one of them.
+    /// The number n of nodes is not 1 to 16, f is not 0 to 7 with 2f < n, or the own number is not 1 to n.
     Size = 1,
-    /// The record or the cluster cannot be used: its numbers or tables break their limits.
+    /// The record or the cluster cannot be used: its numbers or tables break their limits, or its records do not agree.
     Unusable = 2,
     /// The node's number is not 1 to n.
     Node = 3,
@@ -82,7 +82,7 @@ pub(crate) fn accepted(code: u8) -> Result<(), Refusal> {
 impl fmt::Display for Refusal {
     fn fmt(&self, f: &mut fmt::Formatter) -> fmt::Result {
         f.write_str(match self {
-            Size => "the number of nodes is not 1 to 16, or the own number is not one of them",
+            Size => "the number of nodes is not 1 to 16, f not below half of it, or the own number not one of them",
             Unusable => "the record or cluster is not usable",
             Node => "there is no node with this number",
             Stopped => "the node has stopped",

@@ -6,6 +6,7 @@ use snapshot::{
 use std::collections::VecDeque;
 
 const N: usize = 3;
+const F: usize = 1;
 const REPORT: Report = Report { extensions: 1, lines: 2, waiting: 3, wakeups: 4 };
 
 fn written(message: Message) -> Vec<u8> {
@@ -53,7 +54,7 @@ fn one_message_of_each_kind() {
         Message::Value { tag, writer: 2, report: REPORT },
         Message::Good { tag },
     ] {
-        let mut node = Node::fresh(N, 1).unwrap();
+        let mut node = Node::fresh(N, F, 1).unwrap();
         assert_eq!(handed(&mut node, 2, &[written(message)], &mut Output::new()), None);
     }
 }
@@ -88,7 +89,7 @@ fn run(nodes: &mut [Node], own: usize, operation: Operation, most: usize) -> Opt
 #[test]
 fn a_house_on_links_that_pack() {
     for most in [1, 2, 3, usize::MAX] {
-        let mut nodes: Vec<_> = (1..=N).map(|own| Node::fresh(N, own).unwrap()).collect();
+        let mut nodes: Vec<_> = (1..=N).map(|own| Node::fresh(N, F, own).unwrap()).collect();
         assert!(matches!(run(&mut nodes, 1, Operation::Update(REPORT), most), Some(Ending::Done(_))));
         let Some(Ending::Scan(_, view)) = run(&mut nodes, 2, Operation::Scan, most) else { panic!("no view") };
         assert_eq!(view.entry(1).map(|entry| entry.report), Some(REPORT));
@@ -97,7 +98,7 @@ fn a_house_on_links_that_pack() {
 
 /// Node 1 of three with a scan that a write answer of node 2, to request 2 with tag 1, will end.
 fn scanning() -> Node {
-    let (mut node, mut out) = (Node::fresh(N, 1).unwrap(), Output::new());
+    let (mut node, mut out) = (Node::fresh(N, F, 1).unwrap(), Output::new());
     handed(&mut node, 2, &[value(2, 1)], &mut out);
     handed(&mut node, 1, &[value(2, 1)], &mut out);
     node.begin(Operation::Scan, &mut out).unwrap();
@@ -134,7 +135,7 @@ struct Lent {
 
 impl Lent {
     fn new() -> Lent {
-        let mut node = Node::fresh(N, 1).unwrap();
+        let mut node = Node::fresh(N, F, 1).unwrap();
         node.message(2, &value(2, 5), &mut Output::new()).unwrap();
         Lent::of(&node)
     }
@@ -193,7 +194,7 @@ fn a_fault_late_in_a_frame() {
     let ended = [write_answer(), value(2, 2)];
     assert_eq!(Lent::of(&scanning()).frame(2, &ended.concat()), 111);
     assert_eq!(Lent::of(&scanning()).frame(2, &[ended.concat(), value(2, 1)].concat()), 9);
-    let mut node = Node::fresh(N, 1).unwrap();
+    let mut node = Node::fresh(N, F, 1).unwrap();
     let (before, mut out) = (*node.as_bytes(), Output::new());
     assert_eq!(node.frame(2, &[value(2, 5), older].concat(), &mut out), Err(Refusal::Value));
     assert!(*node.as_bytes() == before && out.as_bytes().is_empty());

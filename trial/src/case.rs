@@ -190,8 +190,8 @@ impl Case {
     }
 }
 
-/// The code of a call at a node that was not refused.
-fn code(ending: &Option<Ending>) -> u8 {
+/// The code of a call at a node, or of an event in a cluster, that was not refused.
+pub fn code(ending: &Option<Ending>) -> u8 {
     let rule_code = |rule: &Rule| match rule {
         Rule::Borrowed => 0,
         Rule::Round(round) => *round,
@@ -205,18 +205,18 @@ fn code(ending: &Option<Ending>) -> u8 {
 }
 
 /// A fresh record in so many bytes that hold anything before. Gives the code and what is left.
-pub fn compare_fresh(dice: &mut Dice, n: usize, own: usize, size: usize) -> Result<(u8, Vec<u8>), String> {
+pub fn compare_fresh(dice: &mut Dice, n: usize, f: usize, own: usize, size: usize) -> Result<(u8, Vec<u8>), String> {
     let mut record = noise(dice, size);
-    let expected = match Record::fresh(n, own) {
+    let expected = match Record::fresh(n, f, own) {
         Err(Refusal(number)) => (number, record.clone()),
         Ok(_) if size != stored::SIZE => (BAD_LENGTH.0, record.clone()),
         Ok(fresh) => (0, stored::bytes(&stored::write(&fresh))),
     };
-    let proved = (lent::node_fresh(n, own, &mut record), record);
+    let proved = (lent::node_fresh(n, f, own, &mut record), record);
     if proved == expected {
         Ok(proved)
     } else {
-        Err(format!("fresh {n} {own} in {size} bytes: code {}, expected {}", proved.0, expected.0))
+        Err(format!("fresh {n} {f} {own} in {size} bytes: code {}, expected {}", proved.0, expected.0))
     }
 }
 

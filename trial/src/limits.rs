@@ -1,13 +1,15 @@
 //! How close a record is to the limits of refusal 2.
 
+use oracle::cluster::most_faults;
 use oracle::message::{Tag, LIMIT};
 use oracle::node::Operation;
 use oracle::record::{Held, Record, Wait, NODES};
 use std::collections::BTreeSet;
 
 /// The names of the numbers that refusal 2 holds against a limit.
-pub const LIMITED: [&str; 18] = [
+pub const LIMITED: [&str; 19] = [
     "n",
+    "f",
     "own",
     "max_tag",
     "request",
@@ -34,6 +36,7 @@ pub fn limited(record: &Record) -> Vec<(&'static str, u64, u64)> {
     let n = record.n as u64;
     let mut limited = vec![
         ("n", n, NODES as u64),
+        ("f", record.f as u64, most_faults(record.n) as u64),
         ("own", record.own as u64, n),
         ("max_tag", record.max_tag, LIMIT),
         ("request", record.request, LIMIT),

@@ -3,7 +3,7 @@
 
 use crate::case::{Call, Case};
 use crate::stored::{self, SIZE};
-use crate::tally::{CUT_HALFWAY, RUN, RUN_FRAME};
+use crate::tally::{with_f, CUT_HALFWAY, RUN, RUN_FRAME};
 use crate::throw::Trial;
 use oracle::cluster::{entries, Accepted, Event};
 use oracle::dice::Dice;
@@ -48,6 +48,7 @@ pub fn network(trial: &mut Trial) {
     let order = order::check(n, &played).map_err(|why| format!("the order of a network: {why}"));
     trial.keep(order);
     trial.tally.count(format!("networks of {n:>2} nodes"));
+    trial.tally.count(with_f(network.f()));
 }
 
 /// Whether the node stopped when some of its list was let out, and not all.
@@ -58,17 +59,17 @@ fn is_cut_halfway(n: usize, happening: &Happening) -> bool {
 
 /// The network's nodes as it starts.
 fn start(trial: &mut Trial, network: &Network) -> Option<Nodes> {
-    let n = network.n();
-    let mut nodes = Nodes { records: vec![vec![]], sets: vec![Node::fresh(0, n)] };
+    let (n, f) = (network.n(), network.f());
+    let mut nodes = Nodes { records: vec![vec![]], sets: vec![Node::fresh(n, f, 0)] };
     for own in 1..=n {
         let record = network.record(own);
-        let mut bytes = trial.fresh(n, own, SIZE)?;
+        let mut bytes = trial.fresh(n, f, own, SIZE)?;
         if (record.max_tag, record.request) != (0, 0) {
             // Old nodes were fresh once; only these two numbers tell.
             bytes = stored::bytes(&stored::write(record));
         }
         nodes.records.push(bytes);
-        nodes.sets.push(Node::old(own, n, record.max_tag, record.request));
+        nodes.sets.push(Node::old(n, f, own, record.max_tag, record.request));
     }
     Some(nodes)
 }

@@ -1,12 +1,12 @@
-//! A node's record in bytes, as it is lent to the calls for C: 396 big-endian words of eight bytes.
+//! A node's record in bytes, as it is lent to the calls for C: 397 big-endian words of eight bytes.
 //!
 //! | words | what |
 //! |---|---|
-//! | 0 to 4 | n, own, max_tag, request, kept |
-//! | 5 to 10 | the wait: its code, kind, round, tag, answered (a bit for each sender), largest |
-//! | 11 | the report of an update that reads |
-//! | 12 to 267 | the tags heard, by sender and then by writer, sixteen of each |
-//! | 268 to 395 | four views of sixteen entries, a tag and a report each: last, at_max, at_round, kept_view |
+//! | 0 to 5 | n, f, own, max_tag, request, kept |
+//! | 6 to 11 | the wait: its code, kind, round, tag, answered (a bit for each sender), largest |
+//! | 12 | the report of an update that reads |
+//! | 13 to 268 | the tags heard, by sender and then by writer, sixteen of each |
+//! | 269 to 396 | four views of sixteen entries, a tag and a report each: last, at_max, at_round, kept_view |
 
 use oracle::message::NodeId;
 use oracle::node::Operation;
@@ -14,18 +14,19 @@ use oracle::record::{Held, Kind, Record, Wait, NODES};
 use std::collections::BTreeSet;
 
 pub const N: usize = 0;
-pub const OWN: usize = 1;
-pub const MAX_TAG: usize = 2;
-pub const REQUEST: usize = 3;
-pub const KEPT: usize = 4;
-pub const CODE: usize = 5;
-pub const KIND: usize = 6;
-pub const ROUND: usize = 7;
-pub const TAG: usize = 8;
-pub const ANSWERED: usize = 9;
-pub const LARGEST: usize = 10;
-pub const REPORT: usize = 11;
-const HEARD: usize = 12;
+pub const F: usize = 1;
+pub const OWN: usize = 2;
+pub const MAX_TAG: usize = 3;
+pub const REQUEST: usize = 4;
+pub const KEPT: usize = 5;
+pub const CODE: usize = 6;
+pub const KIND: usize = 7;
+pub const ROUND: usize = 8;
+pub const TAG: usize = 9;
+pub const ANSWERED: usize = 10;
+pub const LARGEST: usize = 11;
+pub const REPORT: usize = 12;
+const HEARD: usize = 13;
 const VIEWS: usize = HEARD + NODES * NODES;
 pub const WORDS: usize = VIEWS + 4 * 2 * NODES;
 pub const SIZE: usize = 8 * WORDS;
@@ -102,6 +103,7 @@ pub fn read(words: &Words) -> Option<Record> {
     };
     Some(Record {
         n: words[N] as usize,
+        f: words[F] as usize,
         own: words[OWN] as usize,
         max_tag: words[MAX_TAG],
         request: words[REQUEST],
@@ -119,6 +121,7 @@ pub fn read(words: &Words) -> Option<Record> {
 pub fn write(record: &Record) -> Words {
     let mut words = [0; WORDS];
     words[N] = record.n as u64;
+    words[F] = record.f as u64;
     words[OWN] = record.own as u64;
     words[MAX_TAG] = record.max_tag;
     words[REQUEST] = record.request;
@@ -170,7 +173,7 @@ mod tests {
             let record = read(&crowded(&mut dice)).expect("crowded records have a wait");
             assert_eq!(record.judge(), Ok(()));
             let kept = bytes(&write(&record));
-            assert_eq!((kept.len(), words(&kept).and_then(|words| read(&words))), (3168, Some(record)));
+            assert_eq!((kept.len(), words(&kept).and_then(|words| read(&words))), (3176, Some(record)));
         }
     }
 }

@@ -1,11 +1,13 @@
 //! What has occurred, counted; and what must have.
+mod cluster;
 mod frame;
 mod page;
 
 use crate::case::{Agreed, Call, Case};
 use crate::limits::{limited, wait_name, waits, LIMITED};
+use oracle::cluster::most_faults;
 use oracle::message::LIMIT;
-use oracle::record::{Fault, Record};
+use oracle::record::{Fault, Record, NODES};
 use std::collections::BTreeMap;
 use std::fmt;
 
@@ -20,6 +22,11 @@ pub const RUN_FRAME: &str = "run, in a frame";
 
 /// A node of a network stopped halfway through a list.
 pub const CUT_HALFWAY: &str = "run: cut halfway";
+
+/// A network in which so many nodes may stop.
+pub fn with_f(f: usize) -> String {
+    format!("networks with f = {f}")
+}
 
 #[derive(Default)]
 pub struct Tally {
@@ -105,6 +112,7 @@ fn needed() -> Vec<String> {
     let codes = |name: &str, codes: &[u8]| codes.iter().map(|code| format!("{name}: {code}")).collect::<Vec<_>>();
     let faults = [
         Fault::N,
+        Fault::F,
         Fault::Own,
         Fault::Round,
         Fault::AboveLimit,
@@ -123,6 +131,8 @@ fn needed() -> Vec<String> {
         frame::needed(),
         codes("begin", &[0, 12, 2, 5, 6]),
         codes("fresh", &[0, 1, 12]),
+        cluster::needed(),
+        (0..=most_faults(NODES)).map(with_f).collect(),
         codes("next", &[0, 1, 7]),
         codes("page", &[0, 12, 1, 7, 15]),
         page::needed(),

@@ -2,11 +2,12 @@
 
 use crate::case::{compare_fresh, compare_next, compare_page, Agreed, Call, Case};
 use crate::chance::report;
-use crate::records::{crowded, nodes, set_wait, wild};
+use crate::records::{crowded, nodes, other_f, set_wait, wild};
 use crate::stored::{self, Words, CODE, IDLE, SIZE};
 use crate::tally::Tally;
 use crate::{frames, messages, pages, records};
 use oracle::dice::Dice;
+use oracle::habits::faults;
 use oracle::message::Message;
 use oracle::node::Operation;
 use oracle::record::{LEAST_OUTPUT, NODES};
@@ -59,8 +60,8 @@ impl Trial {
     }
 
     /// A fresh record. Gives its bytes.
-    pub fn fresh(&mut self, n: usize, own: usize, size: usize) -> Option<Vec<u8>> {
-        let made = compare_fresh(&mut self.dice, n, own, size);
+    pub fn fresh(&mut self, n: usize, f: usize, own: usize, size: usize) -> Option<Vec<u8>> {
+        let made = compare_fresh(&mut self.dice, n, f, own, size);
         let (code, record) = self.keep(made)?;
         self.tally.count(format!("fresh: {code}"));
         Some(record)
@@ -73,9 +74,11 @@ impl Trial {
             0 | 1 => {
                 let any = self.dice.below(NODES + 2);
                 let n = self.dice.pick(&[any, any, any, NODES, NODES + 1, 256 + any, (1 << 32) + any, usize::MAX]);
+                let borne = faults(&mut self.dice, n.clamp(1, NODES));
+                let f = if self.dice.chance(700) { borne } else { other_f(&mut self.dice, any, borne as u64) as usize };
                 let own = self.dice.pick(&[0, 1, n / 2, n, n.wrapping_add(1), usize::MAX]);
                 let size = self.record_size();
-                self.fresh(n, own, size);
+                self.fresh(n, f, own, size);
             }
             2..=14 => self.throw_next(record, waiting),
             15..=18 => self.throw_page(record),

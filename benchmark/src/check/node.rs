@@ -1,7 +1,8 @@
 //! The differential run at one node: both sides get the same calls on their own copy of a record.
-use super::{age, damage_record, odd_number, Tally};
+use super::{age, damage_record, odd_f, odd_number, some_f, Tally};
 use crate::dice::Dice;
 use crate::network::{Input, Lent, Network, Packing, READ};
+use crate::plain::record::{LAST, MAXTAG, REQUEST, SIZE as RECORD, WAIT};
 use crate::side::{is_refusal, Operation, Plain, Proved, Side};
 
 /// The answers to frames, and those to all other calls.
@@ -25,13 +26,14 @@ fn give_both(input: &Input, record: &mut [u8], lent: &mut Lent, answers: &mut An
 /// A network of nodes from fresh; some are made old at once. Where `damaged`, some calls come upon a copy of a record.
 pub fn network(n: usize, seed: u64, calls: usize, damaged: bool, answers: &mut Answers) {
     let mut dice = Dice::new(seed);
+    let f = some_f(&mut dice, n);
     let packing = match dice.below(4) {
         0 => Packing::Single,
-        // Two of three nodes go on while the third waits for its frames.
-        1 | 2 if n >= 3 => Packing::Full(1 + dice.below(70)),
+        // The others are a quorum, and go on while node 1 waits for its frames.
+        1 | 2 if f >= 1 => Packing::Full(1 + dice.below(70)),
         _ => Packing::UpTo(2 + dice.below(10)),
     };
-    let mut network = Network::new(n, dice.number(), packing);
+    let mut network = Network::new(n, f, dice.number(), packing);
     if dice.chance(250) {
         network.records.iter_mut().for_each(|record| age(&mut dice, record));
     }
@@ -92,10 +94,10 @@ fn made_up(dice: &mut Dice, n: usize, record: &[u8]) -> Vec<u8> {
         x.wrapping_add(dice.below(3) as u64).wrapping_sub(dice.below(2) as u64)
     };
     // The request number; the top tag, the round's tag, or a last tag.
-    let at = [16, 64, 2144 + 16 * dice.below(n)][dice.below(3)];
-    let numbers = [dice.below(7) as u64 + 1, near(dice, 24), dice.below(n) as u64 + 1, near(dice, at)];
+    let at = [MAXTAG, WAIT + 24, LAST + 16 * dice.below(n)][dice.below(3)];
+    let numbers = [dice.below(7) as u64 + 1, near(dice, REQUEST), dice.below(n) as u64 + 1, near(dice, at)];
     let report = dice.number().to_be_bytes();
-    let view = record.get(2144..2144 + 16 * n).unwrap_or(&[]);
+    let view = record.get(LAST..LAST + 16 * n).unwrap_or(&[]);
     let (mut bytes, mut length) = (vec![0; 274], 0);
     if Plain::write(n, &numbers, &report, view, &mut bytes, &mut length) != 0 {
         length = dice.below(40);
@@ -132,11 +134,12 @@ pub fn strange_nodes(seed: u64, tally: &mut Tally) {
     for _ in 0..20_000 {
         let n = if dice.chance(900) { dice.below(16) + 1 } else { odd_number(&mut dice) as usize };
         let own = if dice.chance(900) { dice.below(17) } else { odd_number(&mut dice) as usize };
-        let mut one = vec![9; if dice.chance(900) { 3168 } else { dice.below(4000) }];
+        let f = odd_f(&mut dice, n);
+        let mut one = vec![9; if dice.chance(900) { RECORD } else { dice.below(4000) }];
         let mut two = one.clone();
-        let told = (Proved::node_fresh(n, own, &mut one), Plain::node_fresh(n, own, &mut two));
-        assert_eq!(told.0, told.1, "a fresh node {own} of {n}");
-        assert!(one == two, "the bytes of a fresh node {own} of {n}");
+        let told = (Proved::node_fresh(n, f, own, &mut one), Plain::node_fresh(n, f, own, &mut two));
+        assert_eq!(told.0, told.1, "a fresh node {own} of {n}, f = {f}");
+        assert!(one == two, "the bytes of a fresh node {own} of {n}, f = {f}");
         tally[told.0 as usize] += 1;
         let mut bytes = made_up(&mut dice, n.clamp(1, 16), &one);
         bytes.resize(dice.below(300), dice.number() as u8);

@@ -44,7 +44,7 @@ impl Stream {
 
 /// What node 1 of a network is given once it has had some frames: each has k messages, or as many as it has room for.
 fn packed(n: usize, k: usize) -> Stream {
-    let mut network = Network::new(n, 13, Packing::Full(k));
+    let mut network = Network::new(n, Plain::most_faults(n), 13, Packing::Full(k));
     let (mut early, mut stream) = (2 * n, None);
     loop {
         network.step(|node, input, record, lent| {

@@ -17,7 +17,7 @@ struct Stream {
 }
 
 fn stream(n: usize) -> Stream {
-    let mut network = Network::new(n, 13, Packing::Single);
+    let mut network = Network::new(n, Plain::most_faults(n), 13, Packing::Single);
     for _ in 0..100 * n {
         network.step(|_, input, record, lent| input.give::<Plain>(record, lent));
     }

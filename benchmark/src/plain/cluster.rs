@@ -1,31 +1,43 @@
-//! A cluster in one lent buffer: byte 0 states n, then a block for each node with its record and its incoming channels.
+//! A cluster in one lent buffer: byte 0 states n and byte 1 f, then a block for each node with its record and its
+//! incoming channels.
 use super::bytes::VIEW;
 use super::message::{read_prefix, Message};
 use super::record::{Operation, Record, Wait, SIZE as RECORD};
 use super::step::{Ending, Step};
-use super::{most_faults, Refusal};
+use super::{is_size, Refusal};
 
-const SLOT: usize = 274;
-const CAPACITY: usize = 16;
+const HEAD: usize = 2;
+pub const SLOT: usize = 274;
+pub const CAPACITY: usize = 16;
 const CHANNEL: usize = 2 + SLOT * CAPACITY;
 const BLOCK: usize = 1 + RECORD + 16 * CHANNEL;
 
 /// The bytes to lend for a cluster of n nodes; 0 where there may be none.
 pub fn size(n: usize) -> usize {
     if (1..=16).contains(&n) {
-        1 + BLOCK * n
+        HEAD + BLOCK * n
     } else {
         0
     }
 }
 
+/// Where the block of node c is: whether it has stopped, its record, its channels.
+pub fn block_at(c: usize) -> usize {
+    HEAD + BLOCK * (c - 1)
+}
+
+/// Where in a block the channel from node a is: how many messages wait, the slot of the oldest, sixteen slots.
+pub fn channel_at(a: usize) -> usize {
+    1 + RECORD + CHANNEL * (a - 1)
+}
+
 fn block(b: &[u8], c: usize) -> &[u8; BLOCK] {
-    let at = 1 + BLOCK * (c - 1);
+    let at = block_at(c);
     b[at..at + BLOCK].try_into().unwrap()
 }
 
 fn block_mut(b: &mut [u8], c: usize) -> &mut [u8; BLOCK] {
-    let at = 1 + BLOCK * (c - 1);
+    let at = block_at(c);
     (&mut b[at..at + BLOCK]).try_into().unwrap()
 }
 
@@ -41,14 +53,13 @@ fn record_mut(block: &mut [u8; BLOCK]) -> &mut [u8; RECORD] {
     (&mut block[1..1 + RECORD]).try_into().unwrap()
 }
 
-/// The channel from node a: how many messages wait, the slot of the oldest, sixteen slots.
 fn channel(block: &[u8; BLOCK], a: usize) -> &[u8; CHANNEL] {
-    let at = 1 + RECORD + CHANNEL * (a - 1);
+    let at = channel_at(a);
     block[at..at + CHANNEL].try_into().unwrap()
 }
 
 fn channel_mut(block: &mut [u8; BLOCK], a: usize) -> &mut [u8; CHANNEL] {
-    let at = 1 + RECORD + CHANNEL * (a - 1);
+    let at = channel_at(a);
     (&mut block[at..at + CHANNEL]).try_into().unwrap()
 }
 
@@ -83,16 +94,16 @@ fn halt(block: &mut [u8; BLOCK], n: usize) {
     }
 }
 
-fn block_is_sound(block: &[u8; BLOCK], n: usize, c: usize) -> bool {
-    Record(record(block)).is_sound(n, c) && (1..=n).all(|a| waiting(channel(block, a)) <= CAPACITY)
+fn block_is_sound(block: &[u8; BLOCK], n: usize, f: usize, c: usize) -> bool {
+    Record(record(block)).is_sound(n, f, c) && (1..=n).all(|a| waiting(channel(block, a)) <= CAPACITY)
 }
 
 fn stopped_nodes(b: &[u8], n: usize) -> usize {
     (1..=n).filter(|&c| has_stopped(block(b, c))).count()
 }
 
-/// The n that sound bytes state, or 12, 2.
-fn stated(b: &[u8]) -> Result<usize, Refusal> {
+/// The n and f that sound bytes state, or 12, 2.
+fn stated(b: &[u8]) -> Result<(usize, usize), Refusal> {
     let n = *b.first().ok_or(12)? as usize;
     if !(1..=16).contains(&n) {
         return Err(2);
@@ -100,26 +111,27 @@ fn stated(b: &[u8]) -> Result<usize, Refusal> {
     if b.len() != size(n) {
         return Err(12);
     }
-    let sound = (1..=n).all(|c| block_is_sound(block(b, c), n, c));
-    if sound && stopped_nodes(b, n) <= most_faults(n) {
-        Ok(n)
+    let f = b[1] as usize;
+    let sound = is_size(n, f) && (1..=n).all(|c| block_is_sound(block(b, c), n, f, c));
+    if sound && stopped_nodes(b, n) <= f {
+        Ok((n, f))
     } else {
         Err(2)
     }
 }
 
 /// One node more may stop (10).
-fn may_stop(b: &[u8], n: usize) -> Result<(), Refusal> {
-    if stopped_nodes(b, n) < most_faults(n) {
+fn may_stop(b: &[u8], n: usize, f: usize) -> Result<(), Refusal> {
+    if stopped_nodes(b, n) < f {
         Ok(())
     } else {
         Err(10)
     }
 }
 
-/// Makes the lent bytes a fresh cluster of n nodes, or refuses with 1, 12.
-pub fn fresh(n: usize, b: &mut [u8]) -> Result<Ending, Refusal> {
-    if !(1..=16).contains(&n) {
+/// Makes the lent bytes a fresh cluster of n nodes, of which f may stop, or refuses with 1, 12.
+pub fn fresh(n: usize, f: usize, b: &mut [u8]) -> Result<Ending, Refusal> {
+    if !is_size(n, f) {
         return Err(1);
     }
     if b.len() != size(n) {
@@ -127,8 +139,9 @@ pub fn fresh(n: usize, b: &mut [u8]) -> Result<Ending, Refusal> {
     }
     b.fill(0);
     b[0] = n as u8;
+    b[1] = f as u8;
     for c in 1..=n {
-        Record(record_mut(block_mut(b, c))).make_blank(n, c);
+        Record(record_mut(block_mut(b, c))).make_blank(n, f, c);
     }
     Ok(Ending::None)
 }
@@ -136,7 +149,7 @@ pub fn fresh(n: usize, b: &mut [u8]) -> Result<Ending, Refusal> {
 /// Begins an operation at node c, or refuses with 12, 2, 3, 4, 5, 6, 10, 11.
 /// A cut lets out that many entries, then the node stops.
 pub fn begin(b: &mut [u8], c: usize, operation: Operation, cut: Option<usize>) -> Result<Ending, Refusal> {
-    let n = stated(b)?;
+    let (n, f) = stated(b)?;
     if !(1..=n).contains(&c) {
         return Err(3);
     }
@@ -152,7 +165,7 @@ pub fn begin(b: &mut [u8], c: usize, operation: Operation, cut: Option<usize>) -
         return Err(6);
     }
     if cut.is_some() {
-        may_stop(b, n)?;
+        may_stop(b, n, f)?;
     }
     let mut step = Step::new(*record, Wait::Idle);
     step.begin(operation);
@@ -164,7 +177,7 @@ pub fn begin(b: &mut [u8], c: usize, operation: Operation, cut: Option<usize>) -
 /// Delivers what has waited longest on the channel from a to c, or refuses with 12, 2, 3, 4, 8, 7, 9, 10, 11.
 /// The view of a scan that ends goes to `view`.
 pub fn deliver(b: &mut [u8], a: usize, c: usize, cut: Option<usize>, view: &mut [u8; VIEW]) -> Result<Ending, Refusal> {
-    let n = stated(b)?;
+    let (n, f) = stated(b)?;
     if !(1..=n).contains(&a) || !(1..=n).contains(&c) {
         return Err(3);
     }
@@ -185,11 +198,11 @@ pub fn deliver(b: &mut [u8], a: usize, c: usize, cut: Option<usize>, view: &mut 
         }
     }
     if cut.is_some() {
-        may_stop(b, n)?;
+        may_stop(b, n, f)?;
     }
     let wait = Record(record).wait().unwrap_or(Wait::Idle);
     let mut step = Step::new(*record, wait);
-    step.message(most_faults(n), a, m, &slot[18..18 + 16 * n]);
+    step.message(a, m, &slot[18..18 + 16 * n]);
     has_room(b, n, a, c, cut, usize::from(a == c), step.messages())?;
     pop(channel_mut(block_mut(b, c), a));
     settle(b, n, a, c, cut, &step);
@@ -204,14 +217,14 @@ pub fn deliver(b: &mut [u8], a: usize, c: usize, cut: Option<usize>, view: &mut 
 
 /// Stops node c, or refuses with 12, 2, 3, 4, 10.
 pub fn stop(b: &mut [u8], c: usize) -> Result<Ending, Refusal> {
-    let n = stated(b)?;
+    let (n, f) = stated(b)?;
     if !(1..=n).contains(&c) {
         return Err(3);
     }
     if has_stopped(block(b, c)) {
         return Err(4);
     }
-    may_stop(b, n)?;
+    may_stop(b, n, f)?;
     halt(block_mut(b, c), n);
     Ok(Ending::None)
 }

@@ -3,7 +3,7 @@ use super::bytes::VIEW;
 use super::message::{read, read_prefix, Message};
 use super::record::{Operation, Record, Wait, LAST, SIZE};
 use super::step::{Ending, Step};
-use super::{most_faults, Refusal};
+use super::{is_size, Refusal};
 
 /// The least length of an output buffer, and of one for a frame.
 const OUTPUT: usize = 512;
@@ -13,13 +13,13 @@ const FRAME_OUTPUT: usize = 8192;
 const FRAME: usize = 1500;
 
 /// Makes the lent bytes the record of a node that has done nothing, or refuses with 1, 12.
-pub fn fresh(n: usize, own: usize, b: &mut [u8]) -> Result<Ending, Refusal> {
-    if !(1..=16).contains(&n) || !(1..=n).contains(&own) {
+pub fn fresh(n: usize, f: usize, own: usize, b: &mut [u8]) -> Result<Ending, Refusal> {
+    if !is_size(n, f) || !(1..=n).contains(&own) {
         return Err(1);
     }
     let b: &mut [u8; SIZE] = b.try_into().map_err(|_| 12)?;
     b.fill(0);
-    Record(b).make_blank(n, own);
+    Record(b).make_blank(n, f, own);
     Ok(Ending::None)
 }
 
@@ -29,8 +29,8 @@ fn usable<'a>(b: &'a mut [u8], out: &[u8], least: usize) -> Result<(&'a mut [u8;
     if out.len() < least {
         return Err(12);
     }
-    let (n, own) = (Record(&*b).n(), Record(&*b).own());
-    if (1..=16).contains(&n) && (1..=n).contains(&own) && Record(&*b).is_sound(n, own) {
+    let (n, f, own) = (Record(&*b).n(), Record(&*b).f(), Record(&*b).own());
+    if is_size(n, f) && (1..=n).contains(&own) && Record(&*b).is_sound(n, f, own) {
         Ok((b, n))
     } else {
         Err(2)
@@ -95,7 +95,7 @@ fn take(
 ) -> (Ending, usize) {
     let wait = Record(&*b).wait().unwrap_or(Wait::Idle);
     let mut step = Step::new(b, wait);
-    step.message(most_faults(n), sender, m, bytes.get(18..).unwrap_or(&[]));
+    step.message(sender, m, bytes.get(18..).unwrap_or(&[]));
     if let Ending::Scan(_) = step.ending {
         *view = step.view;
     }

@@ -2,22 +2,24 @@
 use super::bytes::{put_word, view_ok, word, Report, LIMIT, NO_REPORT, VIEW};
 use std::borrow::{Borrow, BorrowMut};
 
-pub const SIZE: usize = 3168;
+pub const SIZE: usize = 3176;
 
 const N: usize = 0;
-const OWN: usize = 8;
-const MAXTAG: usize = 16;
-const REQUEST: usize = 24;
-const KEPT: usize = 32;
-const WAIT: usize = 40;
-const REPORT: usize = 88;
-const HEARD: usize = 96;
+pub const F: usize = 8;
+const OWN: usize = 16;
+pub const MAXTAG: usize = 24;
+pub const REQUEST: usize = 32;
+const KEPT: usize = 40;
+/// The code of the wait, its kind, its round and its tag, then two numbers more.
+pub const WAIT: usize = 48;
+const REPORT: usize = 96;
+pub const HEARD: usize = 104;
 
 /// Where the four views are.
-pub const LAST: usize = 2144;
-pub const ATMAX: usize = 2400;
-pub const ATROUND: usize = 2656;
-pub const KEPTVIEW: usize = 2912;
+pub const LAST: usize = 2152;
+pub const ATMAX: usize = 2408;
+pub const ATROUND: usize = 2664;
+pub const KEPTVIEW: usize = 2920;
 
 #[derive(Clone, Copy, Debug)]
 pub enum Operation {
@@ -87,6 +89,10 @@ impl<B: Borrow<[u8; SIZE]>> Record<B> {
         word(self.bytes(), N) as usize
     }
 
+    pub fn f(&self) -> usize {
+        word(self.bytes(), F) as usize
+    }
+
     pub fn own(&self) -> usize {
         word(self.bytes(), OWN) as usize
     }
@@ -140,12 +146,13 @@ impl<B: Borrow<[u8; SIZE]>> Record<B> {
         })
     }
 
-    /// Whether this is a usable record of node `own` of n.
-    pub fn is_sound(&self, n: usize, own: usize) -> bool {
+    /// Whether this is a usable record of node `own` of n, of which f may stop.
+    pub fn is_sound(&self, n: usize, f: usize, own: usize) -> bool {
         let Some(wait) = self.wait() else {
             return false;
         };
         let numbers = word(self.bytes(), N) == n as u64
+            && word(self.bytes(), F) == f as u64
             && word(self.bytes(), OWN) == own as u64
             && self.maxtag() <= LIMIT
             && self.request() <= LIMIT
@@ -188,8 +195,9 @@ impl<B: BorrowMut<[u8; SIZE]>> Record<B> {
     }
 
     /// Writes the record of a node that has done nothing over zeros.
-    pub fn make_blank(&mut self, n: usize, own: usize) {
+    pub fn make_blank(&mut self, n: usize, f: usize, own: usize) {
         put_word(self.bytes_mut(), N, n as u64);
+        put_word(self.bytes_mut(), F, f as u64);
         put_word(self.bytes_mut(), OWN, own as u64);
     }
 

@@ -68,9 +68,9 @@ impl<B: BorrowMut<[u8; SIZE]>> Step<B> {
     }
 
     /// A message from a node; `view` is that of a good one.
-    pub fn message(&mut self, f: usize, from: usize, m: Message, view: &[u8]) {
+    pub fn message(&mut self, from: usize, m: Message, view: &[u8]) {
         self.react(from, m, view);
-        self.move_on(f);
+        self.move_on();
         self.record.set_wait(&self.wait);
     }
 
@@ -126,8 +126,8 @@ impl<B: BorrowMut<[u8; SIZE]>> Step<B> {
     }
 
     /// The open operation moves on until it must wait.
-    fn move_on(&mut self, f: usize) {
-        let quorum = self.record.n() - f;
+    fn move_on(&mut self) {
+        let quorum = self.record.n() - self.record.f();
         if let Wait::Reading { operation, answered, largest } = self.wait {
             if answered.count_ones() as usize >= quorum {
                 self.after_read(operation, largest.max(self.record.maxtag()));

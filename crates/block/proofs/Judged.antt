@@ -26,9 +26,9 @@ use Rattle.view.specs.declared.Report.{Report}
 use Rattle.view.proofs.ReportBytes.{none-zero}
 use Rattle.table.specs.Loop.{either, all}
 use Rattle.table.specs.Table.{at, tagOf, reportOf as reportIn, entryOk, entryWithin, viewWithin, heardWithin, cells}
-use Rattle.record.specs.Usable.{roundTag, numbersWithin, numbersOk, tablesOk, usable}
-use Rattle.region.specs.Record.{heardPlace, viewIn, waitIn, recordOf, codesKnown, nPlace, ownPlace, maxtagPlace, lastIn}
-use Rattle.region.specs.Record.{requestPlace, keptPlace, atmaxIn, atroundIn, keptIn}
+use Rattle.record.specs.Usable.{roundTag, sizesWithin, numbersWithin, numbersOk, tablesOk, usable}
+use Rattle.region.specs.Record.{heardPlace, viewIn, waitIn, recordOf, codesKnown, nPlace, fPlace, ownPlace, maxtagPlace}
+use Rattle.region.specs.Record.{requestPlace, keptPlace, lastIn, atmaxIn, atroundIn, keptIn}
 use Rattle.table.proofs.Laws.{all-at, all-all}
 use Rattle.block.specs.Block.{recordSound}
 use Rattle.block.specs.Judge.{group, cellWithin}
@@ -90,28 +90,28 @@ view-within t b h l = all-allTo nodes (entryWithin t (viewOf nodes b)) (entryOkA
 
 -- ---- a whole record
 
-abbrev pub sizesWithin : (n own : ℕ) → Bool
-sizesWithin n own = both (both (leb 1 n) (leb n nodes)) (both (leb 1 own) (leb own n))
-
 abbrev pub tablesWithin : (maxtag round kept : ℕ) → List ℕ → Bool
 tablesWithin maxtag round kept r =
     both (both (heardWithin (words cells r heardPlace)) (viewWithin limit (viewIn r lastIn)))
     (both (both (viewWithin maxtag (viewIn r atmaxIn)) (viewWithin round (viewIn r atroundIn)))
     (viewWithin kept (viewIn r keptIn)))
 
-abbrev judgedAs : (n own : ℕ) → List ℕ → Bool
-judgedAs n own r =
+abbrev judgedAs : (n f own : ℕ) → List ℕ → Bool
+judgedAs n f own r =
     both (codesKnown r)
-    (both (sizesWithin n own)
+    (both (sizesWithin n f own)
     (both (numbersWithin n (word r maxtagPlace) (word r requestPlace) (word r keptPlace) (waitIn r))
     (tablesWithin (word r maxtagPlace) (roundTag (waitIn r)) (word r keptPlace) r)))
 
-module _ (n c : ℕ) (r : List ℕ) where
-  abbrev stated : Bool
-  stated = both (eqb (word r nPlace) n) (eqb (word r ownPlace) c)
+module _ (n f c : ℕ) (r : List ℕ) where
+  abbrev cluster : Bool
+  cluster = both (eqb (word r nPlace) n) (eqb (word r fPlace) f)
 
-  -- where the record states another n or number
-  pub judged-other : stated ≡ false → false ≡ recordSound n c r
+  abbrev stated : Bool
+  stated = both cluster (eqb (word r ownPlace) c)
+
+  -- where the record states another n, f or number
+  pub judged-other : stated ≡ false → false ≡ recordSound n f c r
   unfolding recordOf
   judged-other h = sym (ap (both (both (codesKnown r) (usable (recordOf r)))) h
       ∙ never (both (codesKnown r) (usable (recordOf r))))
@@ -121,12 +121,15 @@ module _ (n c : ℕ) (r : List ℕ) where
       never false = refl
 
   -- where it states these
-  pub judged : {t : Bool} → stated ≡ true → t ≡ judgedAs n c r → t ≡ recordSound n c r
+  pub judged : {t : Bool} → stated ≡ true → t ≡ judgedAs n f c r → t ≡ recordSound n f c r
   unfolding usable numbersOk tablesOk recordOf
   judged h e =
-      e ∙ ap₂ (λ (x y : ℕ). judgedAs x y r)
-      (sym (eqb-true (word r nPlace) n (both-left (eqb (word r nPlace) n) (eqb (word r ownPlace) c) h)))
-      (sym (eqb-true (word r ownPlace) c (both-right (eqb (word r nPlace) n) (eqb (word r ownPlace) c) h)))
+      let same = both-left cluster (eqb (word r ownPlace) c) h in
+      let n-is = eqb-true (word r nPlace) n (both-left (eqb (word r nPlace) n) (eqb (word r fPlace) f) same) in
+      let f-is = eqb-true (word r fPlace) f (both-right (eqb (word r nPlace) n) (eqb (word r fPlace) f) same) in
+      let own-is = eqb-true (word r ownPlace) c (both-right cluster (eqb (word r ownPlace) c) h) in
+      e ∙ ap₂ (λ (x y : ℕ). judgedAs x y c r) (sym n-is) (sym f-is)
+      ∙ ap (λ (z : ℕ). judgedAs (word r nPlace) (word r fPlace) z r) (sym own-is)
       ∙ sym (ap (both (both (codesKnown r) (usable (recordOf r)))) h ∙ only (both (codesKnown r) (usable (recordOf r))))
     where
       only : (t : Bool) → both t true ≡ t

@@ -69,14 +69,14 @@ receive a m k = pick (hasStopped k) k (onChannel a (push m) k)
 unfoldable pub halt : ℕ → List ℕ → List ℕ
 halt n k = upTo n (λ i. onChannel (i + 1) clear) (set k stopPlace 1)
 
--- What refusal 2 asks of the block of node c of n: a usable record of that n and number, and no channel with more
--- messages than it can hold.
-abbrev pub recordSound : ℕ → ℕ → List ℕ → Bool
-recordSound n c r = both (both (codesKnown r) (usable (recordOf r)))
-    (both (eqb (recordOf r .n) n) (eqb (recordOf r .own) c))
+-- What refusal 2 asks of the block of node c of n, f of which may stop: a usable record of that n, f and number, and no
+-- channel with more messages than it can hold.
+abbrev pub recordSound : (n f c : ℕ) → List ℕ → Bool
+recordSound n f c r = both (both (codesKnown r) (usable (recordOf r)))
+    (both (both (eqb (recordOf r .n) n) (eqb (recordOf r .f) f)) (eqb (recordOf r .own) c))
 
 abbrev pub channelsSound : ℕ → List ℕ → Bool
 channelsSound n k = all n (λ a. leb (waitingIn k a) capacity)
 
-unfoldable pub blockSound : ℕ → ℕ → List ℕ → Bool
-blockSound n c k = both (recordSound n c (recordIn k)) (channelsSound n k)
+unfoldable pub blockSound : (n f c : ℕ) → List ℕ → Bool
+blockSound n f c k = both (recordSound n f c (recordIn k)) (channelsSound n k)

@@ -4,10 +4,12 @@ use octets::and;
 use octets::get_word;
 use record::usable::numbers_within;
 use record::usable::round_tag;
+use record::usable::sizes_within;
 use region::head::codes_known;
 use region::head::load_wait;
 use region::places::ATMAX_IN;
 use region::places::ATROUND_IN;
+use region::places::F_PLACE;
 use region::places::HEARD_PLACE;
 use region::places::KEPT_IN;
 use region::places::KEPT_PLACE;
@@ -102,19 +104,22 @@ fn tables_sound(r: &[u8], maxtag: u64, round: u64, kept: u64) -> bool
     )
 }
 
-// Whether these bytes are a usable record of node c of n.
-pub fn record_sound(r: &[u8], n: usize, c: usize) -> bool
+// Whether these bytes are a usable record of node c of n, f of which may stop.
+pub fn record_sound(r: &[u8], n: usize, f: usize, c: usize) -> bool
     requires { ⌜ (length (now r) ≡ recordSize) × (n ≤ nodes) ⌝ }
-    ensures { λ t. ⌜ t ≡ recordSound n c (now (r .entry)) ⌝ }
+    ensures { λ t. ⌜ t ≡ recordSound n f c (now (r .entry)) ⌝ }
 {
     if and(
-        get_word(r, N_PLACE) == n as u64,
+        and(
+            get_word(r, N_PLACE) == n as u64,
+            get_word(r, F_PLACE) == f as u64,
+        ),
         get_word(r, OWN_PLACE) == c as u64,
     ) {
         let maxtag = get_word(r, MAXTAG_PLACE);
         let kept = get_word(r, KEPT_PLACE);
         let wait = load_wait(r);
-        let sizes = and(and(1 <= n, n <= NODES), and(1 <= c, c <= n));
+        let sizes = sizes_within(n, f, c);
         let numbers = numbers_within(n, maxtag, get_word(r, REQUEST_PLACE), kept, wait);
         let tables = tables_sound(r, maxtag, round_tag(wait), kept);
         return and(codes_known(r), and(sizes, and(numbers, tables)));

@@ -130,13 +130,13 @@ fn channels_sound(k: &[u8], n: usize) -> bool
     ok
 }
 
-// Whether refusal 2 has nothing against the block of node c of n.
-pub fn block_sound(k: &[u8], n: usize, c: usize) -> bool
+// Whether refusal 2 has nothing against the block of node c of n, f of which may stop.
+pub fn block_sound(k: &[u8], n: usize, f: usize, c: usize) -> bool
     requires { ⌜ (length (now k) ≡ blockSize) × (n ≤ nodes) ⌝ }
-    ensures { λ r. ⌜ r ≡ blockSound n c (now (k .entry)) ⌝ }
+    ensures { λ r. ⌜ r ≡ blockSound n f c (now (k .entry)) ⌝ }
 {
     and(
-        record_sound(&k[RECORD_PLACE..CHANNELS_PLACE], n, c),
+        record_sound(&k[RECORD_PLACE..CHANNELS_PLACE], n, f, c),
         channels_sound(k, n),
     )
 }

@@ -16,7 +16,6 @@ use Rattle.record.specs.declared.Operation.{Operation}
 use Rattle.step.specs.Move.{messageStep, beginStep}
 use Rattle.step.specs.Stale.{staleMessage}
 use Rattle.calls.specs.Entry.{leastOutput, refuse, letOut, begin, beside, taken, message}
-use Rattle.record.specs.Record.{faultsOf}
 
 module _ (c : Node) (o : Operation) (out : List ℕ) where
   pub begin-12 : ltb (length out) leastOutput ≡ true → begin c o out ≡ refuse 12 c out
@@ -38,7 +37,7 @@ module _ (c : Node) (o : Operation) (out : List ℕ) where
       begin-6 i j = rw (h, u, i, j)
 
       pub begin-goes : isOpen (c .wait) ≡ false → full c ≡ false → begin c o out
-          ≡ letOut (beginStep (faultsOf c) c o) out
+          ≡ letOut (beginStep (c .f) c o) out
       unfolding begin
       begin-goes i j = rw (h, u, i, j)
 
@@ -74,6 +73,6 @@ module _ (c : Node) (s : ℕ) (v out : List ℕ) (m : Message) where
   taken-9 e = rw e
 
   pub taken-goes : staleMessage c s m ≡ false
-      → taken c s v out (result m) ≡ letOut (messageStep (faultsOf c) c s m (beside (c .n) v m)) out
+      → taken c s v out (result m) ≡ letOut (messageStep (c .f) c s m (beside (c .n) v m)) out
   unfolding taken
   taken-goes e = rw e

@@ -24,7 +24,6 @@ use Rattle.step.proofs.Theorems as step
 use Rattle.calls.specs.Entry.{leastOutput, letOut, beside, taken, begin, message}
 use Rattle.calls.specs.CallResult.{CallResult}
 use Rattle.calls.specs.Shown as claim
-use Rattle.record.specs.Record.{faultsOf}
 
 module _ (n : ℕ) (h : n ≤ nodes) where
   abbrev Shows : CallResult → Type 0
@@ -49,7 +48,7 @@ begin-absent c o out h =
     on-pick (Shows (c .n) h) (usable c) _ _ (λ e.
     on-pick (Shows (c .n) h) (isOpen (c .wait)) _ _ (λ e. none) (λ e.
     on-pick (Shows (c .n) h) (full c) _ _ (λ e. none) (λ e.
-    let-out (c .n) h (beginStep (faultsOf c) c o) out (step.begin-absent (faultsOf c) c o h)))) (λ e. none))
+    let-out (c .n) h (beginStep (c .f) c o) out (step.begin-absent (c .f) c o h)))) (λ e. none))
 
 -- what is read is handled, or refused
 handled : (c : Node) (h : c .n ≤ nodes) (s : ℕ) (v out : List ℕ) (m : Answer Message)
@@ -58,8 +57,8 @@ unfolding taken
 handled c h s v out (refused k) = none-absent (c .n) h
 handled c h s v out (result m) =
     on-pick (Shows (c .n) h) (staleMessage c s m) _ _ (λ e. none-absent (c .n) h) (λ e.
-    let-out (c .n) h (messageStep (faultsOf c) c s m (beside (c .n) v m)) out
-    (step.message-absent (faultsOf c) c s m (beside (c .n) v m) h))
+    let-out (c .n) h (messageStep (c .f) c s m (beside (c .n) v m)) out
+    (step.message-absent (c .f) c s m (beside (c .n) v m) h))
 
 pub message-absent : claim.MessageAbsent
 unfolding message

@@ -8,14 +8,13 @@ use lib.ListN.{length}
 use Rattle.octets.specs.Test.{pick, both}
 use Rattle.octets.specs.Answer.{Answer, result, refused}
 use Rattle.octets.specs.Bytes.{put}
-use Rattle.view.specs.Size.{isSize}
 use Rattle.view.specs.View.{noView, viewOf}
 use Rattle.view.specs.declared.View.{View}
 use Rattle.wire.specs.Codec.{decode, viewPart}
 use Rattle.wire.specs.declared.Message.{Message}
 use Rattle.wire.specs.declared.Message.the-variants.{Read, ReadAnswer, Write, WriteAnswer, Echo, Value, Good}
-use Rattle.record.specs.Record.{blank, faultsOf}
-use Rattle.record.specs.Usable.{usable, isOpen, full}
+use Rattle.record.specs.Record.{blank}
+use Rattle.record.specs.Usable.{sizesWithin, usable, isOpen, full}
 use Rattle.record.specs.declared.Node.{Node}
 use Rattle.record.specs.declared.Operation.{Operation}
 use Rattle.step.specs.declared.Ending.the-variants.{None}
@@ -45,21 +44,19 @@ letOut s out =
       out = put out 0 (outBytes (s .node .n) (s .outbox));
     }
 
--- Fresh node, which has no output buffer. 1: n not 1 to 16, or own number not 1 to n. The record beside that refusal is
--- no usable one.
-unfoldable pub fresh : ℕ → ℕ → CallResult
-fresh n own =
-    pick (isSize n)
-    (pick (both (leb 1 own) (leb own n))
+-- Fresh node, which has no output buffer. 1: n not 1 to 16, f not 0 to 7 with 2f < n, or own number not 1 to n. The
+-- record beside that refusal is no usable one.
+unfoldable pub fresh : (n f own : ℕ) → CallResult
+fresh n f own =
+    pick (sizesWithin n f own)
     (record {
       answer = told (result None) noView;
       ending = result None;
-      node = blank n own;
+      node = blank n f own;
       length = 0;
       out = [];
     })
-    (refuse 1 (blank 0 0) []))
-    (refuse 1 (blank 0 0) [])
+    (refuse 1 (blank 0 0 0) [])
 
 -- Begin. 12: output buffer too short. 2: record unusable. 5: an operation is open. 6: fewer than five request
 -- numbers left.
@@ -68,7 +65,7 @@ begin c o out =
     pick (ltb (length out) leastOutput) (refuse 12 c out)
     (pick (usable c)
     (pick (isOpen (c .wait)) (refuse 5 c out)
-    (pick (full c) (refuse 6 c out) (letOut (beginStep (faultsOf c) c o) out)))
+    (pick (full c) (refuse 6 c out) (letOut (beginStep (c .f) c o) out)))
     (refuse 2 c out))
 
 -- the view that a good message carries, in v
@@ -86,7 +83,7 @@ unfoldable pub taken : Node → ℕ → List ℕ → List ℕ → Answer Message
 taken c s v out (refused k) = refuse 7 c out
 taken c s v out (result m) =
     pick (staleMessage c s m) (refuse 9 c out)
-    (letOut (messageStep (faultsOf c) c s m (beside (c .n) v m)) out)
+    (letOut (messageStep (c .f) c s m (beside (c .n) v m)) out)
 
 -- Message. 12, 2 as above. 3: sender not 1 to n. 7: not of the layout. 9: see staleMessage.
 unfoldable pub message : Node → ℕ → List ℕ → List ℕ → CallResult

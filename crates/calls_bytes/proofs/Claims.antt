@@ -9,13 +9,11 @@ use borrow.Author.Tests.{leb-true, ltb-false}
 use Rattle.octets.specs.Answer.{Answer, result, refused}
 use Rattle.octets.specs.Test.{both}
 use Rattle.octets.proofs.Test.{both-left, both-right}
-use Rattle.view.specs.Size.{isSize}
 use Rattle.view.specs.View.{viewBytes}
 use Rattle.wire.specs.Codec.{decode, viewPart}
 use Rattle.wire.specs.declared.Message.{Message}
 use Rattle.wire.proofs.RoundTrip.{read-only}
-use Rattle.record.specs.Record.{faultsOf}
-use Rattle.record.specs.Usable.{usable, isOpen, full}
+use Rattle.record.specs.Usable.{sizesWithin, usable, isOpen, full}
 use Rattle.record.specs.declared.Node.{Node}
 use Rattle.record.specs.declared.Operation.{Operation}
 use Rattle.step.specs.declared.Ending.{Ending}
@@ -81,12 +79,10 @@ message-leaves c s b out =
     (λ e. taken-leaves c s (viewPart (c .n) b) out (decode (c .n) b)) (λ e k q. (same q, refl, refl)))
     (λ e k q. (same q, refl, refl)))
 
-fresh-leaves : (n own : ℕ) → Leaves [] (N.fresh n own)
+fresh-leaves : (n f own : ℕ) → Leaves [] (N.fresh n f own)
 unfolding N.fresh
-fresh-leaves n own =
-    on-pick (Leaves []) (isSize n) _ _
-    (λ e. on-pick (Leaves []) (both (leb 1 own) (leb own n)) _ _ (λ e k q. never q) (λ e k q. (same q, refl, refl)))
-    (λ e k q. (same q, refl, refl))
+fresh-leaves n f own =
+    on-pick (Leaves []) (sizesWithin n f own) _ _ (λ e k q. never q) (λ e k q. (same q, refl, refl))
 
 module _ (r out : List ℕ) where
   in-bytes-keeps : (e : CallResult) → Leaves out e → claim.Keeps r out (inBytes r e)
@@ -101,11 +97,11 @@ module _ (r out : List ℕ) where
       (λ e k q. (same q, refl, refl, refl)))
       (λ e k q. (same q, refl, refl, refl))
 
-fresh-keeps : (n own : ℕ) (r : List ℕ) → claim.Keeps r [] (fresh n own r)
+fresh-keeps : (n f own : ℕ) (r : List ℕ) → claim.Keeps r [] (fresh n f own r)
 unfolding fresh
-fresh-keeps n own r =
-    let kept = in-bytes-keeps r [] (N.fresh n own) (fresh-leaves n own) in
-    on-pick (claim.Keeps r []) (accepted (N.fresh n own .ending)) _ _
+fresh-keeps n f own r =
+    let kept = in-bytes-keeps r [] (N.fresh n f own) (fresh-leaves n f own) in
+    on-pick (claim.Keeps r []) (accepted (N.fresh n f own .ending)) _ _
     (λ e. on-pick (claim.Keeps r []) (eqb (length r) recordSize) _ _ (λ e. kept) (λ e k q. (same q, refl, refl, refl)))
     (λ e. kept)
 
@@ -176,10 +172,10 @@ module _ (n : ℕ) (p : List Piece) where
       (let-out-walk s out h) ∙ q
 
 begin-met : (c : Node) (o : Operation) (out : List ℕ)
-    → Met (c .n) (piecesOf (c .n) (beginStep (faultsOf c) c o .outbox)) (N.begin c o out)
+    → Met (c .n) (piecesOf (c .n) (beginStep (c .f) c o .outbox)) (N.begin c o out)
 unfolding N.begin
 begin-met c o out =
-    let f = faultsOf c in
+    let f = c .f in
     let s = beginStep f c o in
     let p = piecesOf (c .n) (s .outbox) in
     let M = Met (c .n) p in
@@ -188,16 +184,16 @@ begin-met c o out =
     on-pick M (isOpen (c .wait)) _ _ (λ e. refused-met (c .n) p 5 c out) (λ idle.
     on-pick M (full c) _ _ (λ e. refused-met (c .n) p 6 c out) (λ more.
     let-out-met (c .n) p s out (begin-n f c o)
-    (begin-fit f c o s (length out) refl refl u idle more (ltb-false (length out) N.leastOutput long)) refl)))
+    (begin-fit c o s (length out) refl u idle more (ltb-false (length out) N.leastOutput long)) refl)))
     (λ e. refused-met (c .n) p 2 c out))
 
 message-met : (r : List ℕ) (s : ℕ) (b out : List ℕ) (m : Message) → decode (recordOf r .n) b ≡ result m
-    → Met (recordOf r .n) (piecesOf (recordOf r .n) (messageStep (faultsOf (recordOf r)) (recordOf r) s m
+    → Met (recordOf r .n) (piecesOf (recordOf r .n) (messageStep (recordOf r .f) (recordOf r) s m
     (N.beside (recordOf r .n) (viewPart (recordOf r .n) b) m) .outbox)) (N.message (recordOf r) s b out)
 unfolding N.message N.taken
 message-met r s b out m d =
     let c = recordOf r in
-    let f = faultsOf c in
+    let f = c .f in
     let v = viewPart (c .n) b in
     let t = messageStep f c s m (N.beside (c .n) v m) in
     let p = piecesOf (c .n) (t .outbox) in
@@ -209,7 +205,7 @@ message-met r s b out m d =
     subst (λ (a : Answer Message). M (N.taken c s v out a)) (sym d)
     (on-pick M (staleMessage c s m) _ _ (λ e. refused-met (c .n) p 9 c out) (λ e.
     let-out-met (c .n) p t out (message-n f c s m (N.beside (c .n) v m))
-    (message-fit f c s m (N.beside (c .n) v m) t (length out) refl refl u
+    (message-fit c s m (N.beside (c .n) v m) t (length out) refl u
     (read-lawful (c .n) v m (read-only (c .n) b m d .allowed-is))
     (record {
       last = (z .last .tags, z .last .reports);

@@ -7,7 +7,6 @@ use lib.ListN.{take}
 use Rattle.octets.specs.Answer.{result, refused}
 use Rattle.wire.specs.Codec.{decode, viewPart}
 use Rattle.wire.specs.declared.Message.{Message}
-use Rattle.record.specs.Record.{faultsOf}
 use Rattle.record.specs.declared.Operation.{Operation}
 use Rattle.step.specs.declared.Ending.{Ending}
 use Rattle.step.specs.Told.{refusal}
@@ -24,7 +23,7 @@ Keeps r out e = (k : ℕ) → e .ending ≡ refused k
     → (e .answer ≡ refusal k) × (e .bytes ≡ r) × (e .out ≡ out) × (e .length ≡ 0)
 
 pub record RefusalsKeep : Type 0 where
-  pub fresh-keeps : (n own : ℕ) (r : List ℕ) → Keeps r [] (fresh n own r)
+  pub fresh-keeps : (n f own : ℕ) (r : List ℕ) → Keeps r [] (fresh n f own r)
   pub begin-keeps : (r : List ℕ) (o : Operation) (out : List ℕ) → Keeps r out (begin r o out)
   pub message-keeps : (r : List ℕ) (s : ℕ) (b out : List ℕ) → Keeps r out (message r s b out)
   pub frame-keeps : (r : List ℕ) (s : ℕ) (b out : List ℕ) → Keeps r out (frame r s b out)
@@ -33,11 +32,11 @@ pub record RefusalsKeep : Type 0 where
 pub record Walks : Type 0 where
   pub begin-walk : (r : List ℕ) (o : Operation) (out : List ℕ) (x : Ending) → begin r o out .ending ≡ result x
       → walk (recordOf r .n) (take (begin r o out .length) (begin r o out .out))
-      ≡ piecesOf (recordOf r .n) (beginStep (faultsOf (recordOf r)) (recordOf r) o .outbox)
+      ≡ piecesOf (recordOf r .n) (beginStep (recordOf r .f) (recordOf r) o .outbox)
   pub message-walk : (r : List ℕ) (s : ℕ) (b out : List ℕ) (x : Ending) (m : Message)
       → message r s b out .ending ≡ result x → decode (recordOf r .n) b ≡ result m
       → walk (recordOf r .n) (take (message r s b out .length) (message r s b out .out))
-      ≡ piecesOf (recordOf r .n) (messageStep (faultsOf (recordOf r)) (recordOf r) s m
+      ≡ piecesOf (recordOf r .n) (messageStep (recordOf r .f) (recordOf r) s m
       (beside (recordOf r .n) (viewPart (recordOf r .n) b) m) .outbox)
 
 -- A frame of the layout is messages one after the other, in one way.

@@ -73,8 +73,8 @@ abbrev pub accepted : {A : Type 0} → Answer A → Bool
 accepted (result x) = true
 accepted (refused k) = false
 
-unfoldable pub fresh : (n own : ℕ) → List ℕ → LentResult
-fresh n own r =
-    pick (accepted (N.fresh n own .ending))
-    (pick (eqb (length r) recordSize) (inBytes r (N.fresh n own)) (refuse 12 r []))
-    (inBytes r (N.fresh n own))
+unfoldable pub fresh : (n f own : ℕ) → List ℕ → LentResult
+fresh n f own r =
+    pick (accepted (N.fresh n f own .ending))
+    (pick (eqb (length r) recordSize) (inBytes r (N.fresh n f own)) (refuse 12 r []))
+    (inBytes r (N.fresh n f own))

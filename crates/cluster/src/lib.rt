@@ -10,6 +10,7 @@ use events::given;
 use events::refused;
 use handing::hand_over;
 use layout::BLOCKS_PLACE;
+use layout::FAULTS_PLACE;
 use layout::STATED_PLACE;
 use layout::copy_record_at;
 use layout::first_at;
@@ -33,7 +34,7 @@ use step::Ending;
 use step_bytes::begin_in;
 use step_bytes::is_full_in;
 use step_bytes::is_open_in;
-use view::NODES;
+use table::quorum::is_cluster;
 use wire::Found;
 use wire_parse::parse_prefix;
 ghost use mathlib.Core.Path.{_≡_};
@@ -52,22 +53,22 @@ ghost use Rattle.events.specs.Outcome.{tells};
 ghost use Rattle.events.specs.Ready.{Ready};
 
 // A fresh record in every block.
-fn blank_blocks(b: &mut [u8], n: usize)
+fn blank_blocks(b: &mut [u8], n: usize, f: usize)
     requires { ⌜ (n ≤ nodes) × (length (now b) ≡ clusterSize n) ⌝ }
-    ensures { λ _. ⌜ now (b .exit) ≡ upTo n (λ i. onBlock (i + 1) (keepRecord (blank n (i + 1)))) (now (b .entry)) ⌝ }
+    ensures { λ _. ⌜ now (b .exit) ≡ upTo n (λ i. onBlock (i + 1) (keepRecord (blank n f (i + 1)))) (now (b .entry)) ⌝ }
 {
     let mut i = 0;
     while i < n {
         i += 1;
-        keep_at(b, i, blank_node(n, i));
+        keep_at(b, i, blank_node(n, f, i));
     }
 }
 
-// Makes the lent bytes a fresh cluster of n nodes, or refuses with 1, 12.
-pub fn fresh(n: usize, b: &mut [u8]) -> Reply
-    ensures { λ r. ⌜ tells r (now (b .exit)) (freshEvent n (now (b .entry))) ⌝ }
+// Makes the lent bytes a fresh cluster of n nodes, f of which may stop, or refuses with 1, 12.
+pub fn fresh(n: usize, f: usize, b: &mut [u8]) -> Reply
+    ensures { λ r. ⌜ tells r (now (b .exit)) (freshEvent n f (now (b .entry))) ⌝ }
 {
-    if !and(1 <= n, n <= NODES) {
+    if !is_cluster(n, f) {
         return refused(1);
     }
     if b.len() != BLOCKS_PLACE + BLOCK * n {
@@ -75,7 +76,8 @@ pub fn fresh(n: usize, b: &mut [u8]) -> Reply
     }
     octets::fill(b, 0);
     b[STATED_PLACE] = n as u8;
-    blank_blocks(b, n);
+    b[FAULTS_PLACE] = f as u8;
+    blank_blocks(b, n, f);
     given(false, Ending::None, view::absent())
 }
 

@@ -17,6 +17,7 @@ use Rattle.wire.specs.Codec.{said, viewAt, begins, front, whole, decode, answer
 use Rattle.wire.specs.declared.Message.{Message}
 use Rattle.figures.specs.Figures.{figuresOf}
 use Rattle.page.specs.Page.{mapResult, contents, contentsOf, pageText, pageOf, inRoom, pageIn}
+use Rattle.table.specs.Quorum.{isCluster}
 use Rattle.record.specs.Usable.{isOpen, full}
 use Rattle.record.specs.declared.Operation.{Operation}
 use Rattle.step.specs.declared.Rule.{Rule}
@@ -144,10 +145,11 @@ of-deliver a c x b =
     let s = first (channel b a c) in
     of-admitted a c b (demanded b (ltb 0 (countOf (channel b a c))) 8 refl (handed n a c x b s (front n s)))
 
-of-fresh : (n : ℕ) (b : List ℕ) → Proper (fresh n b)
+of-fresh : (n f : ℕ) (b : List ℕ) → Proper (fresh n f b)
 unfolding fresh
-of-fresh n b =
-    demanded b (isSize n) 1 refl (demanded b (eqb (length b) (clusterSize n)) 12 refl (record { numbered = accepted }))
+of-fresh n f b =
+    demanded b (isCluster n f) 1 refl
+    (demanded b (eqb (length b) (clusterSize n)) 12 refl (record { numbered = accepted }))
 
 of-stop : (c : ℕ) (b : List ℕ) → Proper (stop c b)
 unfolding stop
@@ -155,7 +157,7 @@ of-stop c b =
     of-admitted c c b (demanded b (mayStop (stated b) b) 10 refl (record { numbered = accepted }))
 
 proper : {e : Result} → EventCall e → Proper e
-proper (by-fresh n b) = of-fresh n b
+proper (by-fresh n f b) = of-fresh n f b
 proper (by-begin c o x b) = of-begin c o x b
 proper (by-deliver a c x b) = of-deliver a c x b
 proper (by-stop c b) = of-stop c b

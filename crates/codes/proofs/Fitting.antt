@@ -8,10 +8,9 @@ use lib.ListN.{length}
 use lib.Dec.{leb, ltb, eqb}
 use Rattle.octets.specs.Answer.{Answer, result, refused}
 use Rattle.octets.specs.Test.{both, pick}
-use Rattle.view.specs.Size.{isSize}
 use Rattle.wire.specs.Codec.{viewPart, decode, answer}
 use Rattle.wire.specs.declared.Message.{Message}
-use Rattle.record.specs.Usable.{usable, isOpen, full}
+use Rattle.record.specs.Usable.{sizesWithin, usable, isOpen, full}
 use Rattle.record.specs.declared.Node.{Node}
 use Rattle.record.specs.declared.Operation.{Operation}
 use Rattle.step.specs.declared.Ending.{Ending}
@@ -71,12 +70,11 @@ begin-fits c o out =
     on-pick ByValue (isOpen (c .wait)) _ _ (λ e. refuses 5 refl) (λ e.
     on-pick ByValue (full c) _ _ (λ e. refuses 6 refl) (λ e. let-out-fits _ out))) (λ e. refuses 2 refl))
 
-fresh-fits : (n own : ℕ) → ByValue (N.fresh n own)
+fresh-fits : (n f own : ℕ) → ByValue (N.fresh n f own)
 unfolding N.fresh
-fresh-fits n own =
-    on-pick ByValue (isSize n) _ _
-    (λ e. on-pick ByValue (both (leb 1 own) (leb own n)) _ _
-    (λ e. record { number-is = accepted; told-is = refl }) (λ e. refuses 1 refl)) (λ e. refuses 1 refl)
+fresh-fits n f own =
+    on-pick ByValue (sizesWithin n f own) _ _ (λ e. record { number-is = accepted; told-is = refl })
+    (λ e. refuses 1 refl)
 
 -- on lent bytes
 abbrev InBytes : ℕ → L.LentResult → Type 0
@@ -89,12 +87,13 @@ at-fits r out call h =
     on-pick (InBytes lastRefusal) (L.fits N.leastOutput r (length out)) _ _
     (λ e. on-pick (InBytes lastRefusal) (codesKnown r) _ _ (λ e. h) (λ e. refuses 2 refl)) (λ e. refuses 12 refl)
 
-made-fits : (n own : ℕ) (r : List ℕ) → InBytes lastRefusal (L.fresh n own r)
+made-fits : (n f own : ℕ) (r : List ℕ) → InBytes lastRefusal (L.fresh n f own r)
 unfolding L.fresh L.inBytes
-made-fits n own r =
-    on-pick (InBytes lastRefusal) (L.accepted (N.fresh n own .ending)) _ _
-    (λ e. on-pick (InBytes lastRefusal) (eqb (length r) recordSize) _ _ (λ e. fresh-fits n own) (λ e. refuses 12 refl))
-    (λ e. fresh-fits n own)
+made-fits n f own r =
+    on-pick (InBytes lastRefusal) (L.accepted (N.fresh n f own .ending)) _ _
+    (λ e. on-pick (InBytes lastRefusal) (eqb (length r) recordSize) _ _ (λ e. fresh-fits n f own)
+    (λ e. refuses 12 refl))
+    (λ e. fresh-fits n f own)
 
 message-in-bytes : (r : List ℕ) (s : ℕ) (b out : List ℕ) → InBytes lastRefusal (L.message r s b out)
 message-in-bytes r s b out = at-fits r out (λ c. N.message c s b out) (message-fits (recordOf r) s b out)
@@ -152,7 +151,7 @@ frame-fits r s b out =
     (λ e. refuses 12 refl)
 
 pub fitting : {e : L.LentResult} (c : NodeCall e) → InBytes (lastOf c) e
-fitting (by-fresh-node n own r) = made-fits n own r
+fitting (by-fresh-node n f own r) = made-fits n f own r
 fitting (by-begin-node r o out) = at-fits r out (λ c. N.begin c o out) (begin-fits (recordOf r) o out)
 fitting (by-message r s b out) = message-in-bytes r s b out
 fitting (by-frame r s b out) = frame-fits r s b out

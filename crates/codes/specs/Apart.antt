@@ -37,21 +37,21 @@ ruleMeant k = pick (ltb k scanFrom) (k - doneFrom) (k - scanFrom)
 
 -- The events of the calls, on any numbers and any bytes.
 pub data EventCall : Result → Type 0 where
-  by-fresh : (n : ℕ) (b : List ℕ) → EventCall (fresh n b)
+  by-fresh : (n f : ℕ) (b : List ℕ) → EventCall (fresh n f b)
   by-begin : (c : ℕ) (o : Operation) (x : Extent) (b : List ℕ) → EventCall (begin c o x b)
   by-deliver : (a c : ℕ) (x : Extent) (b : List ℕ) → EventCall (deliver a c x b)
   by-stop : (c : ℕ) (b : List ℕ) → EventCall (stop c b)
 
 -- The calls at one node on lent bytes.
 pub data NodeCall : L.LentResult → Type 0 where
-  by-fresh-node : (n own : ℕ) (r : List ℕ) → NodeCall (L.fresh n own r)
+  by-fresh-node : (n f own : ℕ) (r : List ℕ) → NodeCall (L.fresh n f own r)
   by-begin-node : (r : List ℕ) (o : Operation) (out : List ℕ) → NodeCall (L.begin r o out)
   by-message : (r : List ℕ) (s : ℕ) (b out : List ℕ) → NodeCall (L.message r s b out)
   by-frame : (r : List ℕ) (s : ℕ) (b out : List ℕ) → NodeCall (frame r s b out)
 
 -- The greatest refusal of each: 12, and 14 of a frame.
 abbrev pub lastOf : {e : L.LentResult} → NodeCall e → ℕ
-lastOf (by-fresh-node n own r) = lastRefusal
+lastOf (by-fresh-node n f own r) = lastRefusal
 lastOf (by-begin-node r o out) = lastRefusal
 lastOf (by-message r s b out) = lastRefusal
 lastOf (by-frame r s b out) = frameRefusal

@@ -37,7 +37,7 @@ use Rattle.eqaso.proofs.BoundedRun.{run-bounded, run-expected, run-own-
 use Rattle.eqaso.proofs.Opening.{opens-high}
 
 pub claim3 : Claim3
-claim3 n f size (half, largest) = demand3 n f sixteen half
+claim3 n f size half = demand3 n f sixteen half
 
 pub on-links : OnLinks
 on-links n f half = demand3 n f unlimited half

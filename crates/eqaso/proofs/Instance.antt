@@ -7,4 +7,4 @@ use Rattle.eqaso.proofs.Runs.{session}
 use Rattle.eqaso.proofs.Claims.{claim3}
 
 pub session-ordered : SingleOrder 1 (trace 1 0 sixteen session) × Quiet 1 (trace 1 0 sixteen session)
-session-ordered = claim3 1 0 (omega arith, omega arith) (omega arith, omega arith) session
+session-ordered = claim3 1 0 (omega arith, omega arith) (omega arith) session

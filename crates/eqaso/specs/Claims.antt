@@ -1,6 +1,6 @@
 -- What is claimed of every run of the algorithm: demand 3, also for the sizes of document 01; and when an update is
 -- spent.
-use Prim.Native.Nat.{ℕ, suc, _+_, _-_, _≤_, _<_, max}
+use Prim.Native.Nat.{ℕ, _+_, _-_, _≤_, _<_, max}
 use mathlib.Core.Path.{_≡_}
 use mathlib.Core.Logic.{_↔_}
 use mathlib.Core.Bool.{Bool}
@@ -13,10 +13,6 @@ use Rattle.algorithm.specs.Algorithm.{limit, Wait, idle, reading, writing, comp
 use Rattle.algorithm.specs.Algorithm.{messageStep, beginStep}
 use Rattle.eqaso.specs.Cluster.{atMost, unlimited, trace}
 
--- f is the largest number with 2f < n.
-abbrev pub Faults : ℕ → ℕ → Type 0
-Faults n f = (f + f < n) × (n ≤ suc f + suc f)
-
 -- Demand 3: of every list of events, with any numbers, on channels with a given room.
 abbrev pub Demand3 : (n f : ℕ) (room : ℕ → Bool) → Type 0
 Demand3 n f room = (es : List Event) → SingleOrder n (trace n f room es) × Quiet n (trace n f room es)
@@ -25,9 +21,9 @@ Demand3 n f room = (es : List Event) → SingleOrder n (trace n f room es) × Qu
 abbrev pub sixteen : ℕ → Bool
 sixteen = atMost 16
 
--- Demand 3 of document 01: one to sixteen nodes, of which f may stop.
+-- Demand 3 of document 01: one to sixteen nodes, of which f may stop, for each f with 2f < n (document 02, [4]).
 abbrev pub Claim3 : Type 0
-Claim3 = (n f : ℕ) → OneTo 16 n → Faults n f → Demand3 n f sixteen
+Claim3 = (n f : ℕ) → OneTo 16 n → f + f < n → Demand3 n f sixteen
 
 -- Demand 3 on links without a limit, where no channel is ever full.
 abbrev pub OnLinks : Type 0

@@ -1,43 +1,28 @@
 -- Admission: what the four tests are one by one, what is known after them, and what each event is then.
-use Prim.Native.Nat.{ℕ, _≤_}
+use Prim.Native.Nat.{ℕ, _+_, _≤_, _<_}
 use native.Mathlib.Omega.{arith}
-use mathlib.Core.Path.{_≡_, refl, sym, ap, _∙_}
+use mathlib.Core.Path.{_≡_, refl, sym, ap, _∙_, subst}
 use mathlib.Core.Bool.{Bool, true, false, not}
 use mathlib.Core.List.{List, []}
 use lib.ListN.{length}
 use lib.Dec.{eqb}
-use borrow.Author.Tests.{eqb-true, eq-eqb, ne-eqb}
+use borrow.Author.Tests.{ne-eqb}
 use Rattle.octets.specs.Answer.{result}
 use Rattle.octets.specs.Test.{both}
 use Rattle.octets.proofs.Test.{both-left, both-right}
 use Rattle.view.specs.Size.{isSize}
 use Rattle.view.specs.View.{noView}
-use Rattle.record.specs.Usable.{usable}
 use Rattle.record.specs.declared.Operation.{Operation}
 use Rattle.step.specs.declared.Ending.the-variants.{None}
-use Rattle.region.specs.Record.{recordOf, codesKnown}
-use Rattle.block.specs.Block.{recordIn, recordSound, channelsSound, blockSound, halt}
-use Rattle.layout.specs.Layout.{clusterSize, stated, block, stopped, node, onBlock, fits, sound, isNode}
-use Rattle.layout.proofs.Check.{is-size, is-node, fits-length, sound-size, sound-block, sound-usable}
+use Rattle.block.specs.Block.{halt}
+use Rattle.layout.specs.Layout.{clusterSize, stated, faultsIn, stopped, onBlock, fits, sound, isNode}
+use Rattle.layout.proofs.Check.{is-size, is-node, fits-length, sound-size, sound-half, sound-n, sound-usable}
 use Rattle.outgoing.specs.Outgoing.{mayStop}
 use Rattle.outgoing.specs.declared.Extent.{Extent}
 use Rattle.events.specs.Event.{Result, refuse, demand, unless, admission, admitted}
 use Rattle.events.specs.Event.{openIn, begin, deliverIn, deliver}
 use Rattle.events.specs.Ready.{Ready}
 use Rattle.events.specs.Stop.{stopIn, stop}
-
--- a record of sound bytes is one of their n nodes
-pub sound-n : (b : List ℕ) → sound b ≡ true → (n c : ℕ) → n ≡ stated b → isNode n c ≡ true → node b c .n ≡ n
-unfolding blockSound
-sound-n b s n c st k =
-    let r = recordIn (block b c) in
-    let here = both (eqb (recordOf r .n) (stated b)) (eqb (recordOf r .own) c) in
-    let known = both (codesKnown r) (usable (recordOf r)) in
-    let e : here ≡ true = both-right known here
-    (both-left (recordSound (stated b) c r) (channelsSound (stated b) (block b c))
-    (sound-block b s c (ap (λ (j : ℕ). isNode j c) (sym st) ∙ k))) in
-    eqb-true (recordOf r .n) (stated b) (both-left (eqb (recordOf r .n) (stated b)) (eqb (recordOf r .own) c) e)
-    ∙ sym st
 
 -- ---- four tests in turn
 
@@ -117,13 +102,14 @@ module _ (a c : ℕ) (b : List ℕ) where
       record {
         states = st;
         small = is-size n size .1;
+        half = subst (λ (j : ℕ). faultsIn b + faultsIn b < j) (sym st) (sound-half b (h .1));
         long = fits-length b n (h .0) st size;
         from-low = is-node n a i .0;
         from-high = is-node n a i .1;
         low = is-node n c k′ .0;
         high = is-node n c k′ .1;
         can-step = sound-usable b (h .1) c k;
-        same = sound-n b (h .1) n c st k′;
+        same = sound-n b (h .1) c k ∙ sym st;
       }
 
   -- bytes that are admitted are not empty

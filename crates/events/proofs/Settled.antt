@@ -1,6 +1,6 @@
 -- The begin of an operation by the refusals that apply to it, and the end of every event that steps a node: what is
 -- settled with 11 or without.
-use Prim.Native.Nat.{ℕ, _≤_}
+use Prim.Native.Nat.{ℕ, _+_, _<_}
 use native.Mathlib.Omega.{arith}
 use mathlib.Core.Path.{_≡_, refl, sym, ap, _∙_}
 use mathlib.Core.Bool.{Bool, true, false}
@@ -15,7 +15,7 @@ use Rattle.step.specs.Move.{begun, beginStep}
 use Rattle.step.specs.declared.Step.{Step}
 use Rattle.step.specs.declared.Ending.the-variants.{None}
 use Rattle.step.proofs.Waits.{begin-asks}
-use Rattle.layout.specs.Layout.{stated, faultsIn, node}
+use Rattle.layout.specs.Layout.{faultsIn, node}
 use Rattle.outgoing.specs.Outgoing.{isCut, mayCut, hasRoom, released}
 use Rattle.outgoing.specs.declared.Extent.{Extent}
 use Rattle.events.specs.declared.Reply.{Reply}
@@ -67,9 +67,9 @@ module _ (n c : ℕ) (o : Operation) (x : Extent) (b : List ℕ) (d : Node) (at 
       pub open-uncut : mayCut n x b ≡ false → openIn n c o x b ≡ refuse 10 b
       open-uncut h = rw (is-idle, ap full (sym at) ∙ more, h) refl
 
-      pub open-settles : mayCut n x b ≡ true → n ≡ stated b → d .n ≡ n → 1 ≤ n → {s : Step} → s ≡ begun d o
+      pub open-settles : mayCut n x b ≡ true → d .n ≡ n → faultsIn b + faultsIn b < n → {s : Step} → s ≡ begun d o
           → openIn n c o x b ≡ settle n c c x s b b
-      open-settles h st size low {s} q =
+      open-settles h size half {s} q =
           let asks : beginStep (faultsIn b) d o ≡ begun d o = begin-asks (faultsIn b) d o (omega arith) in
           rw (is-idle, ap full (sym at) ∙ more, h)
           (ap (λ (t : Step). settle n c c x t b b)

@@ -23,12 +23,13 @@ use Rattle.region.specs.Channel.{countOf, first}
 use Rattle.block.specs.Block.{takeOff}
 use Rattle.layout.specs.Layout.{stated, faultsIn, stopped, node, channel, onBlock, fits, sound, isNode}
 use Rattle.outgoing.specs.Outgoing.{isCut, mayStop, mayCut, hasRoom}
+use Rattle.layout.proofs.Check.{sound-n}
 use Rattle.outgoing.specs.declared.Extent.{Extent}
 use Rattle.events.specs.Event.{Result, refuse, demand, admission, admitted, settle}
 use Rattle.events.specs.Event.{openIn, begin, deliverMessage, deliverIn, deliver}
 use Rattle.events.specs.Stop.{stop}
 use Rattle.events.specs.Shown as claim
-use Rattle.events.proofs.Admitted.{sound-n, admitted-is}
+use Rattle.events.proofs.Admitted.{admitted-is}
 
 module _ (n : ℕ) (h : n ≤ nodes) where
   abbrev Shows : Result → Type 0
@@ -50,7 +51,7 @@ module _ (n : ℕ) (h : n ≤ nodes) where
 of-node : (b : List ℕ) → sound b ≡ true → (c : ℕ) → isNode (stated b) c ≡ true → stated b ≤ nodes → (v : View)
     → (node b c .n ≤ nodes → AbsentPast (node b c .n) v) → AbsentPast (stated b) v
 of-node b s c i h v k =
-    let e : node b c .n ≡ stated b = sound-n b s (stated b) c refl i in
+    let e : node b c .n ≡ stated b = sound-n b s c i in
     subst (λ (m : ℕ). AbsentPast m v) e (k (rw e h))
 
 -- an admitted event shows what its own part does

@@ -3,17 +3,17 @@ use Prim.Native.Nat.{ℕ, _+_}
 use mathlib.Core.Path.{_≡_, refl, sym, ap, ap₂, subst, _∙_}
 use mathlib.Core.Bool.{true, false}
 use mathlib.Core.List.{List, []}
-use lib.ListN.{length, set, replicate}
+use lib.ListN.{length, set, replicate, length-set}
 use borrow.Author.Tests.{eq-eqb, ne-eqb}
 use Rattle.octets.specs.Answer.{result}
 use Rattle.octets.specs.Loop.{upTo}
-use Rattle.view.specs.Size.{isSize}
 use Rattle.view.specs.View.{noView}
+use Rattle.table.specs.Quorum.{isCluster}
 use Rattle.record.specs.Record.{blank}
 use Rattle.step.specs.Told.{told}
 use Rattle.step.specs.declared.Ending.the-variants.{None}
 use Rattle.block.specs.Block.{keepRecord}
-use Rattle.layout.specs.Layout.{clusterSize, onBlock}
+use Rattle.layout.specs.Layout.{clusterSize, statedPlace, faultsPlace, onBlock}
 use Rattle.events.specs.declared.Reply.{Reply}
 use Rattle.events.specs.declared.Outcome.the-variants.{Refused}
 use Rattle.events.specs.Event.{Result, refuse, freshBytes, fresh}
@@ -37,22 +37,30 @@ pub refuses : (k : ℕ) {r : Reply} {b : List ℕ} {e : Result} → e ≡ refuse
     → r ≡ record { outcome = Refused k; view = noView } → tells r b e
 refuses k p q = leaves k p refl q
 
-module _ (n : ℕ) (b : List ℕ) where
-  pub fresh-none : isSize n ≡ false → fresh n b ≡ refuse 1 b
+module _ (n f : ℕ) (b : List ℕ) where
+  pub fresh-none : isCluster n f ≡ false → fresh n f b ≡ refuse 1 b
   unfolding fresh
   fresh-none h = rw h refl
 
-  pub fresh-unfit : isSize n ≡ true → (length b ≡ clusterSize n → ⊥) → fresh n b ≡ refuse 12 b
-  unfolding fresh
-  fresh-unfit h l = rw (h, ne-eqb (length b) (clusterSize n) l) refl
+  module _ (h : isCluster n f ≡ true) where
+    pub fresh-unfit : (length b ≡ clusterSize n → ⊥) → fresh n f b ≡ refuse 12 b
+    unfolding fresh
+    fresh-unfit l = rw (h, ne-eqb (length b) (clusterSize n) l) refl
 
-  pub fresh-is : isSize n ≡ true → length b ≡ clusterSize n
-      → fresh n b ≡ record { bytes = freshBytes n (length b); answer = result None; view = noView; sent = [] }
-  unfolding fresh
-  fresh-is h l = rw (h, eq-eqb (length b) (clusterSize n) l) refl
+    pub fresh-is : length b ≡ clusterSize n
+        → fresh n f b ≡ record { bytes = freshBytes n f (length b); answer = result None; view = noView; sent = [] }
+    unfolding fresh
+    fresh-is l = rw (h, eq-eqb (length b) (clusterSize n) l) refl
 
-  -- zeros, then n, then a fresh record in every block
+  abbrev started : List ℕ → List ℕ
+  started z = set (set z statedPlace n) faultsPlace f
+
+  pub started-length : (z : List ℕ) → length (started z) ≡ length z
+  started-length z = length-set (set z statedPlace n) faultsPlace f ∙ length-set z statedPlace n
+
+  -- zeros, then n and f, then a fresh record in every block
   pub fresh-bytes : {z y : List ℕ} → z ≡ replicate (length b) 0
-      → y ≡ upTo n (λ i. onBlock (i + 1) (keepRecord (blank n (i + 1)))) (set z 0 n) → y ≡ freshBytes n (length b)
+      → y ≡ upTo n (λ i. onBlock (i + 1) (keepRecord (blank n f (i + 1)))) (started z) → y ≡ freshBytes n f (length b)
   unfolding freshBytes
-  fresh-bytes e q = q ∙ ap (λ (t : List ℕ). upTo n (λ i. onBlock (i + 1) (keepRecord (blank n (i + 1)))) (set t 0 n)) e
+  fresh-bytes e q =
+      q ∙ ap (λ (t : List ℕ). upTo n (λ i. onBlock (i + 1) (keepRecord (blank n f (i + 1)))) (started t)) e

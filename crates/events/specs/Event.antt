@@ -8,11 +8,11 @@ use lib.Dec.{ltb, eqb}
 use Rattle.octets.specs.Answer.{Answer, result, refused}
 use Rattle.octets.specs.Test.{pick, both}
 use Rattle.octets.specs.Loop.{upTo}
-use Rattle.view.specs.Size.{isSize}
 use Rattle.view.specs.View.{noView, viewOf}
 use Rattle.view.specs.declared.View.{View}
 use Rattle.wire.specs.Codec.{front, viewAt}
 use Rattle.wire.specs.declared.Message.{Message}
+use Rattle.table.specs.Quorum.{isCluster}
 use Rattle.record.specs.Record.{blank}
 use Rattle.record.specs.Usable.{isOpen, full}
 use Rattle.record.specs.declared.Operation.{Operation}
@@ -23,8 +23,8 @@ use Rattle.step.specs.declared.Ending.{Ending}
 use Rattle.step.specs.declared.Ending.the-variants.{None}
 use Rattle.region.specs.Channel.{countOf, first}
 use Rattle.block.specs.Block.{keepRecord, takeOff}
-use Rattle.layout.specs.Layout.{clusterSize, statedPlace, stated, faultsIn, stopped, node, channel, onBlock}
-use Rattle.layout.specs.Layout.{fits, sound, isNode}
+use Rattle.layout.specs.Layout.{clusterSize, statedPlace, faultsPlace, stated, faultsIn, stopped, node, channel}
+use Rattle.layout.specs.Layout.{onBlock, fits, sound, isNode}
 use Rattle.outgoing.specs.Entries.{Entry, entries}
 use Rattle.outgoing.specs.Outgoing.{shortened, isCut, mayCut, hasRoom, released}
 use Rattle.outgoing.specs.declared.Extent.{Extent}
@@ -106,13 +106,15 @@ deliverIn n a c x b =
 unfoldable pub deliver : (a c : ℕ) → Extent → List ℕ → Result
 deliver a c x b = admitted a c b (deliverIn (stated b) a c x b)
 
--- A fresh cluster of n nodes in lent bytes: nobody has stopped, nothing waits, and every record is fresh.
-unfoldable pub freshBytes : (n length : ℕ) → List ℕ
-freshBytes n length =
-    upTo n (λ i. onBlock (i + 1) (keepRecord (blank n (i + 1)))) (set (replicate length 0) statedPlace n)
+-- A fresh cluster of n nodes in lent bytes, f of which may stop: nobody has stopped, nothing waits, and every record is
+-- fresh.
+unfoldable pub freshBytes : (n f length : ℕ) → List ℕ
+freshBytes n f length =
+    upTo n (λ i. onBlock (i + 1) (keepRecord (blank n f (i + 1))))
+    (set (set (replicate length 0) statedPlace n) faultsPlace f)
 
-unfoldable pub fresh : ℕ → List ℕ → Result
-fresh n b =
-    demand (isSize n) 1 b
+unfoldable pub fresh : (n f : ℕ) → List ℕ → Result
+fresh n f b =
+    demand (isCluster n f) 1 b
     (demand (eqb (length b) (clusterSize n)) 12 b
-    (record { bytes = freshBytes n (length b); answer = result None; view = noView; sent = [] }))
+    (record { bytes = freshBytes n f (length b); answer = result None; view = noView; sent = [] }))

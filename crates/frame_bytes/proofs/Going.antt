@@ -9,7 +9,7 @@ use lib.ListN.{length}
 use borrow.Author.Tests.{eq-eqb, le-leb}
 use Rattle.octets.specs.Answer.{result, refused}
 use Rattle.octets.specs.Test.{both}
-use Rattle.octets.proofs.Test.{both-true}
+use Rattle.octets.proofs.Test.{both-left, both-true}
 use Rattle.view.specs.Size.{isSize}
 use Rattle.view.specs.View.{viewOf}
 use Rattle.wire.specs.Codec.{decode, viewPart}
@@ -17,7 +17,8 @@ use Rattle.wire.specs.Layout.{encode, allowed}
 use Rattle.wire.specs.declared.Message.the-variants.{Read}
 use Rattle.wire.proofs.RoundTrip.{read-back}
 use Rattle.table.specs.Loop.{either}
-use Rattle.record.specs.Record.{faultsOf}
+use Rattle.table.specs.Quorum.{tolerates, isCluster}
+use Rattle.record.specs.Usable.{sizesWithin}
 use Rattle.record.specs.declared.Node.{Node}
 use Rattle.step.specs.React.{react}
 use Rattle.step.specs.declared.Ending.{Ending}
@@ -40,7 +41,7 @@ late-alike n s [] c d a = refl
 late-alike n s (m ∷ ms) c d a =
     ap₂ either (alike-stale c d s (m .message) a)
     (late-alike n s ms (stepOn s c m .node) (react d s (m .message) (viewOf n (viewPart n (m .bytes))) .node)
-    (alike-step (faultsOf c) c d s (m .message) (N.beside (c .n) (viewPart (c .n) (m .bytes)) (m .message))
+    (alike-step (c .f) c d s (m .message) (N.beside (c .n) (viewPart (c .n) (m .bytes)) (m .message))
     (viewOf n (viewPart n (m .bytes))) a))
 
 module _ (r : List ℕ) (s : ℕ) (b out : List ℕ) (h : Readable r s b out) where
@@ -71,13 +72,16 @@ module _ (r : List ℕ) (s : ℕ) (b out : List ℕ) (h : Readable r s b out) wh
 abbrev read : Piece
 read = record { message = Read 1; bytes = encode (Read 1) [] }
 
-module _ (n own s : ℕ) (r out : List ℕ) (size : isSize n ≡ true) (named : both (leb 1 own) (leb own n) ≡ true)
+module _ (n f own s : ℕ) (r out : List ℕ) (sizes : sizesWithin n f own ≡ true)
     (sender : both (leb 1 s) (leb s n) ≡ true) (long : length r ≡ recordSize) (room : frameOutput ≤ length out) where
   abbrev b : List ℕ
   b = encode (Read 1) [] ++ encode (Read 1) []
 
   abbrev made : List ℕ
-  made = fresh n own r .bytes
+  made = fresh n f own r .bytes
+
+  size : isSize n ≡ true
+  size = both-left (isSize n) (tolerates n f) (both-left (isCluster n f) (both (leb 1 own) (leb own n)) sizes)
 
   reads : AllRead n (read ∷ read ∷ [])
   unfolding allowed
@@ -95,7 +99,7 @@ module _ (n own s : ℕ) (r out : List ℕ) (size : isSize n ≡ true) (named : 
   pub fresh-goes : (x : Ending) × (frame made s b out .ending ≡ result x)
   unfolding lateOn encode
   fresh-goes =
-      let h = left .fresh-left n own r size named long .1 in
+      let h = left .fresh-left n f own r sizes long .1 in
       let e : recordOf made .n ≡ n = ap (λ (c : Node). c .n) (h .same) in
       goes made s b out
       (record {

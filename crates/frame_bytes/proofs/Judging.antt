@@ -16,7 +16,6 @@ use Rattle.wire.specs.Codec.{decode, viewPart}
 use Rattle.wire.specs.Layout.{oneSize, twoSize, messageSize}
 use Rattle.wire.proofs.Numbers.{length-encode}
 use Rattle.wire.proofs.RoundTrip.{read-only}
-use Rattle.record.specs.Record.{faultsOf}
 use Rattle.record.specs.Usable.{usable}
 use Rattle.record.specs.declared.Node.{Node}
 use Rattle.record.proofs.Parts.{parts}
@@ -115,7 +114,7 @@ module _ (n s room : ℕ) (low : 1 ≤ s) (high : s ≤ n) (big : frameOutput �
             ≤ twoSize * z + oneSize * budget n (c .wait)) size-is
             (subst (λ (j : ℕ). oneSize * sizes j (messages (t .outbox)) + oneSize * budget j (t .node .wait)
             ≤ twoSize * messageSize j (m .message) + oneSize * budget j (c .wait)) (h .stand .n-is)
-            (message-pays (faultsOf c) c s (m .message) (N.beside (c .n) (viewPart n (m .bytes)) (m .message))))
+            (message-pays (c .f) c s (m .message) (N.beside (c .n) (viewPart n (m .bytes)) (m .message))))
 
         pub goes-on : At (done + length (m .bytes))
             (react d s (m .message) (viewOf n (viewPart n (m .bytes))) .node) (andThen p (nextCall s p m))
@@ -128,7 +127,7 @@ module _ (n s room : ℕ) (low : 1 ≤ s) (high : s ≤ n) (big : frameOutput �
               alike =
                   subst (λ (z : Node). Alike z (react d s (m .message) (viewOf n (viewPart n (m .bytes))) .node))
                   (sym node-is)
-                  (alike-step (faultsOf c) c d s (m .message)
+                  (alike-step (c .f) c d s (m .message)
                   (N.beside (c .n) (viewPart n (m .bytes)) (m .message)) (viewOf n (viewPart n (m .bytes)))
                   (h .alike));
               pays =

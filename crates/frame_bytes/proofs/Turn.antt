@@ -18,7 +18,6 @@ use Rattle.view.specs.Size.{nodes}
 use Rattle.view.specs.View.{viewBytes, AbsentPast}
 use Rattle.wire.specs.Codec.{decode, viewPart}
 use Rattle.wire.proofs.RoundTrip.{read-only}
-use Rattle.record.specs.Record.{faultsOf}
 use Rattle.record.specs.Usable.{isOpen}
 use Rattle.record.specs.declared.Node.{Node}
 use Rattle.record.proofs.Parts.{parts}
@@ -146,7 +145,7 @@ module _ (n s : ℕ) (low : 1 ≤ s) (high : s ≤ n) (p : LentResult) (x : Endi
     -- it is the step of the node's record
     pub turn-is : turn ≡ stepOn s c m
     turn-is =
-        ap (λ (j : ℕ). messageStep (faultsOf c) c s (m .message)
+        ap (λ (j : ℕ). messageStep (c .f) c s (m .message)
         (N.beside (c .n) (viewPart j (m .bytes)) (m .message))) (sym (h .n-is))
 
     abbrev w : List ℕ
@@ -226,7 +225,7 @@ module _ (n s : ℕ) (low : 1 ≤ s) (high : s ≤ n) (p : LentResult) (x : Endi
 
     -- after an ending there is none
     pub quiet : isEnding x ≡ true → turn .ending ≡ None
-    quiet e = closed-stays (faultsOf c) c s (m .message) (N.beside (c .n) v (m .message)) (h .closed e) .0
+    quiet e = closed-stays (c .f) c s (m .message) (N.beside (c .n) v (m .message)) (h .closed e) .0
 
     pub then-stand : Stand n (andThen p (nextCall s p m)) (pick (isEnding x) x (turn .ending))
     then-stand =
@@ -267,14 +266,14 @@ module _ (n s : ℕ) (low : 1 ≤ s) (high : s ≤ n) (p : LentResult) (x : Endi
             let small = subst (λ (j : ℕ). j ≤ nodes) (h .n-is) (parts c (h .can-step) .n-high) in
             rw next-tells (by-ending n small (turn .ending) (turn .view)
             (subst (λ (j : ℕ). AbsentPast j (turn .view)) (h .n-is)
-            (message-absent (faultsOf c) c s (m .message) (N.beside (c .n) v (m .message))
+            (message-absent (c .f) c s (m .message) (N.beside (c .n) v (m .message))
             (parts c (h .can-step) .n-high))))
 
         closed-by : (t : Bool) → isEnding x ≡ t → isEnding (pick t x (turn .ending)) ≡ true
             → isOpen (turn .node .wait) ≡ false
         closed-by true e q =
-            closed-stays (faultsOf c) c s (m .message) (N.beside (c .n) v (m .message)) (h .closed e) .1
+            closed-stays (c .f) c s (m .message) (N.beside (c .n) v (m .message)) (h .closed e) .1
         closed-by false e q =
             not-true-false (isOpen (turn .node .wait)) (λ o.
             true-false (isEnding (turn .ending)) q
-            (ap isEnding (ends-closed (faultsOf c) c s (m .message) (N.beside (c .n) v (m .message)) o)))
+            (ap isEnding (ends-closed (c .f) c s (m .message) (N.beside (c .n) v (m .message)) o)))

@@ -8,13 +8,13 @@ use lib.Dec.{leb}
 use lib.ListN.{length, take, drop}
 use Rattle.octets.specs.Answer.{result, refused}
 use Rattle.octets.specs.Test.{both}
-use Rattle.view.specs.Size.{nodes, isSize}
+use Rattle.view.specs.Size.{nodes}
 use Rattle.view.specs.View.{AbsentPast}
 use Rattle.wire.specs.Codec.{viewPart}
 use Rattle.wire.specs.Layout.{encode}
 use Rattle.wire.specs.declared.Message.the-variants.{Read}
 use Rattle.table.specs.Loop.{either}
-use Rattle.record.specs.Record.{faultsOf}
+use Rattle.record.specs.Usable.{sizesWithin}
 use Rattle.record.specs.declared.Node.{Node}
 use Rattle.step.specs.Budget.{budgetMost}
 use Rattle.step.specs.Move.{messageStep}
@@ -51,7 +51,7 @@ frameSent = answersMost + budgetMost
 -- The steps of a node on messages of sender s in turn, from record c: those of the algorithm with document 01's
 -- amendments, each on the record that the one before it left.
 abbrev pub stepOn : (s : ℕ) → Node → Piece → Step
-stepOn s c m = messageStep (faultsOf c) c s (m .message) (beside (c .n) (viewPart (c .n) (m .bytes)) (m .message))
+stepOn s c m = messageStep (c .f) c s (m .message) (beside (c .n) (viewPart (c .n) (m .bytes)) (m .message))
 
 unfoldable pub stepsOn : (s : ℕ) → Node → List Piece → List Step
 stepsOn s c [] = []
@@ -96,10 +96,10 @@ pub record Frames : Type 0 where
       → lateOn s (recordOf r) (walk (recordOf r .n) b) ≡ false → (x : Ending) × (frame r s b out .ending ≡ result x)
   pub frame-late : (r : List ℕ) (s : ℕ) (b out : List ℕ) → Readable r s b out
       → lateOn s (recordOf r) (walk (recordOf r .n) b) ≡ true → frame r s b out .ending ≡ refused 9
-  pub frame-fresh : (n own s : ℕ) (r out : List ℕ) → isSize n ≡ true → both (leb 1 own) (leb own n) ≡ true
+  pub frame-fresh : (n f own s : ℕ) (r out : List ℕ) → sizesWithin n f own ≡ true
       → both (leb 1 s) (leb s n) ≡ true → length r ≡ recordSize → frameOutput ≤ length out
       → (x : Ending)
-      × (frame (fresh n own r .bytes) s (encode (Read 1) [] ++ encode (Read 1) []) out .ending ≡ result x)
+      × (frame (fresh n f own r .bytes) s (encode (Read 1) [] ++ encode (Read 1) []) out .ending ≡ result x)
   -- Its refusals.
   pub frame-refuses : (r : List ℕ) (s : ℕ) (b out : List ℕ) (k : ℕ) → frame r s b out .ending ≡ refused k
       → (k ≡ 12) ⊎ ((k ≡ 2) ⊎ ((k ≡ 3) ⊎ ((k ≡ 14) ⊎ ((k ≡ 7) ⊎ (k ≡ 9)))))

@@ -1,20 +1,19 @@
 -- What is kept of a line is all that reading it needs.
 use Prim.Native.Nat.{ℕ, suc, _+_, _-_, _<_, _≤_}
-use mathlib.Core.Path.{_≡_, refl, sym, ap, ap₂, _∙_}
-use mathlib.Core.Bool.{Bool, true, false}
+use mathlib.Core.Path.{_≡_, sym, ap, ap₂, _∙_}
 use mathlib.Core.List.{List, [], _∷_, _++_, append-nil}
 use native.Mathlib.Nat.{lt-of-not-le}
 use native.Mathlib.Decide.{decLe}
 use native.Mathlib.Omega.{arith}
 use lib.ListN.{length, take, set, replicate, length-append}
 use lib.Seq.{take-all, take-append-le, take-append-seam, set-append-seam, append-snoc}
-use lib.Dec.{leb, ltb}
+use lib.Dec.{leb}
 use borrow.Author.Tests.{le-leb, lt-leb, lt-ltb, le-ltb}
-use Rattle.octets.specs.Test.{pick, both}
-use Rattle.lines.specs.Grammar.{eventOf, nodesOf, isNumber, numberOf}
+use Rattle.octets.specs.Test.{pick}
+use Rattle.lines.specs.Grammar.{eventOf, noOpening, firstOf}
 use Rattle.lines.specs.declared.Line.the-variants.{Bad}
-use Rattle.lines.proofs.OnlyLegal.{long-bad, long-no-nodes}
-use Rattle.input.specs.Carry.{most, carryUpTo, carryOf, pushed, push, eventIn, nodesIn}
+use Rattle.lines.proofs.OnlyLegal.{long-bad, long-no-opening}
+use Rattle.input.specs.Carry.{most, carryUpTo, carryOf, pushed, push, eventIn, firstIn}
 use Rattle.input.specs.declared.Carry.{Carry}
 
 abbrev kept : List ℕ → ℕ → Carry
@@ -102,6 +101,6 @@ pub event-carry : (l : List ℕ) → eventIn (carryOf l) ≡ eventOf l
 unfolding eventIn carryOf
 event-carry l = read-carryUpTo most eventOf Bad (λ k h. long-bad k (omega arith)) l
 
-pub nodes-carry : (l : List ℕ) → nodesIn (carryOf l) ≡ nodesOf l
-unfolding nodesIn carryOf
-nodes-carry l = read-carryUpTo most nodesOf 0 (λ k h. long-no-nodes k (omega arith)) l
+pub first-carry : (l : List ℕ) → firstIn (carryOf l) ≡ firstOf l
+unfolding firstIn carryOf
+first-carry l = read-carryUpTo most firstOf noOpening (λ k h. long-no-opening k (omega arith)) l

@@ -5,7 +5,8 @@ use mathlib.Core.List.{List, _++_}
 use lib.ListN.{length, take, set, replicate}
 use lib.Dec.{leb, ltb}
 use Rattle.octets.specs.Test.{pick}
-use Rattle.lines.specs.Grammar.{eventOf, nodesOf}
+use Rattle.lines.specs.Grammar.{eventOf, noOpening, firstOf}
+use Rattle.lines.specs.declared.Opening.{Opening}
 use Rattle.lines.specs.declared.Line.{Line}
 use Rattle.lines.specs.declared.Line.the-variants.{Bad}
 use Rattle.input.specs.declared.Carry.{Carry}
@@ -36,5 +37,5 @@ push c x = pushed most c x
 unfoldable pub eventIn : Carry → Line
 eventIn c = pick (leb (c .size) most) (eventOf (take (c .size) (c .bytes))) Bad
 
-unfoldable pub nodesIn : Carry → ℕ
-nodesIn c = pick (leb (c .size) most) (nodesOf (take (c .size) (c .bytes))) 0
+unfoldable pub firstIn : Carry → Opening
+firstIn c = pick (leb (c .size) most) (firstOf (take (c .size) (c .bytes))) noOpening

@@ -1,9 +1,11 @@
 // Input of any length as lines, in constant memory: what is kept of the line that is being read.
 ghost use mathlib.Core.Path.{_≡_};
-ghost use Rattle.input.specs.Carry.{eventIn, nodesIn};
+ghost use Rattle.input.specs.Carry.{eventIn, firstIn};
 ghost use Rattle.input.specs.Carry.{push as Carry·push, carryOf};
 ghost use mathlib.Core.List.{[]};
 use lines::Line;
+use lines::NO_OPENING;
+use lines::Opening;
 
 // The first bytes of a line, and its length, where 41 stands for every greater one.
 pub struct Carry {
@@ -53,14 +55,14 @@ pub fn event(c: Carry) -> Line
     Line::Bad
 }
 
-// The nodes that a first line says, and 0 where it is bad.
-pub fn nodes(c: Carry) -> usize
-    ensures { λ r. ⌜ r ≡ nodesIn c ⌝ }
+// What the first line says.
+pub fn first(c: Carry) -> Opening
+    ensures { λ r. ⌜ r ≡ firstIn c ⌝ }
 {
     let bytes = c.bytes;
     let size = c.size;
     if size <= 40 {
-        return lines::nodes(&bytes[..size]);
+        return lines::first(&bytes[..size]);
     }
-    0
+    NO_OPENING
 }

@@ -9,7 +9,8 @@ use Rattle.octets.proofs.Put.{part-other, part-same, getD-other, length-put, le
 use Rattle.view.specs.Size.{nodes}
 use Rattle.region.specs.Channel.{channelSize, slotSize, slotAt, oldest, first}
 use Rattle.block.specs.Block.{blockSize, channelPlace, channelIn}
-use Rattle.layout.specs.Layout.{clusterSize, blockPlace, stated, block, channel, onBlock}
+use Rattle.layout.specs.Layout.{clusterSize, statedPlace, faultsPlace, blockPlace, stated, faultsIn, block}
+use Rattle.layout.specs.Layout.{channel, onBlock}
 
 pub length-block : (b : List ℕ) (c : ℕ) → 1 ≤ c → clusterSize c ≤ length b → length (block b c) ≡ blockSize
 unfolding block
@@ -33,7 +34,11 @@ module _ (b : List ℕ) (c : ℕ) (lo : 1 ≤ c) (there : clusterSize c ≤ leng
 
   pub stated-onBlock : stated (onBlock c f b) ≡ stated b
   unfolding onBlock block
-  stated-onBlock = getD-other b (blockPlace c) (f (block b c)) 0 (omega arith) (λ q. omega arith)
+  stated-onBlock = getD-other b (blockPlace c) (f (block b c)) statedPlace (omega arith) (λ q. omega arith)
+
+  pub faults-onBlock : faultsIn (onBlock c f b) ≡ faultsIn b
+  unfolding onBlock block
+  faults-onBlock = getD-other b (blockPlace c) (f (block b c)) faultsPlace (omega arith) (λ q. omega arith)
 
   pub block-same : block (onBlock c f b) c ≡ f (block b c)
   unfolding onBlock block

@@ -1,5 +1,5 @@
 -- What the checks of refusals 12 and 2 tell of the bytes that passed them.
-use Prim.Native.Nat.{ℕ, _+_, _*_, _≤_}
+use Prim.Native.Nat.{ℕ, _+_, _*_, _<_, _≤_}
 use native.Mathlib.Omega.{arith}
 use native.Mathlib.Decide.{ℕ-discrete}
 use mathlib.Core.Path.{_≡_, refl, sym, ap, _∙_, subst}
@@ -11,6 +11,8 @@ use borrow.Author.Tests.{eqb-true, eq-eqb, ne-eqb, leb-true}
 use Rattle.octets.specs.Test.{pick, both}
 use Rattle.octets.proofs.Test.{both-left, both-right}
 use Rattle.table.specs.Loop.{all, count}
+use Rattle.table.specs.Quorum.{tolerates, isCluster}
+use Rattle.table.proofs.Sets.{tolerates-half}
 use Rattle.table.proofs.Laws.{all-at}
 use Rattle.view.specs.Size.{isSize, nodes}
 use Rattle.record.specs.Usable.{usable}
@@ -25,6 +27,14 @@ is-size n h = (
   leb-true n nodes
       (both-right (leb 1 n) (leb n nodes) h),
 )
+
+pub is-cluster : (n f : ℕ) → isCluster n f ≡ true → (1 ≤ n) × (n ≤ nodes) × (f + f < n)
+is-cluster n f h =
+    let size = is-size n (both-left (isSize n) (tolerates n f) h) in (
+      size .0,
+      size .1,
+      tolerates-half n f (both-right (isSize n) (tolerates n f) h),
+    )
 
 pub is-node : (n c : ℕ) → isNode n c ≡ true → (1 ≤ c) × (c ≤ n)
 is-node n c h = (leb-true 1 c (both-left (leb 1 c) (leb c n) h), leb-true c n (both-right (leb 1 c) (leb c n) h))
@@ -67,10 +77,10 @@ pub fits-unsized : (b : List ℕ) (n : ℕ) → (length b ≡ 0 → ⊥) → n �
 unfolding fits
 fits-unsized b n h e s = rw (ne-eqb (length b) 0 h, sym e, s) refl
 
-pub sound-sized : (b : List ℕ) (n : ℕ) → n ≡ stated b → isSize n ≡ true
-    → sound b ≡ both (all n (λ c. blockSound n c (block b c))) (leb (count n (stopped b)) (faultsIn b))
+pub sound-sized : (b : List ℕ) (n f : ℕ) → n ≡ stated b → f ≡ faultsIn b → isSize n ≡ true
+    → sound b ≡ both (tolerates n f) (both (all n (λ c. blockSound n f c (block b c))) (leb (count n (stopped b)) f))
 unfolding sound
-sound-sized b n e s = rw (sym e, s) refl
+sound-sized b n f e g s = rw (sym e, sym g, s) refl
 
 pub sound-unsized : (b : List ℕ) (n : ℕ) → n ≡ stated b → isSize n ≡ false → sound b ≡ false
 unfolding sound
@@ -78,48 +88,71 @@ sound-unsized b n e s = rw (sym e, s) refl
 
 -- what refusal 2 asks, one by one
 module _ (b : List ℕ) (h : sound b ≡ true) where
+  abbrev n : ℕ
+  n = stated b
+
+  abbrev f : ℕ
+  f = faultsIn b
+
   abbrev blocks : Bool
-  blocks = all (stated b) (λ c. blockSound (stated b) c (block b c))
+  blocks = all n (λ c. blockSound n f c (block b c))
 
   abbrev few : Bool
-  few = leb (count (stated b) (stopped b)) (faultsIn b)
+  few = leb (count n (stopped b)) f
 
   pub sound-size : isSize (stated b) ≡ true
   unfolding sound
-  sound-size = both-left (isSize (stated b)) (both blocks few) h
+  sound-size = both-left (isSize n) (tolerates n f) (both-left (isCluster n f) (both blocks few) h)
+
+  pub sound-half : faultsIn b + faultsIn b < stated b
+  unfolding sound
+  sound-half = is-cluster n f (both-left (isCluster n f) (both blocks few) h) .2
 
   pub sound-few : count (stated b) (stopped b) ≤ faultsIn b
   unfolding sound
-  sound-few =
-      leb-true (count (stated b) (stopped b)) (faultsIn b)
-      (both-right blocks few (both-right (isSize (stated b)) (both blocks few) h))
+  sound-few = leb-true (count n (stopped b)) f (both-right blocks few (both-right (isCluster n f) (both blocks few) h))
 
-  pub sound-block : (c : ℕ) → isNode (stated b) c ≡ true → blockSound (stated b) c (block b c) ≡ true
+  pub sound-block : (c : ℕ) → isNode (stated b) c ≡ true → blockSound (stated b) (faultsIn b) c (block b c) ≡ true
   unfolding sound
   sound-block c k =
-      all-at (stated b) (λ d. blockSound (stated b) d (block b d)) c
-      (both-left blocks few (both-right (isSize (stated b)) (both blocks few) h))
-      (is-node (stated b) c k .0) (is-node (stated b) c k .1)
+      all-at n (λ d. blockSound n f d (block b d)) c
+      (both-left blocks few (both-right (isCluster n f) (both blocks few) h))
+      (is-node n c k .0) (is-node n c k .1)
 
-  record-sound : (c : ℕ) → isNode (stated b) c ≡ true → recordSound (stated b) c (recordIn (block b c)) ≡ true
-  unfolding blockSound
-  record-sound c k =
-      both-left (recordSound (stated b) c (recordIn (block b c))) (channelsSound (stated b) (block b c))
-      (sound-block c k)
+  module _ (c : ℕ) (k : isNode (stated b) c ≡ true) where
+    abbrev r : List ℕ
+    r = recordIn (block b c)
 
-  pub sound-usable : (c : ℕ) → isNode (stated b) c ≡ true → usable (node b c) ≡ true
-  sound-usable c k =
-      let r = recordIn (block b c) in
-      both-right (codesKnown r) (usable (recordOf r))
-      (both-left (both (codesKnown r) (usable (recordOf r)))
-      (both (eqb (recordOf r .n) (stated b)) (eqb (recordOf r .own) c)) (record-sound c k))
+    abbrev can : Bool
+    can = both (codesKnown r) (usable (recordOf r))
+
+    abbrev same : Bool
+    same = both (eqb (recordOf r .n) n) (eqb (recordOf r .f) f)
+
+    record-sound : recordSound n f c r ≡ true
+    unfolding blockSound
+    record-sound = both-left (recordSound n f c r) (channelsSound n (block b c)) (sound-block c k)
+
+    pub sound-usable : usable (node b c) ≡ true
+    sound-usable = both-right (codesKnown r) (usable (recordOf r))
+        (both-left can (both same (eqb (recordOf r .own) c)) record-sound)
+
+    same-cluster : same ≡ true
+    same-cluster = both-left same (eqb (recordOf r .own) c)
+        (both-right can (both same (eqb (recordOf r .own) c)) record-sound)
+
+    -- the record has the cluster's n and f
+    pub sound-n : node b c .n ≡ stated b
+    sound-n = eqb-true (recordOf r .n) n (both-left (eqb (recordOf r .n) n) (eqb (recordOf r .f) f) same-cluster)
+
+    pub sound-f : node b c .f ≡ faultsIn b
+    sound-f = eqb-true (recordOf r .f) f (both-right (eqb (recordOf r .n) n) (eqb (recordOf r .f) f) same-cluster)
 
   pub sound-channel : (a c : ℕ) → isNode (stated b) a ≡ true → isNode (stated b) c ≡ true
       → countOf (channel b a c) ≤ capacity
   unfolding blockSound
   sound-channel a c i k =
       leb-true (countOf (channel b a c)) capacity
-      (all-at (stated b) (λ d. leb (countOf (channel b d c)) capacity) a
-      (both-right (recordSound (stated b) c (recordIn (block b c))) (channelsSound (stated b) (block b c))
-      (sound-block c k))
-      (is-node (stated b) a i .0) (is-node (stated b) a i .1))
+      (all-at n (λ d. leb (countOf (channel b d c)) capacity) a
+      (both-right (recordSound n f c (recordIn (block b c))) (channelsSound n (block b c)) (sound-block c k))
+      (is-node n a i .0) (is-node n a i .1))

@@ -1,4 +1,5 @@
--- A cluster in bytes (document 01's house): byte 0 states n, and then comes a block for each of the nodes 1 to n.
+-- A cluster in bytes (document 01's house): byte 0 states n, byte 1 states f, and then comes a block for each of the
+-- nodes 1 to n.
 use Prim.Native.Nat.{ℕ, _+_, _-_, _*_}
 use mathlib.Core.Bool.{Bool, true, false}
 use mathlib.Core.List.{List}
@@ -8,18 +9,21 @@ use Rattle.octets.specs.Test.{pick, both}
 use Rattle.octets.specs.Bytes.{part}
 use Rattle.view.specs.Size.{isSize}
 use Rattle.table.specs.Loop.{all, count}
-use Rattle.table.specs.Quorum.{faults}
+use Rattle.table.specs.Quorum.{isCluster}
 use Rattle.record.specs.declared.Node.{Node}
 use Rattle.region.specs.Channel.{countOf}
 use Rattle.block.specs.Block.{blockSize, hasStopped, nodeIn, channelIn, change, blockSound}
 
--- Where n is stated and where the blocks stand; the bytes of a cluster of n nodes, and what the library states for any
--- n: 0 where there may be no such cluster.
+-- Where n and f are stated and where the blocks stand; the bytes of a cluster of n nodes, and what the library states
+-- for any n: 0 where there may be no such cluster.
 abbrev pub statedPlace : ℕ
 statedPlace = 0
 
+abbrev pub faultsPlace : ℕ
+faultsPlace = statedPlace + 1
+
 abbrev pub blocksPlace : ℕ
-blocksPlace = statedPlace + 1
+blocksPlace = faultsPlace + 1
 
 abbrev pub clusterSize : ℕ → ℕ
 clusterSize n = blocksPlace + blockSize * n
@@ -35,7 +39,7 @@ abbrev pub stated : List ℕ → ℕ
 stated b = getD b statedPlace 0
 
 abbrev pub faultsIn : List ℕ → ℕ
-faultsIn b = faults (stated b)
+faultsIn b = getD b faultsPlace 0
 
 unfoldable pub block : List ℕ → ℕ → List ℕ
 block b c = part b (blockPlace c) blockSize
@@ -58,11 +62,12 @@ onBlock c f b = change (blockPlace c) blockSize f b
 unfoldable pub fits : List ℕ → Bool
 fits b = pick (eqb (length b) 0) false (pick (isSize (stated b)) (eqb (length b) (clusterSize (stated b))) true)
 
--- What refusal 2 asks: n may be, every block is sound, and at most f nodes have stopped.
+-- What refusal 2 asks: n and f may be, every block is sound with a record of this n and f, and at most f nodes have
+-- stopped.
 unfoldable pub sound : List ℕ → Bool
 sound b =
-    both (isSize (stated b))
-    (both (all (stated b) (λ c. blockSound (stated b) c (block b c)))
+    both (isCluster (stated b) (faultsIn b))
+    (both (all (stated b) (λ c. blockSound (stated b) (faultsIn b) c (block b c)))
     (leb (count (stated b) (stopped b)) (faultsIn b)))
 
 -- What refusal 3 asks of a number.

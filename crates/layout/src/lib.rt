@@ -3,7 +3,7 @@ use block::BLOCK;
 use octets::and;
 use record::Node;
 use region::channel::index;
-use table::quorum::most_faults;
+use table::quorum::tolerates;
 use view::NODES;
 ghost use mathlib.Core.Path.{_≡_};
 ghost use mathlib.Core.Bool.{true};
@@ -14,13 +14,15 @@ ghost use Rattle.table.specs.Loop.{all, count};
 ghost use Rattle.region.specs.Channel.{slotSize, countOf, first};
 ghost use Rattle.region.specs.Record.{recordSize, recordOf, recordBytes};
 ghost use Rattle.block.specs.Block.{recordIn, keepRecord, takeOff, receive, halt, blockSound};
-ghost use Rattle.layout.specs.Layout.{clusterSize, sizeFor, stated, faultsIn, block, stopped, channel};
-ghost use Rattle.layout.specs.Layout.{onBlock, fits, sound, isNode};
+ghost use Rattle.layout.specs.Layout.{clusterSize, blocksPlace, sizeFor, stated, faultsIn, block};
+ghost use Rattle.layout.specs.Layout.{stopped, channel, onBlock, fits, sound, isNode};
 
-// Where n is stated, and where the blocks stand.
+// Where n and f are stated, and where the blocks stand.
 pub const STATED_PLACE: usize = 0;
 
-pub const BLOCKS_PLACE: usize = STATED_PLACE + 1;
+pub const FAULTS_PLACE: usize = STATED_PLACE + 1;
+
+pub const BLOCKS_PLACE: usize = FAULTS_PLACE + 1;
 
 // The bytes to lend for a cluster of n nodes; 0 where there may be none.
 pub fn size(n: usize) -> usize
@@ -35,10 +37,10 @@ pub fn size(n: usize) -> usize
 
 // f: the most nodes that may stop.
 pub fn faults_in(b: &[u8]) -> usize
-    requires { ⌜ 1 ≤ length (now b) ⌝ }
+    requires { ⌜ blocksPlace ≤ length (now b) ⌝ }
     ensures { λ r. ⌜ r ≡ faultsIn (now (b .entry)) ⌝ }
 {
-    most_faults(index(b[STATED_PLACE]))
+    index(b[FAULTS_PLACE])
 }
 
 // Whether c is a node's number.
@@ -156,9 +158,9 @@ pub fn stopped_nodes(b: &[u8], n: usize) -> usize
 }
 
 // Whether every block is sound.
-fn blocks_sound(b: &[u8], n: usize) -> bool
+fn blocks_sound(b: &[u8], n: usize, f: usize) -> bool
     requires { ⌜ (n ≤ nodes) × (length (now b) ≡ clusterSize n) ⌝ }
-    ensures { λ r. ⌜ r ≡ all n (λ c. blockSound n c (block (now (b .entry)) c)) ⌝ }
+    ensures { λ r. ⌜ r ≡ all n (λ c. blockSound n f c (block (now (b .entry)) c)) ⌝ }
 {
     let mut ok = true;
     let mut c = 0;
@@ -166,7 +168,7 @@ fn blocks_sound(b: &[u8], n: usize) -> bool
         let at = BLOCKS_PLACE + BLOCK * c;
         let end = at + BLOCK;
         c += 1;
-        ok = and(block::block_sound(&b[at..end], n, c), ok);
+        ok = and(block::block_sound(&b[at..end], n, f, c), ok);
     }
     ok
 }
@@ -192,7 +194,9 @@ pub fn is_sound(b: &[u8]) -> bool
 {
     let n = index(b[STATED_PLACE]);
     if and(1 <= n, n <= NODES) {
-        return and(blocks_sound(b, n), stopped_nodes(b, n) <= faults_in(b));
+        let f = faults_in(b);
+        let blocks = blocks_sound(b, n, f);
+        return and(tolerates(n, f), and(blocks, stopped_nodes(b, n) <= f));
     }
     false
 }

@@ -1,11 +1,11 @@
 -- A line that is not bad is legal, and says what is read. So a line longer than any legal one is bad.
-use Prim.Native.Nat.{ℕ, zero, suc, _+_, _-_, _≤_, _<_}
+use Prim.Native.Nat.{ℕ, suc, _+_, _-_, _≤_}
 use mathlib.Core.Path.{_≡_, refl, sym, ap, ap₂, subst, _∙_}
 use mathlib.Core.Bool.{Bool, true, false}
 use mathlib.Core.List.{List, [], _∷_, _++_, append-nil}
 use mathlib.Core.Logic.{_⊎_, inl, inr, ⊎-elim}
 use native.Mathlib.Omega.{arith}
-use lib.ListN.{length, take, drop, getD, length-append, take-append-drop}
+use lib.ListN.{length, take, drop, length-append, take-append-drop}
 use lib.Dec.{leb, eqb}
 use borrow.Author.Tests.{eqb-true, leb-true}
 use Rattle.octets.specs.Test.{pick, both}
@@ -13,12 +13,14 @@ use Rattle.octets.specs.Bytes.{same}
 use Rattle.octets.proofs.Test.{both-left, both-right, same-true}
 use Rattle.view.specs.Size.{reportSize}
 use Rattle.view.specs.Report.{reportOf}
+use Rattle.table.specs.Quorum.{tolerates}
+use Rattle.table.proofs.Sets.{tolerates-half}
 use Rattle.digits.specs.Decimal.{allDigits, value}
 use Rattle.digits.specs.Hex.{allHex, hexBytes, hexSize}
 use Rattle.lines.specs.Grammar.{space, isNumber, numberOf, isReport, reportIn, placeOf, fieldLength, word}
 use Rattle.lines.specs.Grammar.{after, cutIs, cutBy, tailOf, updateBy, scanBy, deliverBy, stopBy, eventOf}
-use Rattle.lines.specs.Grammar.{nodesBy, nodesOf}
-use Rattle.lines.specs.Legal.{field, End, whole, cut, Legal, update, scan, deliver, stop}
+use Rattle.lines.specs.Grammar.{noOpening, openingBy, firstBy, firstOf}
+use Rattle.lines.specs.Legal.{field, Opens, opens, End, whole, cut, Legal, update, scan, deliver, stop}
 use Rattle.lines.specs.declared.Number.{Number}
 use Rattle.lines.specs.declared.Number.the-variants.{Value, NoNumber}
 use Rattle.lines.specs.declared.Reported.{Reported}
@@ -27,6 +29,7 @@ use Rattle.lines.specs.declared.Tail.{Tail}
 use Rattle.lines.specs.declared.Tail.the-variants.{Is, NoTail}
 use Rattle.lines.specs.declared.Extent.{Extent}
 use Rattle.lines.specs.declared.Extent.the-variants.{Whole, Cut}
+use Rattle.lines.specs.declared.Opening.{Opening}
 use Rattle.lines.specs.declared.Line.{Line}
 use Rattle.lines.specs.declared.Line.the-variants.{Bad}
 
@@ -70,6 +73,10 @@ report-length : (w : List ℕ) → isReport w ≡ true → length w ≡ hexSize 
 report-length w e =
     eqb-true (length w) (hexSize reportSize) (both-left (eqb (length w) (hexSize reportSize)) (allHex w) e)
 
+empty : (t : List ℕ) → eqb (length t) 0 ≡ true → t ≡ []
+empty [] e = refl
+empty (x ∷ t) e = absurd (omega (arith, eqb-true (length (x ∷ t)) 0 e))
+
 -- a field whose word is not empty, and what comes after it
 field-split : (t : List ℕ) → 1 ≤ length (word t) → t ≡ field (word t) ++ after t
 unfolding word after fieldLength
@@ -88,29 +95,27 @@ field-split (x ∷ s) h = cases (eqb x space) refl h
 number-field : (t : List ℕ) → isNumber (word t) ≡ true → t ≡ field (word t) ++ after t
 number-field t e = field-split t (number-some (word t) e)
 
+-- the same at the end of a line
+last-field : (t : List ℕ) → isNumber (word t) ≡ true → eqb (length (after t)) 0 ≡ true → t ≡ field (word t)
+last-field t e q =
+    number-field t e ∙ ap (λ (r : List ℕ). field (word t) ++ r) (empty (after t) q) ∙ append-nil (field (word t))
+
 data EndView (t : List ℕ) : Tail → Type 0 where
   end : {x : Extent} → End t x → EndView t (Is x)
   none : EndView t NoTail
 
-empty : (t : List ℕ) → eqb (length t) 0 ≡ true → t ≡ []
-empty [] e = refl
-empty (x ∷ t) e = absurd (omega (arith, eqb-true (length (x ∷ t)) 0 e))
-
-cut-end : (t : List ℕ) → word t ≡ cutIs → isNumber (word (after t)) ≡ true → after (after t) ≡ []
+cut-end : (t : List ℕ) → word t ≡ cutIs → isNumber (word (after t)) ≡ true → eqb (length (after (after t))) 0 ≡ true
     → t ≡ field cutIs ++ field (word (after t))
-cut-end t w e l =
+cut-end t w e q =
     let h : 1 ≤ length (word t) = rw w (omega arith) in
-    field-split t h
-    ∙ ap₂ (λ (r s : List ℕ). field r ++ s) w
-    (number-field (after t) e ∙ ap (λ (r : List ℕ). field (word (after t)) ++ r) l
-    ∙ append-nil (field (word (after t))))
+    field-split t h ∙ ap₂ (λ (r s : List ℕ). field r ++ s) w (last-field (after t) e q)
 
 cut-view : (t : List ℕ) (b : Bool) {m : Number} (e : Bool) → same (word t) cutIs ≡ b → NumberView (word (after t)) m
     → eqb (length (after (after t))) 0 ≡ e → EndView t (cutBy b m e)
 cut-view t b e p none q = none
 cut-view t true true p (number n) q =
     end (subst (λ (s : List ℕ). End s (Cut (value (word (after t))))) (sym (cut-end t (same-true (word t) cutIs p) n
-    (empty (after (after t)) q))) (cut (word (after t)) n))
+    q)) (cut (word (after t)) n))
 cut-view t true false p (number n) q = none
 cut-view t false e p (number n) q = none
 
@@ -165,10 +170,7 @@ deliver-view t (number a) (number b) (end x) =
 stop-view : (t : List ℕ) {c : Number} (e : Bool) → NumberView (word t) c → eqb (length (after t)) 0 ≡ e
     → LegalOrBad (120 ∷ t) (stopBy c e)
 stop-view t e none q = inr refl
-stop-view t true (number c) q =
-    legal-as (ap (λ (r : List ℕ). 120 ∷ r) (number-field t c
-    ∙ ap (λ (r : List ℕ). field (word t) ++ r) (empty (after t) q) ∙ append-nil (field (word t))))
-    (stop (word t) c)
+stop-view t true (number c) q = legal-as (ap (λ (r : List ℕ). 120 ∷ r) (last-field t c q)) (stop (word t) c)
 stop-view t false (number c) q = inr refl
 
 -- by the letter
@@ -189,6 +191,49 @@ legal-or-bad (x ∷ t) =
     (lettered x 120 t (eqb x 120) refl (stop-view t (eqb (length (after t)) 0) c refl)
     (inr refl))))
 
+-- ---- the first line
+
+abbrev pub OpensOrBad : List ℕ → Opening → Type 0
+OpensOrBad s o = Opens s o ⊎ (o ≡ noOpening)
+
+-- the word w, and t after it
+opening-view : (w t : List ℕ) {a b : Number} (e : Bool) → NumberView w a → NumberView (word t) b
+    → eqb (length (after t)) 0 ≡ e → OpensOrBad (w ++ t) (openingBy a b e)
+opening-view w t e none b q = inr refl
+opening-view w t e (number a) none q = inr refl
+opening-view w t false (number a) (number b) q = inr refl
+opening-view w t true (number a) (number b) q = cases (leb n 5) (tolerates n f) refl refl
+  where
+    n : ℕ
+    n = value w
+
+    f : ℕ
+    f = value (word t)
+
+    cases : (x y : Bool) → leb n 5 ≡ x → tolerates n f ≡ y
+        → OpensOrBad (w ++ t) (pick (both x y) (record { nodes = n; faults = f }) noOpening)
+    cases true true h k =
+        inl (subst (λ (r : List ℕ). Opens (w ++ r) (record { nodes = n; faults = f })) (sym (last-field t b q))
+        (opens w (word t) a b (leb-true n 5 h) k))
+    cases true false h k = inr refl
+    cases false y h k = inr refl
+
+pub opens-or-bad : (s : List ℕ) → OpensOrBad s (firstOf s)
+unfolding firstOf
+opens-or-bad s =
+    let w : List ℕ = take (placeOf space s) s in
+    let t : List ℕ = drop (placeOf space s) s in
+    subst (λ (r : List ℕ). OpensOrBad r (firstBy w t)) (take-append-drop (placeOf space s) s)
+    (opening-view w t (eqb (length (after t)) 0) (number-view w) (number-view (word t)) refl)
+
+-- a first line that says some nodes is legal, and says n from 1 to 5 and an f that n nodes tolerate
+pub opens-only : (s : List ℕ) → (firstOf s .nodes ≡ 0 → ⊥) → Opens s (firstOf s)
+opens-only s h = ⊎-elim (λ o. o) (λ e. absurd (h (ap (λ (o : Opening). o .nodes) e))) (opens-or-bad s)
+
+pub opens-within : {s : List ℕ} {o : Opening} → Opens s o
+    → (1 ≤ o .nodes) × (o .nodes ≤ 5) × (tolerates (o .nodes) (o .faults) ≡ true)
+opens-within (opens n f a b h t) = (omega (arith, tolerates-half (value n) (value f) t), h, t)
+
 -- ---- lengths
 
 end-short : {t : List ℕ} {x : Extent} → End t x → length t ≤ 9
@@ -207,11 +252,9 @@ legal-short (stop c e) = omega (arith, number-most c e)
 pub long-bad : (s : List ℕ) → 33 ≤ length s → eventOf s ≡ Bad
 long-bad s h = ⊎-elim (λ l. absurd (omega (arith, legal-short l))) (λ e. e) (legal-or-bad s)
 
--- the first line has at most four bytes
-pub long-no-nodes : (s : List ℕ) → 5 ≤ length s → nodesOf s ≡ 0
-unfolding nodesOf
-long-no-nodes s h = cases (number-view s)
-  where
-    cases : {n : Number} → NumberView s n → nodesBy n ≡ 0
-    cases (number e) = absurd (omega (arith, number-most s e))
-    cases none = refl
+-- a first line has at most nine bytes
+pub opening-short : {s : List ℕ} {o : Opening} → Opens s o → length s ≤ 9
+opening-short (opens n f a b h t) = simp length-append (omega (arith, number-most n a, number-most f b))
+
+pub long-no-opening : (s : List ℕ) → 10 ≤ length s → firstOf s ≡ noOpening
+long-no-opening s h = ⊎-elim (λ o. absurd (omega (arith, opening-short o))) (λ e. e) (opens-or-bad s)

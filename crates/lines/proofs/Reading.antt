@@ -1,15 +1,14 @@
 -- Every legal line is read as what it says.
 use Prim.Native.Nat.{ℕ, zero, suc, _+_, _-_, _≤_, _<_}
-use mathlib.Core.Path.{_≡_, refl, sym, ap, ap₂, _∙_}
+use mathlib.Core.Path.{_≡_, refl, sym, ap, _∙_}
 use mathlib.Core.Bool.{Bool, true, false}
 use mathlib.Core.List.{List, [], _∷_, _++_, append-nil}
 use native.Mathlib.Omega.{arith}
 use lib.ListN.{length, take, drop, getD}
 use lib.Seq.{take-append-seam, drop-append-seam}
 use lib.Dec.{leb, eqb}
-use borrow.Author.Tests.{eq-eqb, ne-eqb, leb-true}
+use borrow.Author.Tests.{eq-eqb, ne-eqb, le-leb, leb-true}
 use Rattle.octets.specs.Test.{pick, both}
-use Rattle.octets.specs.Loop.{allTo}
 use Rattle.octets.proofs.Test.{both-left, both-right}
 use Rattle.octets.proofs.Loop.{allTo-at}
 use Rattle.view.specs.Size.{reportSize}
@@ -17,15 +16,13 @@ use Rattle.view.specs.Report.{reportOf}
 use Rattle.digits.specs.Decimal.{isDigit, allDigits, value}
 use Rattle.digits.specs.Hex.{isLetter, isHex, allHex, hexBytes, hexSize}
 use Rattle.lines.specs.Grammar.{space, isNumber, numberOf, isReport, reportIn, placeOf, fieldLength, word}
-use Rattle.lines.specs.Grammar.{after, cutIs, cutBy, tailOf, updateBy, scanBy, deliverBy, stopBy, eventOf}
-use Rattle.lines.specs.Legal.{field, End, whole, cut, Legal, update, scan, deliver, stop}
-use Rattle.lines.specs.declared.Number.{Number}
+use Rattle.lines.specs.Grammar.{after, cutIs, tailOf, eventOf, firstOf}
+use Rattle.lines.specs.Legal.{field, Opens, opens, End, whole, cut, Legal, update, scan, deliver, stop}
 use Rattle.lines.specs.declared.Number.the-variants.{Value}
-use Rattle.lines.specs.declared.Reported.{Reported}
 use Rattle.lines.specs.declared.Reported.the-variants.{Shown}
-use Rattle.lines.specs.declared.Tail.{Tail}
 use Rattle.lines.specs.declared.Tail.the-variants.{Is}
 use Rattle.lines.specs.declared.Extent.{Extent}
+use Rattle.lines.specs.declared.Opening.{Opening}
 use Rattle.lines.specs.declared.Line.{Line}
 
 -- ---- words have no space
@@ -110,6 +107,13 @@ report-next w u e b = ap reportIn (word-next w u (report-no-space w e) b) ∙ re
 number-after : (w u : List ℕ) → isNumber w ≡ true → Begins u → after (field w ++ u) ≡ u
 number-after w u e b = after-next w u (number-no-space w e) b
 
+-- a number's field at the end of a line
+last-read : (w : List ℕ) → isNumber w ≡ true → numberOf (word (field w)) ≡ Value (value w)
+last-read w e = ap (λ (u : List ℕ). numberOf (word u)) (sym (append-nil (field w))) ∙ number-next w [] e refl
+
+last-after : (w : List ℕ) → isNumber w ≡ true → after (field w) ≡ []
+last-after w e = ap after (sym (append-nil (field w))) ∙ number-after w [] e refl
+
 -- ---- legal ends and lines are read
 
 end-begins : {t : List ℕ} {x : Extent} → End t x → Begins t
@@ -128,12 +132,9 @@ end-read whole = refl
 end-read (cut m e) =
     let t : List ℕ = field cutIs ++ field m in
     let w : word t ≡ cutIs = word-next cutIs (field m) cut-no-space refl in
-    let a : after t ≡ field m ++ [] = after-next cutIs (field m) cut-no-space refl ∙ sym (append-nil (field m)) in
-    let n : numberOf (word (after t)) ≡ Value (value m) = ap (λ (u : List ℕ). numberOf (word u)) a
-    ∙ number-next m [] e refl in
-    let l : after (after t) ≡ [] = ap after a ∙ number-after m [] e refl in
+    let a : after t ≡ field m = after-next cutIs (field m) cut-no-space refl in
     let z : eqb (length t) 0 ≡ false = ne-eqb (length t) 0 (λ q. omega arith) in
-    simp (z, w, n, l)
+    simp (z, w, a, last-read m e, last-after m e)
 
 pub legal-read : {s : List ℕ} {l : Line} → Legal s l → eventOf s ≡ l
 unfolding eventOf
@@ -152,9 +153,19 @@ legal-read (deliver c h {t} e f g) =
       number-after h t f (end-begins g),
       end-read g,
     )
-legal-read (stop c e) =
-    let q : field c ≡ field c ++ [] = sym (append-nil (field c)) in
-    let n : numberOf (word (field c)) ≡ Value (value c) = ap (λ (u : List ℕ). numberOf (word u)) q
-    ∙ number-next c [] e refl in
-    let l : after (field c) ≡ [] = ap after q ∙ number-after c [] e refl in
-    simp (n, l)
+legal-read (stop c e) = simp (last-read c e, last-after c e)
+
+pub opening-read : {s : List ℕ} {o : Opening} → Opens s o → firstOf s ≡ o
+unfolding firstOf
+opening-read (opens n f a b h t) =
+    let u : List ℕ = field f in
+    simp (
+      word-ends n u (number-no-space n a) refl,
+      take-append-seam n u,
+      drop-append-seam n u,
+      number-read n a,
+      last-read f b,
+      last-after f b,
+      le-leb (value n) 5 h,
+      t,
+    )

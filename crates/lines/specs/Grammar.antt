@@ -1,7 +1,7 @@
--- The lines of a session, without their line feed, as document 01's section on the bench program has them: n on the
--- first line, then one event a line, `u c h`, `s c`, `d a b` or `x c`, where u, s and d may end in `cut m`. Spaces are
--- single. A report h has sixteen hexadecimal digits with small letters, every other number one to four digits.
--- What is not of this form is a bad line.
+-- The lines of a session, without their line feed, as document 01's section on the bench program and request [4] of
+-- document 02 have them: `n f` on the first line, n nodes of which f may stop, then one event a line, `u c h`, `s c`,
+-- `d a b` or `x c`, where u, s and d may end in `cut m`. Spaces are single. A report h has sixteen hexadecimal digits
+-- with small letters, every other number one to four digits. What is not of this form is a bad line.
 use Prim.Native.Nat.{ℕ, suc, _-_}
 use mathlib.Core.Bool.{Bool}
 use mathlib.Core.List.{List, [], _∷_}
@@ -11,6 +11,7 @@ use Rattle.octets.specs.Test.{pick, both}
 use Rattle.octets.specs.Bytes.{same}
 use Rattle.view.specs.Size.{reportSize}
 use Rattle.view.specs.Report.{reportOf}
+use Rattle.table.specs.Quorum.{tolerates}
 use Rattle.digits.specs.Decimal.{allDigits, value}
 use Rattle.digits.specs.Hex.{allHex, hexBytes, hexSize}
 use Rattle.lines.specs.declared.Number.{Number}
@@ -20,6 +21,7 @@ use Rattle.lines.specs.declared.Reported.the-variants.{Shown, NoReport}
 use Rattle.lines.specs.declared.Extent.the-variants.{Whole, Cut}
 use Rattle.lines.specs.declared.Tail.{Tail}
 use Rattle.lines.specs.declared.Tail.the-variants.{Is, NoTail}
+use Rattle.lines.specs.declared.Opening.{Opening}
 use Rattle.lines.specs.declared.Line.{Line}
 use Rattle.lines.specs.declared.Line.the-variants.{Update, Scan, Deliver, Stop, Bad}
 
@@ -106,13 +108,24 @@ eventBy letter t =
     (pick (eqb letter 120) (stopBy (numberOf (word t)) (eqb (length (after t)) 0))
     Bad)))
 
--- an event's line, and the first line: n from 1 to 5, or 0 where it is bad
+-- an event's line
 unfoldable pub eventOf : List ℕ → Line
 eventOf s = eventBy (getD s 0 0) (drop 1 s)
 
-abbrev pub nodesBy : Number → ℕ
-nodesBy NoNumber = 0
-nodesBy (Value n) = pick (leb n 5) n 0
+-- ---- the first line: n from 1 to 5, and an f that n nodes tolerate
 
-unfoldable pub nodesOf : List ℕ → ℕ
-nodesOf s = nodesBy (numberOf s)
+abbrev pub noOpening : Opening
+noOpening = record { nodes = 0; faults = 0 }
+
+abbrev pub openingBy : Number → Number → Bool → Opening
+openingBy NoNumber b e = noOpening
+openingBy (Value n) NoNumber e = noOpening
+openingBy (Value n) (Value f) e =
+    pick (both e (both (leb n 5) (tolerates n f))) (record { nodes = n; faults = f }) noOpening
+
+-- n before the first space; then a field, which is f, and nothing after it
+abbrev pub firstBy : List ℕ → List ℕ → Opening
+firstBy w t = openingBy (numberOf w) (numberOf (word t)) (eqb (length (after t)) 0)
+
+unfoldable pub firstOf : List ℕ → Opening
+firstOf s = firstBy (take (placeOf space s) s) (drop (placeOf space s) s)

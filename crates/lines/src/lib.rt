@@ -3,17 +3,15 @@
 ghost use mathlib.Core.Path.{_≡_};
 ghost use Prim.Native.Nat.{_≤_};
 ghost use lib.ListN.{length};
-ghost use lib.Dec.{eqb};
 ghost use Rattle.octets.specs.Bytes.{same};
-ghost use Rattle.view.specs.Size.{nodes};
 ghost use Rattle.lines.specs.Grammar.{numberOf, reportIn, placeOf, fieldLength, cutIs, cutBy, tailOf, eventOf};
-ghost use Rattle.lines.specs.Grammar.{nodesOf};
-ghost use Rattle.lines.specs.Grammar.{updateBy, scanBy, deliverBy, stopBy};
+ghost use Rattle.lines.specs.Grammar.{updateBy, scanBy, deliverBy, stopBy, openingBy, firstOf};
 ghost use Rattle.lines.specs.Grammar.{word as Grammar·word, after as Grammar·after};
 use digits::all_digits;
 use digits::all_hex;
 use digits::hex_bytes;
 use octets::and;
+use table::quorum::tolerates;
 use view::REPORT;
 use view::Report;
 
@@ -44,6 +42,17 @@ pub enum Line {
     },
     Bad,
 }
+
+// What the first line says: how many nodes, and how many of them may stop. Both are 0 where it is bad.
+pub struct Opening {
+    pub nodes: usize,
+    pub faults: usize,
+}
+
+pub const NO_OPENING: Opening = Opening {
+    nodes: 0,
+    faults: 0,
+};
 
 // What a word says as a number and as a report, and what the end of a line says.
 pub enum Number {
@@ -268,12 +277,33 @@ pub fn event(s: &[u8]) -> Line
     Line::Bad
 }
 
-// How many nodes the first line says, and 0 where it is bad.
-pub fn nodes(s: &[u8]) -> usize
-    ensures { λ r. ⌜ r ≡ nodesOf (now (s .entry)) ⌝ }
+fn make_opening(a: Number, b: Number, last: bool) -> Opening
+    ensures { λ r. ⌜ r ≡ openingBy a b last ⌝ }
 {
-    match read_number(s) {
-        Number::Value(n) => { if n <= 5 { n } else { 0 } }
-        Number::NoNumber => 0,
+    match a {
+        Number::Value(n) => match b {
+            Number::Value(f) => {
+                if and(last, and(n <= 5, tolerates(n, f))) {
+                    Opening {
+                        nodes: n,
+                        faults: f,
+                    }
+                } else {
+                    NO_OPENING
+                }
+            }
+            Number::NoNumber => NO_OPENING,
+        },
+        Number::NoNumber => NO_OPENING,
     }
+}
+
+// What the first line says.
+pub fn first(s: &[u8]) -> Opening
+    ensures { λ r. ⌜ r ≡ firstOf (now (s .entry)) ⌝ }
+{
+    let e = place_of(32, s);
+    let t = &s[e..];
+    let u = after(t);
+    make_opening(read_number(&s[..e]), read_number(word(t)), u.len() == 0)
 }

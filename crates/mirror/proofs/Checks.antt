@@ -12,8 +12,8 @@ use Rattle.octets.specs.Test.{both}
 use Rattle.octets.proofs.Test.{both-left, both-right, both-true}
 use Rattle.view.specs.Size.{isSize, nodes}
 use Rattle.table.specs.Loop.{count}
-use Rattle.table.specs.Quorum.{faults}
 use Rattle.table.proofs.Laws.{all-all}
+use Rattle.table.proofs.Sets.{half-tolerates}
 use Rattle.record.specs.Usable.{usable}
 use Rattle.region.specs.Channel.{capacity}
 use Rattle.region.specs.Record.{codesKnown, recordOf}
@@ -27,7 +27,7 @@ use Rattle.refine.proofs.Quorums.{same-count}
 use Rattle.mirror.specs.Mirrors.{Mirrors}
 use Rattle.mirror.proofs.Says.{says-count}
 
-module _ {n : ℕ} (low : 1 ≤ n) (small : n ≤ nodes) {b : List ℕ} {σ : K.Cluster} (M : Mirrors n b σ) where
+module _ {n f : ℕ} (low : 1 ≤ n) (small : n ≤ nodes) {b : List ℕ} {σ : K.Cluster} (M : Mirrors n f b σ) where
   pub sized : isSize n ≡ true
   sized = both-true (le-leb 1 n low) (le-leb n nodes small)
 
@@ -40,7 +40,7 @@ module _ {n : ℕ} (low : 1 ≤ n) (small : n ≤ nodes) {b : List ℕ} {σ : K.
   pub same-stopped : count n (stopped b) ≡ C.count (σ .stopped) n
   same-stopped = same-count n (stopped b) (σ .stopped) (λ c o. sym (M .shows .says c o .stop))
 
-  block-sound : (c : ℕ) → 1 ≤ c → c ≤ n → blockSound n c (block b c) ≡ true
+  block-sound : (c : ℕ) → 1 ≤ c → c ≤ n → blockSound n f c (block b c) ≡ true
   unfolding blockSound
   block-sound c lo hi = both-true (M .shows .says c (lo, hi) .sound)
       (all-all n (λ a. leb (waitingIn (block b c) a) capacity) (λ a l h. le-leb (waitingIn (block b c) a) capacity
@@ -48,15 +48,17 @@ module _ {n : ℕ} (low : 1 ≤ n) (small : n ≤ nodes) {b : List ℕ} {σ : K.
 
   pub is-sound : sound b ≡ true
   unfolding sound
-  is-sound = rw (M .shows .states) (both-true sized (both-true (all-all n (λ c. blockSound n c (block b c)) block-sound)
-      (le-leb (count n (stopped b)) (faults n) (rw same-stopped (M .few)))))
+  is-sound = rw (M .shows .states, M .shows .faults) (both-true (both-true sized (half-tolerates n f small (M .half)))
+      (both-true (all-all n (λ c. blockSound n f c (block b c)) block-sound)
+      (le-leb (count n (stopped b)) f (rw same-stopped (M .few)))))
 
   -- The record of a node is usable.
   pub is-usable : (c : ℕ) → OneTo n c → usable (nodeIn (block b c)) ≡ true
   is-usable c o =
       let r = recordIn (block b c) in
       both-right (codesKnown r) (usable (recordOf r)) (both-left (both (codesKnown r) (usable (recordOf r)))
-      (both (eqb (recordOf r .n) n) (eqb (recordOf r .own) c)) (M .shows .says c o .sound))
+      (both (both (eqb (recordOf r .n) n) (eqb (recordOf r .f) f)) (eqb (recordOf r .own) c))
+      (M .shows .says c o .sound))
 
   -- Of the refusals before an event's own only 3 and 4 are left.
   pub is-admitted : (a c : ℕ) (next : ℕ → E.Result) → E.admitted a c b (next (stated b))

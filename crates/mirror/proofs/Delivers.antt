@@ -21,7 +21,6 @@ use Rattle.wire.specs.Codec.{front, viewAt}
 use Rattle.wire.specs.declared.Message.{Message}
 use Rattle.wire.specs.declared.Message.the-variants.{Read, ReadAnswer, Write, WriteAnswer, Echo, Value, Good}
 use Rattle.wire.proofs.RoundTrip.{front-only}
-use Rattle.table.specs.Quorum.{faults}
 use Rattle.record.specs.declared.Node.{Node}
 use Rattle.step.specs.Move.{messageStep}
 use Rattle.step.specs.Stale.{staleMessage}
@@ -59,7 +58,7 @@ sized-view : (n : ℕ) (b : List ℕ) → n ≤ nodes → Sized (viewOf n b)
 sized-view n b small = let v = view-absent n b small in record { tags = v .tags-length; reports = v .reports-length }
 
 -- No message that a run hands over is stale.
-not-stale : {n i : ℕ} {ν : A.Node} {c : Node} → n ≤ nodes → Follows n i ν c → (k : ℕ) → OneTo n k
+not-stale : {n f i : ℕ} {ν : A.Node} {c : Node} → n ≤ nodes → Follows n f i ν c → (k : ℕ) → OneTo n k
     → (m : Message) (v : View)
     → Expected n k ν (messageOf n i v m) → staleMessage c k m ≡ false
 not-stale small F k o (Read q) v a = refl
@@ -70,7 +69,7 @@ not-stale small F k o (Echo t) v a = refl
 not-stale small F k o (Value t w p) v a = never-stale F small k o t w p a
 not-stale small F k o (Good t) v a = refl
 
-module _ {n : ℕ} (low : 1 ≤ n) (small : n ≤ nodes) {b : List ℕ} {σ : K.Cluster} (mirror : Mirrors n b σ)
+module _ {n f : ℕ} (low : 1 ≤ n) (small : n ≤ nodes) {b : List ℕ} {σ : K.Cluster} (mirror : Mirrors n f b σ)
     (bounded : (c : ℕ) → BoundedNode n (σ .nodes c)) (a c : ℕ) (x : Extent) where
   -- The message that has waited longest is handled.
   module _ (from : OneTo n a) (at : OneTo n c) (stands : σ .stopped c ≡ false) (m : M.Message) (rest : List M.Message)
@@ -81,7 +80,7 @@ module _ {n : ℕ} (low : 1 ≤ n) (small : n ≤ nodes) {b : List ℕ} {σ : K.
     s : List ℕ
     s = first (channel b a c)
 
-    F : Follows n c (σ .nodes c) (node b c)
+    F : Follows n f c (σ .nodes c) (node b c)
     F = mirror .shows .says c at .node
 
     gone : Gone (σ .stopped) q
@@ -103,21 +102,21 @@ module _ {n : ℕ} (low : 1 ≤ n) (small : n ≤ nodes) {b : List ℕ} {σ : K.
 
     -- The slot says some message of the code; 7 does not come up.
     reads : (r : Answer (Message × ℕ)) → front n s ≡ r → meantBy n c (viewOf n (viewAt n s)) r ≡ result m
-        → SameResult n (E.deliverMessage n a c x b s r)
-        (K.deliverFirst n (faults n) channelRoom a c (extentOf x) σ (m ∷ rest))
+        → SameResult n f (E.deliverMessage n a c x b s r)
+        (K.deliverFirst n f channelRoom a c (extentOf x) σ (m ∷ rest))
     unfolding s q
     reads (refused k) e h = absurd (subst IsResult (sym h) tt)
-    reads (result p) e h = subst (λ z. SameResult n (E.deliverMessage n a c x b s (result p))
-        (K.deliverFirst n (faults n) channelRoom a c (extentOf x) σ (z ∷ rest)))
+    reads (result p) e h = subst (λ z. SameResult n f (E.deliverMessage n a c x b s (result p))
+        (K.deliverFirst n f channelRoom a c (extentOf x) σ (z ∷ rest)))
         means (rw (not-stale small F a from (p .0) v ex)
-        (same-demand low small mirror (K.holds (K.mayCut n (faults n) (extentOf x) σ))
+        (same-demand low small mirror (K.holds (K.mayCut n f (extentOf x) σ))
         (cut-tells low small mirror x) 10 λ cut.
-        rw (mirror .shows .states)
+        rw (mirror .shows .faults)
         (settles small (sized low small mirror) a c from at x (few-then low small mirror x c cut) mirror q
-        (shows-take small (mirror .shows) a c from at waits) gone room (messageStep (faults n) (node b c) a (p .0) v)
-        (A.messageStep n (faults n) c a (messageOf n c v (p .0)) (σ .nodes c))
-        (message-follows small F (bounded c) (faults n) a from (p .0) v (sized-view n (viewAt n s) small) ex)
-        (message-safe small F (is-usable low small mirror c at) (faults n) a from (p .0) v
+        (shows-take small (mirror .shows) a c from at waits) gone room (messageStep f (node b c) a (p .0) v)
+        (A.messageStep n f c a (messageOf n c v (p .0)) (σ .nodes c))
+        (message-follows small F (bounded c) a from (p .0) v (sized-view n (viewAt n s) small) ex)
+        (message-safe small F (is-usable low small mirror c at) a from (p .0) v
         (allowed-lawful n (p .0) (viewAt n s) (front-only n s (p .0) (p .1) e .allowed-is))))))
       where
         v : View
@@ -129,8 +128,8 @@ module _ {n : ℕ} (low : 1 ≤ n) (small : n ≤ nodes) {b : List ℕ} {σ : K.
         ex : Expected n a (σ .nodes c) (messageOf n c v (p .0))
         ex = subst (Expected n a (σ .nodes c)) (sym means) expects
 
-    handles : SameResult n (E.demand (ltb 0 (countOf (channel b a c))) 8 b (E.deliverMessage n a c x b s (front n s)))
-        (K.deliverFirst n (faults n) channelRoom a c (extentOf x) σ (m ∷ rest))
+    handles : SameResult n f (E.demand (ltb 0 (countOf (channel b a c))) 8 b (E.deliverMessage n a c x b s (front n s)))
+        (K.deliverFirst n f channelRoom a c (extentOf x) σ (m ∷ rest))
     unfolding s
     handles =
         let some : 0 < countOf (channel b a c) = rw (says-count small (mirror .shows .says c at) a from, waits)
@@ -141,19 +140,19 @@ module _ {n : ℕ} (low : 1 ≤ n) (small : n ≤ nodes) {b : List ℕ} {σ : K.
   module _ (expects : (m : M.Message) (rest : List M.Message) → OneTo n c → σ .stopped c ≡ false
       → σ .channel a c ≡ m ∷ rest
       → Expected n a (σ .nodes c) m) where
-    pub delivers : SameResult n (E.deliver a c x b) (K.deliverEvent n (faults n) channelRoom a c (extentOf x) σ)
+    pub delivers : SameResult n f (E.deliver a c x b) (K.deliverEvent n f channelRoom a c (extentOf x) σ)
     unfolding s E.deliver
     delivers =
         same-admitted low small mirror a c (λ k. E.deliverIn k a c x b) (K.holds (K.isNode n a && K.isNode n c))
         (tells-true (ap₂ both (same-isNode n a) (same-isNode n c) ∙ both-and (K.isNode n a) (K.isNode n c)))
         (λ is. one-to n c (and-both (K.isNode n a) (K.isNode n c) is .1)) λ is up.
-        let (f, g) = and-both (K.isNode n a) (K.isNode n c) is in
-        go (one-to n a f) (one-to n c g) (not-true (σ .stopped c) up) (σ .channel a c) refl
+        let (x, y) = and-both (K.isNode n a) (K.isNode n c) is in
+        go (one-to n a x) (one-to n c y) (not-true (σ .stopped c) up) (σ .channel a c) refl
       where
         go : OneTo n a → OneTo n c → σ .stopped c ≡ false → (l : List M.Message) → σ .channel a c ≡ l
-            → SameResult n (E.demand (ltb 0 (countOf (channel b a c))) 8 b
+            → SameResult n f (E.demand (ltb 0 (countOf (channel b a c))) 8 b
             (E.deliverMessage n a c x b (first (channel b a c)) (front n (first (channel b a c)))))
-            (K.deliverFirst n (faults n) channelRoom a c (extentOf x) σ l)
+            (K.deliverFirst n f channelRoom a c (extentOf x) σ l)
         go from at up [] e =
             let none : countOf (channel b a c) ≤ 0 = rw (says-count small (mirror .shows .says c at) a from, e)
             (omega arith) in

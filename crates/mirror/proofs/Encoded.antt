@@ -54,9 +54,9 @@ module _ (n c : ℕ) where
   each-encodes (s ∷ k) [] e = subst IsNil (sym e) tt
   each-encodes (s ∷ k) (m ∷ l) e = (encodes s m (cc e), each-encodes k l (cc e))
 
-pub encoded : {n : ℕ} {b : List ℕ} {σ : K.Cluster} → Mirrors n b σ → (a c : ℕ) → OneTo n a → OneTo n c
+pub encoded : {n f : ℕ} {b : List ℕ} {σ : K.Cluster} → Mirrors n f b σ → (a c : ℕ) → OneTo n a → OneTo n c
     → EachEncodes n c (waiting (λ s. s) (channel b a c)) (σ .channel a c)
-encoded {n} {b} {σ} mirror a c o p = each-encodes n c (waiting (λ s. s) (channel b a c)) (σ .channel a c)
+encoded {n} {f} {b} {σ} mirror a c o p = each-encodes n c (waiting (λ s. s) (channel b a c)) (σ .channel a c)
     (sym (waiting-map (meant n c) (channel b a c)) ∙ mirror .shows .says c p .waits a o)
 
 -- Where nothing waits there is no slot.

@@ -29,11 +29,11 @@ use Rattle.mirror.proofs.Channels.{channel-stopped, channel-own, sent-h
 use Rattle.mirror.proofs.Channels.{same-goTo}
 use Rattle.mirror.proofs.Shows.{Gone, Fit, Room, shows-same, shows-send}
 
-module _ {n : ℕ} (small : n ≤ nodes) (sized : isSize n ≡ true) (c : ℕ)
+module _ {n f : ℕ} (small : n ≤ nodes) (sized : isSize n ≡ true) (c : ℕ)
     (node : OneTo n c) {ν : ℕ → A.Node} {s : ℕ → Bool} where
-  pub shows-out : (l : List Entry) {b : List ℕ} {q : ℕ → ℕ → List M.Message} → Shows n b ν s q → Gone s q
+  pub shows-out : (l : List Entry) {b : List ℕ} {q : ℕ → ℕ → List M.Message} → Shows n f b ν s q → Gone s q
       → ((e : Entry) → e ∈ l → Fit n e) → Room n c s q l
-      → Shows n (letOut n c l b) ν s (K.channels s c (map (mail n) l) q)
+      → Shows n f (letOut n c l b) ν s (K.channels s c (map (mail n) l) q)
   unfolding letOut each
   shows-out [] {b} {q} S gone fit room = shows-same small S (λ a d p o. sym (channels-none s c q gone a d))
   shows-out (e ∷ l) {b} {q} S gone fit room = shows-same small
@@ -94,8 +94,8 @@ module _ (c : ℕ) (ch : ℕ → ℕ → List M.Message) where
         | no z ↦ roomy-at m y d (lo, omega arith)
       ]
 
-module _ {n : ℕ} (small : n ≤ nodes) {b : List ℕ} {ν : ℕ → A.Node} {s : ℕ → Bool} {q : ℕ → ℕ → List M.Message}
-    (S : Shows n b ν s q)
+module _ {n f : ℕ} (small : n ≤ nodes) {b : List ℕ} {ν : ℕ → A.Node} {s : ℕ → Bool} {q : ℕ → ℕ → List M.Message}
+    (S : Shows n f b ν s q)
     (c : ℕ) (node : OneTo n c) (l : List Entry) where
   abbrev later : ℕ → ℕ → List M.Message
   later = K.channels s c (map (mail n) l) q

@@ -59,7 +59,7 @@ module _ (n f : ℕ) (room : ℕ → Bool) (σ : K.Cluster) where
       (demands (K.holds (K.stands σ c)) 4 refl (demands (K.holds (K.mayStop n f σ)) 10 refl h))
 
 pub comes-up : (n f : ℕ) (room : ℕ → Bool) (σ : K.Cluster) (e : H.Event) (r : Result)
-    → SameResult n r (K.event n f room e σ) → ComesUp (r .answer)
+    → SameResult n f r (K.event n f room e σ) → ComesUp (r .answer)
 comes-up n f room σ e r same = go (r .answer) (r .view) (same .answer)
   where
     go : (x : Answer Ending) (v : View) → responseOf n v x ≡ K.event n f room e σ .answer → ComesUp x

@@ -1,6 +1,6 @@
 -- For each clause of demand 2 on the bytes, a house that it rules out. It is the house of the code but for the bytes
 -- that it shows, which differ in one thing.
-use Prim.Native.Nat.{ℕ, _≤_}
+use Prim.Native.Nat.{ℕ, _+_, _≤_, _<_}
 use native.Mathlib.Decide.{ℕ-discrete, decLe, decLt}
 use native.Mathlib.Omega.{arith}
 use mathlib.Core.Path.{_≡_, refl, sym, ap, _∙_, subst}
@@ -14,7 +14,6 @@ use Rattle.logs.specs.Update.{upd, upd2}
 use Rattle.octets.specs.Test.{pick}
 use Rattle.view.specs.Size.{nodes}
 use Rattle.view.specs.Report.{noReport}
-use Rattle.table.specs.Quorum.{faults}
 use Rattle.table.specs.Table.{tagOf, cells}
 use Rattle.record.specs.Record.{blank}
 use Rattle.record.specs.declared.Operation.the-variants.{Update, Scan}
@@ -48,20 +47,19 @@ abbrev showing : (List ℕ → List ℕ) → House → House
 showing f h = record { opened = h .opened; bytes = λ es. f (h .bytes es); next = h .next; seen = h .seen }
 
 -- The block of a node after some events, and the same changed.
-module _ (n : ℕ) (low : 1 ≤ n) (small : n ≤ nodes) (b : List ℕ) (long : length b ≡ clusterSize n) (es : List Event)
-    (c : ℕ)
-    (is-node : OneTo n c) where
-  block-size : length (block (bytesAfter n b es) c) ≡ blockSize
-  block-size = run-mirrors n low small b long es .shows .says c is-node .size
+module _ (n f : ℕ) (low : 1 ≤ n) (small : n ≤ nodes) (half : f + f < n) (b : List ℕ) (long : length b ≡ clusterSize n)
+    (es : List Event) (c : ℕ) (is-node : OneTo n c) where
+  block-size : length (block (bytesAfter n f b es) c) ≡ blockSize
+  block-size = run-mirrors n f low small half b long es .shows .says c is-node .size
 
-  block-stop : hasStopped (block (bytesAfter n b es) c)
-      ≡ K.after n (faults n) channelRoom K.start (map meaning es) .stopped c
-  block-stop = run-mirrors n low small b long es .shows .says c is-node .stop
+  block-stop : hasStopped (block (bytesAfter n f b es) c)
+      ≡ K.after n f channelRoom K.start (map meaning es) .stopped c
+  block-stop = run-mirrors n f low small half b long es .shows .says c is-node .stop
 
-  changed : (f : List ℕ → List ℕ) → length (f (block (bytesAfter n b es) c)) ≡ blockSize
-      → block (onBlock c f (bytesAfter n b es)) c ≡ f (block (bytesAfter n b es) c)
-  changed f size = block-same (bytesAfter n b es) c (is-node .0)
-      (omega (arith, run-mirrors n low small b long es .shows .long)) f size
+  changed : (g : List ℕ → List ℕ) → length (g (block (bytesAfter n f b es) c)) ≡ blockSize
+      → block (onBlock c g (bytesAfter n f b es)) c ≡ g (block (bytesAfter n f b es) c)
+  changed g size = block-same (bytesAfter n f b es) c (is-node .0)
+      (omega (arith, run-mirrors n f low small half b long es .shows .long)) g size
 
 -- One node begins a scan: it stands, and its read waits.
 abbrev scanning : List Event
@@ -95,22 +93,23 @@ module _ (b : List ℕ) (long : length b ≡ clusterSize 1) where
   one = (omega arith, omega arith)
 
   abbrev k : List ℕ
-  k = block (bytesAfter 1 b scanning) 1
+  k = block (bytesAfter 1 0 b scanning) 1
 
   size : length k ≡ blockSize
-  size = block-size 1 (omega arith) (omega arith) b long scanning 1 one
+  size = block-size 1 0 (omega arith) (omega arith) (omega arith) b long scanning 1 one
 
-  there : (f : List ℕ → List ℕ) → length (f k) ≡ blockSize → block (onBlock 1 f (bytesAfter 1 b scanning)) 1 ≡ f k
-  there = changed 1 (omega arith) (omega arith) b long scanning 1 one
+  there : (f : List ℕ → List ℕ) → length (f k) ≡ blockSize → block (onBlock 1 f (bytesAfter 1 0 b scanning)) 1 ≡ f k
+  there = changed 1 0 (omega arith) (omega arith) (omega arith) b long scanning 1 one
 
-  stands : stopped (traceOf 1 b scanning) 1 ≡ false
-  stands = ap (λ tr. stopped tr 1) (run-trace 1 (omega arith) (omega arith) b long scanning) ∙ none-stops
+  stands : stopped (traceOf 1 0 b scanning) 1 ≡ false
+  stands = ap (λ tr. stopped tr 1) (run-trace 1 0 (omega arith) (omega arith) (omega arith) b long scanning)
+      ∙ none-stops
 
   -- The stop byte says that the node has stopped. Its record and its channels are as they were.
   abbrev flagged : List ℕ → List ℕ
   flagged t = set t 0 1
 
-  pub stops-out : ¬ Demand2Of 1 (showing (onBlock 1 flagged) (houseOf 1 b))
+  pub stops-out : ¬ Demand2Of 1 0 (showing (onBlock 1 flagged) (houseOf 1 0 b))
   stops-out d = false≢true (sym (d .stops scanning 1 one ∙ stands)
       ∙ ap hasStopped (there flagged (length-set k 0 1 ∙ size))
       ∙ ap (ltb 0) (getD-set-same k 0 1 0 (omega (arith, size))))
@@ -119,40 +118,62 @@ module _ (b : List ℕ) (long : length b ≡ clusterSize 1) where
   abbrev lost : List ℕ → List ℕ
   lost = onChannel 1 clear
 
-  pub holds-out : ¬ Demand2Of 1 (showing (onBlock 1 lost) (houseOf 1 b))
+  pub holds-out : ¬ Demand2Of 1 0 (showing (onBlock 1 lost) (houseOf 1 0 b))
   holds-out d = subst (EachEncodes 1 1 [])
-      (ap (λ tr. waits tr 1 1) (run-trace 1 (omega arith) (omega arith) b long scanning) ∙ read-waits)
-      (subst (λ l. EachEncodes 1 1 l (waits (traceOf 1 b scanning) 1 1)) none (d .holds scanning 1 1 one one stands))
+      (ap (λ tr. waits tr 1 1) (run-trace 1 0 (omega arith) (omega arith) (omega arith) b long scanning) ∙ read-waits)
+      (subst (λ l. EachEncodes 1 1 l (waits (traceOf 1 0 b scanning) 1 1)) none (d .holds scanning 1 1 one one stands))
     where
       keeps : (t : List ℕ) → length t ≡ channelSize → length (clear t) ≡ channelSize
       keeps t e = length-clear t ∙ e
 
-      is : block (onBlock 1 lost (bytesAfter 1 b scanning)) 1 ≡ lost k
+      is : block (onBlock 1 lost (bytesAfter 1 0 b scanning)) 1 ≡ lost k
       is = there lost (channel-length k size clear keeps 1 (omega arith) (omega arith))
 
-      none : waiting (λ s. s) (channelIn (block (onBlock 1 lost (bytesAfter 1 b scanning)) 1) 1) ≡ []
+      none : waiting (λ s. s) (channelIn (block (onBlock 1 lost (bytesAfter 1 0 b scanning)) 1) 1) ≡ []
       none = ap (λ t. waiting (λ s. s) (channelIn t 1)) is
           ∙ ap (waiting (λ s. s)) (channel-same k size clear keeps 1 (omega arith) (omega arith))
           ∙ waiting-clear (λ s. s) (channelIn k 1) (omega (arith, channel-size k size 1 (omega arith) (omega arith)))
 
   -- The record is always the fresh one, with no report in it. The stop byte and the channels are as they were.
-  pub remembers-out : ¬ Demand2Of 1 (showing (onBlock 1 (keepRecord (blank 1 1))) (houseOf 1 b))
+  pub remembers-out : ¬ Demand2Of 1 0 (showing (onBlock 1 (keepRecord (blank 1 0 1))) (houseOf 1 0 b))
   remembers-out d =
-      let wrong : _≡_ {A = ℕ} 0 1 = sym (ap (λ e. e .tag) (follows-fresh 1 1 .last 1 one) ∙ no-last)
+      let wrong : _≡_ {A = ℕ} 0 1 = sym (ap (λ e. e .tag) (follows-fresh 1 0 1 .last 1 one) ∙ no-last)
       ∙ ap (λ c. tagOf (c .last) 1) (sym is) ∙ ap (λ e. e .tag) (d .remembers posting 1 one .last 1 one) ∙ last-tag in
       omega (arith, wrong)
     where
-      heard : length (blank 1 1 .heard) ≡ cells
-      heard = follows-fresh 1 1 .heard-size
+      heard : length (blank 1 0 1 .heard) ≡ cells
+      heard = follows-fresh 1 0 1 .heard-size
 
-      size-posted : length (block (bytesAfter 1 b posting) 1) ≡ blockSize
-      size-posted = block-size 1 (omega arith) (omega arith) b long posting 1 one
+      size-posted : length (block (bytesAfter 1 0 b posting) 1) ≡ blockSize
+      size-posted = block-size 1 0 (omega arith) (omega arith) (omega arith) b long posting 1 one
 
-      is : node (onBlock 1 (keepRecord (blank 1 1)) (bytesAfter 1 b posting)) 1 ≡ blank 1 1
-      is = ap (λ t. recordOf (recordIn t)) (changed 1 (omega arith) (omega arith) b long posting 1 one
-          (keepRecord (blank 1 1)) (keepRecord-length (block (bytesAfter 1 b posting) 1) size-posted (blank 1 1) heard))
-          ∙ ap recordOf (keepRecord-record (block (bytesAfter 1 b posting) 1) size-posted (blank 1 1) heard)
-          ∙ record-back (blank 1 1) (sized-node (follows-fresh 1 1))
+      is : node (onBlock 1 (keepRecord (blank 1 0 1)) (bytesAfter 1 0 b posting)) 1 ≡ blank 1 0 1
+      is = ap (λ t. recordOf (recordIn t)) (changed 1 0 (omega arith) (omega arith) (omega arith) b long posting 1 one
+          (keepRecord (blank 1 0 1))
+          (keepRecord-length (block (bytesAfter 1 0 b posting) 1) size-posted (blank 1 0 1) heard))
+          ∙ ap recordOf (keepRecord-record (block (bytesAfter 1 0 b posting) 1) size-posted (blank 1 0 1) heard)
+          ∙ record-back (blank 1 0 1) (sized-node (follows-fresh 1 0 1))
+
+-- The record of node 1 of three says that none may stop, and the house was made with f = 1.
+module _ (b : List ℕ) (long : length b ≡ clusterSize 3) where
+  first : OneTo 3 1
+  first = (omega arith, omega arith)
+
+  pub faults-out : ¬ Demand2Of 3 1 (showing (onBlock 1 (keepRecord (blank 3 0 1))) (houseOf 3 1 b))
+  faults-out d =
+      let wrong : _≡_ {A = ℕ} 0 1 = ap (λ c. c .f) (sym is) ∙ d .remembers [] 1 first .faults in omega (arith, wrong)
+    where
+      heard : length (blank 3 0 1 .heard) ≡ cells
+      heard = follows-fresh 3 0 1 .heard-size
+
+      start-size : length (block (bytesAfter 3 1 b []) 1) ≡ blockSize
+      start-size = block-size 3 1 (omega arith) (omega arith) (omega arith) b long [] 1 first
+
+      is : node (onBlock 1 (keepRecord (blank 3 0 1)) (bytesAfter 3 1 b [])) 1 ≡ blank 3 0 1
+      is = ap (λ t. recordOf (recordIn t)) (changed 3 1 (omega arith) (omega arith) (omega arith) b long [] 1 first
+          (keepRecord (blank 3 0 1)) (keepRecord-length (block (bytesAfter 3 1 b []) 1) start-size (blank 3 0 1) heard))
+          ∙ ap recordOf (keepRecord-record (block (bytesAfter 3 1 b []) 1) start-size (blank 3 0 1) heard)
+          ∙ record-back (blank 3 0 1) (sized-node (follows-fresh 3 0 1))
 
 -- Something is left in the channel from node 1 to node 2 of three where node 2 has stopped.
 abbrev counted : List ℕ → List ℕ
@@ -177,33 +198,33 @@ module _ (b : List ℕ) (long : length b ≡ clusterSize 3) where
   two = (omega arith, omega arith)
 
   abbrev k2 : List ℕ
-  k2 = block (bytesAfter 3 b es) 2
+  k2 = block (bytesAfter 3 1 b es) 2
 
-  pub empty-out : ¬ Demand2Of 3 (showing (onBlock 2 left) (houseOf 3 b))
+  pub empty-out : ¬ Demand2Of 3 1 (showing (onBlock 2 left) (houseOf 3 1 b))
   empty-out d =
       let none = d .empty es 1 2 (omega arith, omega arith) two
-      (ap (λ tr. stopped tr 2) (run-trace 3 (omega arith) (omega arith) b long es) ∙ two-stopped) in
+      (ap (λ tr. stopped tr 2) (run-trace 3 1 (omega arith) (omega arith) (omega arith) b long es) ∙ two-stopped) in
       let wrong : _≡_ {A = ℕ} 0 1 = ap length (sym none)
-      ∙ length-waiting (λ s. s) (channelIn (block (onBlock 2 left (bytesAfter 3 b es)) 2) 1) ∙ some in
+      ∙ length-waiting (λ s. s) (channelIn (block (onBlock 2 left (bytesAfter 3 1 b es)) 2) 1) ∙ some in
       omega (arith, wrong)
     where
       size2 : length k2 ≡ blockSize
-      size2 = block-size 3 (omega arith) (omega arith) b long es 2 two
+      size2 = block-size 3 1 (omega arith) (omega arith) (omega arith) b long es 2 two
 
       keeps : (t : List ℕ) → length t ≡ channelSize → length (counted t) ≡ channelSize
       keeps t e = length-set t 0 1 ∙ e
 
       down : hasStopped k2 ≡ true
-      down = block-stop 3 (omega arith) (omega arith) b long es 2 two ∙ two-stops
+      down = block-stop 3 1 (omega arith) (omega arith) (omega arith) b long es 2 two ∙ two-stops
 
       left-is : left k2 ≡ onChannel 1 counted k2
       left-is = ap (λ s. pick s (onChannel 1 counted k2) k2) down
 
-      is : block (onBlock 2 left (bytesAfter 3 b es)) 2 ≡ onChannel 1 counted k2
-      is = changed 3 (omega arith) (omega arith) b long es 2 two left
+      is : block (onBlock 2 left (bytesAfter 3 1 b es)) 2 ≡ onChannel 1 counted k2
+      is = changed 3 1 (omega arith) (omega arith) (omega arith) b long es 2 two left
           (ap length left-is ∙ channel-length k2 size2 counted keeps 1 (omega arith) (omega arith)) ∙ left-is
 
-      some : getD (channelIn (block (onBlock 2 left (bytesAfter 3 b es)) 2) 1) 0 0 ≡ 1
+      some : getD (channelIn (block (onBlock 2 left (bytesAfter 3 1 b es)) 2) 1) 0 0 ≡ 1
       some = ap (λ t. getD (channelIn t 1) 0 0) is
           ∙ ap (λ t. getD t 0 0) (channel-same k2 size2 counted keeps 1 (omega arith) (omega arith))
           ∙ getD-set-same (channelIn k2 1) 0 1 0 (omega (arith, channel-size k2 size2 1 (omega arith) (omega arith)))

@@ -27,14 +27,14 @@ use Rattle.mirror.proofs.Run.{run-trace}
 abbrev closed : House → House
 closed h = record { opened = refused 12; bytes = h .bytes; next = h .next; seen = h .seen }
 
-pub taken-out : (h : House) → ¬ Demand2Of 1 (closed h)
+pub taken-out : (h : House) → ¬ Demand2Of 1 0 (closed h)
 taken-out h d = subst IsResult (sym (d .taken)) tt
 
 -- Every event is refused with 7 as if its message were damaged, when asked for after a list; no trace shows it.
 abbrev damaged : House → House
 damaged h = record { opened = h .opened; bytes = h .bytes; next = λ es e. refuse 7 (h .bytes es); seen = h .seen }
 
-pub refusals-out : (h : House) → ¬ Demand2Of 1 (damaged h)
+pub refusals-out : (h : House) → ¬ Demand2Of 1 0 (damaged h)
 refusals-out h d = false≢true (d .refusals [] (stop 1))
 
 -- Every event of a cluster of one node gives out a report of a node 2; no trace shows it.
@@ -47,7 +47,7 @@ shownPast r = record { bytes = r .bytes; answer = r .answer; view = beyond; sent
 abbrev boasting : House → House
 boasting h = record { opened = h .opened; bytes = h .bytes; next = λ es e. shownPast (h .next es e); seen = h .seen }
 
-pub absent-past-out : (h : House) → ¬ Demand2Of 1 (boasting h)
+pub absent-past-out : (h : House) → ¬ Demand2Of 1 0 (boasting h)
 absent-past-out h d =
     let wrong : _≡_ {A = ℕ} 1 0 = d .absent-past [] (stop 1) .no-tag 1 (omega arith) in
     omega (arith, wrong)
@@ -72,10 +72,10 @@ nothing-waits : trace 1 0 channelRoom (H.deliver 1 1 H.whole ∷ [])
 unfolding traceFrom K.event ℕ-discrete decLe decLt decide
 nothing-waits = refl
 
-pub same-out : (b : List ℕ) → length b ≡ clusterSize 1 → ¬ Demand2Of 1 (mumbling (houseOf 1 b))
+pub same-out : (b : List ℕ) → length b ≡ clusterSize 1 → ¬ Demand2Of 1 0 (mumbling (houseOf 1 0 b))
 same-out b long d =
     let es = deliver 1 1 Whole ∷ [] in
-    let real = run-trace 1 (omega arith) (omega arith) b long es ∙ nothing-waits in
+    let real = run-trace 1 0 (omega arith) (omega arith) (omega arith) b long es ∙ nothing-waits in
     let told = ap (map mumbled) (sym real) ∙ d .same es ∙ nothing-waits in
     let wrong : _≡_ {A = ℕ} 3 8 = ap (λ tr. number (at tr 0 .answer)) told in
     omega (arith, wrong)

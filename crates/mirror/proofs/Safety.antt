@@ -19,14 +19,14 @@ use Rattle.refine.specs.Follows.{Follows}
 use Rattle.mirror.proofs.Lawful.{each-allowed}
 use Rattle.mirror.proofs.Settle.{Safe}
 
-long-node : {n i : ℕ} {ν : A.Node} {c : Node} → Follows n i ν c → Long c
+long-node : {n f i : ℕ} {ν : A.Node} {c : Node} → Follows n f i ν c → Long c
 long-node F = record {
   last = (F .last-size .tags, F .last-size .reports);
   atmax = (F .atmax-size .tags, F .atmax-size .reports);
   atround = (F .atround-size .tags, F .atround-size .reports);
 }
 
-module _ {n i : ℕ} (small : n ≤ nodes) {ν : A.Node} {c : Node} (F : Follows n i ν c) (u : usable c ≡ true) (f : ℕ) where
+module _ {n f i : ℕ} (small : n ≤ nodes) {ν : A.Node} {c : Node} (F : Follows n f i ν c) (u : usable c ≡ true) where
   pub message-safe : (k : ℕ) → OneTo n k → (m : Message) (v : View) → lawful n m v ≡ true
       → Safe n (messageStep f c k m v)
   message-safe k (lo, hi) m v h =

@@ -16,7 +16,6 @@ use Rattle.view.specs.Size.{isSize, nodes}
 use Rattle.view.specs.View.{viewBytes, noView}
 use Rattle.wire.specs.Layout.{allowed}
 use Rattle.wire.specs.declared.Message.{Message}
-use Rattle.table.specs.Quorum.{faults}
 use Rattle.record.specs.Usable.{usable}
 use Rattle.step.specs.Step.{messages}
 use Rattle.step.specs.declared.Ending.the-variants.{None}
@@ -53,16 +52,16 @@ pub tells-true : {b c : Bool} → b ≡ c → Tells b (c ≡ true)
 tells-true {b} {c} e = (λ h. e ∙ h, λ h. e ∙ not-true-false c h)
 
 -- A refusal leaves both as they were.
-pub same-refusal : {n : ℕ} {b : List ℕ} {σ : K.Cluster} → Mirrors n b σ → (k : ℕ)
-    → SameResult n (E.refuse k b) (K.refuse k σ)
+pub same-refusal : {n f : ℕ} {b : List ℕ} {σ : K.Cluster} → Mirrors n f b σ → (k : ℕ)
+    → SameResult n f (E.refuse k b) (K.refuse k σ)
 same-refusal m k = record { answer = refl; sent = refl; mirrors = m }
 
-module _ {n : ℕ} (small : n ≤ nodes) (sized : isSize n ≡ true) (a c : ℕ) (from : OneTo n a) (node : OneTo n c)
-    {σ : K.Cluster} (x : Extent) (few : count (K.halted (extentOf x) c (σ .stopped)) n ≤ faults n)
-    {b found : List ℕ} (mirror : Mirrors n b σ) (q : ℕ → ℕ → List M.Message)
-    (S : Shows n found (σ .nodes) (σ .stopped) q)
+module _ {n f : ℕ} (small : n ≤ nodes) (sized : isSize n ≡ true) (a c : ℕ) (from : OneTo n a) (node : OneTo n c)
+    {σ : K.Cluster} (x : Extent) (few : count (K.halted (extentOf x) c (σ .stopped)) n ≤ f)
+    {b found : List ℕ} (mirror : Mirrors n f b σ) (q : ℕ → ℕ → List M.Message)
+    (S : Shows n f found (σ .nodes) (σ .stopped) q)
     (gone : Gone (σ .stopped) q) (room : (a d : ℕ) → OneTo n a → OneTo n d → length (q a d) ≤ capacity)
-    (s : Step) (t : A.Step) (same : SameStep n c a s t) (safe : Safe n s) where
+    (s : Step) (t : A.Step) (same : SameStep n f c a s t) (safe : Safe n s) where
   abbrev stopped : ℕ → Bool
   stopped = K.halted (extentOf x) c (σ .stopped)
 
@@ -96,23 +95,25 @@ module _ {n : ℕ} (small : n ≤ nodes) (sized : isSize n ≡ true) (a c : ℕ)
   mid-end = ap (λ l. K.channels stopped c l mid) (same-out x)
       ∙ channels-emptied stopped c (K.shortened (extentOf x) (K.entries n (t .sent))) q
 
-  after-step : Shows n (O.stepped n c x (s .node) found) (upd (σ .nodes) c (t .node)) stopped mid
+  after-step : Shows n f (O.stepped n c x (s .node) found) (upd (σ .nodes) c (t .node)) stopped mid
   after-step = shows-step small S c node x (same .node) (safe .node) gone
 
   -- The event is accepted.
-  accepts : K.roomy channelRoom c n end ≡ true → SameResult n (E.commit n a c x s found)
+  accepts : K.roomy channelRoom c n end ≡ true → SameResult n f (E.commit n a c x s found)
       (K.commit c (extentOf x) t (K.shortened (extentOf x) (K.entries n (t .sent))) q σ)
   accepts e = record {
     answer = answers x;
     sent = same-out x;
     mirrors = record {
-      shows = subst (Shows n (O.letOut n c out (O.stepped n c x (s .node) found)) (upd (σ .nodes) c (t .node)) stopped)
+      shows = subst
+          (Shows n f (O.letOut n c out (O.stepped n c x (s .node) found)) (upd (σ .nodes) c (t .node)) stopped)
           mid-end
           (shows-out small sized c node out after-step (emptied-gone stopped q) (fits-out x)
           (room-of small after-step c node out (ap (K.roomy channelRoom c n) mid-end ∙ e)));
       room = λ a d p o. fits a d p o (stopped d) refl (ℕ-discrete a c);
       gone = λ a d h. channel-stopped stopped c (K.shortened (extentOf x) (K.entries n (t .sent))) q a d h;
       few = few;
+      half = mirror .half;
     };
   }
     where
@@ -130,8 +131,8 @@ module _ {n : ℕ} (small : n ≤ nodes) (sized : isSize n ≡ true) (a c : ℕ)
       fits a d p o false h (yes z) = rw z (roomy-at c end n e d o)
       fits a d p o false h (no z) = rw (channel-other stopped c l q a d h z) (room a d p o)
 
-  pub settles : SameResult n (E.settle n a c x s found b) (K.settle n channelRoom c (extentOf x) t q σ)
+  pub settles : SameResult n f (E.settle n a c x s found b) (K.settle n channelRoom c (extentOf x) t q σ)
   unfolding E.settle
-  settles = same-side (SameResult n) (Bool-discrete (K.roomy channelRoom c n end) true)
+  settles = same-side (SameResult n f) (Bool-discrete (K.roomy channelRoom c n end) true)
       (tells-true (same-roomy small after-step c node out ∙ ap (K.roomy channelRoom c n) mid-end)) accepts
       (λ e. same-refusal mirror 11)

@@ -10,7 +10,6 @@ use Rattle.logs.specs.Count as C
 use Rattle.logs.proofs.Count.{count-one}
 use Rattle.logs.specs.Update.{upd}
 use Rattle.logs.proofs.Update.{upd-self}
-use Rattle.table.specs.Quorum.{faults}
 use Rattle.region.specs.Channel.{capacity}
 use Rattle.block.specs.Block.{halt}
 use Rattle.layout.specs.Layout.{onBlock}
@@ -23,16 +22,17 @@ use Rattle.mirror.specs.Mirrors.{Shows, Mirrors}
 use Rattle.mirror.proofs.Channels.{channel-stopped, channels-none, emptied, emptied-gone, channels-emptied}
 use Rattle.mirror.proofs.Shows.{shows-halt}
 
-pub stop-mirrors : {n : ℕ} → n ≤ nodes → {b : List ℕ} {σ : K.Cluster} → Mirrors n b σ → (c : ℕ) → OneTo n c
-    → C.count (σ .stopped) n < faults n
-    → Mirrors n (onBlock c (halt n) b) (K.commit c (H.cut 0) (A.still (σ .nodes c)) [] (σ .channel) σ .cluster)
-stop-mirrors {n} small {b} {σ} mirror c o may = record {
-  shows = subst (λ ν. Shows n (onBlock c (halt n) b) ν stopped end) (sym (upd-self (σ .nodes) c))
-      (subst (Shows n (onBlock c (halt n) b) (σ .nodes) stopped) same
+pub stop-mirrors : {n f : ℕ} → n ≤ nodes → {b : List ℕ} {σ : K.Cluster} → Mirrors n f b σ → (c : ℕ) → OneTo n c
+    → C.count (σ .stopped) n < f
+    → Mirrors n f (onBlock c (halt n) b) (K.commit c (H.cut 0) (A.still (σ .nodes c)) [] (σ .channel) σ .cluster)
+stop-mirrors {n} {f} small {b} {σ} mirror c o may = record {
+  shows = subst (λ ν. Shows n f (onBlock c (halt n) b) ν stopped end) (sym (upd-self (σ .nodes) c))
+      (subst (Shows n f (onBlock c (halt n) b) (σ .nodes) stopped) same
       (shows-halt small (mirror .shows) c o (mirror .gone)));
   room = λ a d p h. subst (λ q. length (q a d) ≤ capacity) same (low a d p h (stopped d));
   gone = λ a d h. channel-stopped stopped c [] (σ .channel) a d h;
   few = omega (arith, count-one (σ .stopped) c n);
+  half = mirror .half;
 }
   where
     stopped : ℕ → Bool

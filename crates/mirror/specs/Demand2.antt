@@ -7,7 +7,6 @@ use mathlib.Core.Bool.{true, false}
 use mathlib.Core.List.{List, [], map}
 use Rattle.octets.specs.Answer.{Answer, result}
 use Rattle.view.specs.View.{AbsentPast}
-use Rattle.table.specs.Quorum.{faults}
 use Rattle.step.specs.declared.Ending.{Ending}
 use Rattle.step.specs.declared.Ending.the-variants.{None}
 use Rattle.region.specs.Channel.{waiting}
@@ -24,8 +23,8 @@ use Rattle.mirror.specs.Encodes.{EachEncodes}
 use Rattle.mirror.specs.Run.{Event, event, after, meaning, traceOf, ComesUp}
 
 -- The bytes after the events, and the slots of the channel from node a to node c, oldest first.
-abbrev pub bytesAfter : ℕ → List ℕ → List Event → List ℕ
-bytesAfter n b es = after (fresh n b .bytes) es
+abbrev pub bytesAfter : (n f : ℕ) → List ℕ → List Event → List ℕ
+bytesAfter n f b es = after (fresh n f b .bytes) es
 
 abbrev pub slots : List ℕ → ℕ → ℕ → List (List ℕ)
 slots b a c = waiting (λ s. s) (channel b a c)
@@ -39,18 +38,18 @@ pub record House : Type 0 where
   pub seen : List Event → Trace
 
 -- The house of the code.
-abbrev pub houseOf : ℕ → List ℕ → House
-houseOf n b = record {
-  opened = fresh n b .answer;
-  bytes = bytesAfter n b;
-  next = λ es e. event e (bytesAfter n b es);
-  seen = traceOf n b;
+abbrev pub houseOf : (n f : ℕ) → List ℕ → House
+houseOf n f b = record {
+  opened = fresh n f b .answer;
+  bytes = bytesAfter n f b;
+  next = λ es e. event e (bytesAfter n f b es);
+  seen = traceOf n f b;
 }
 
-pub record Demand2Of (n : ℕ) (h : House) : Type 0 where
+pub record Demand2Of (n f : ℕ) (h : House) : Type 0 where
   pub taken : h .opened ≡ result None
   -- Event by event the same answer, with the ending and its view, and the same list of entries let out.
-  pub same : (es : List Event) → h .seen es ≡ trace n (faults n) channelRoom (map meaning es)
+  pub same : (es : List Event) → h .seen es ≡ trace n f channelRoom (map meaning es)
   -- Refusals 1, 2, 7, 9 and 12 do not come up.
   pub refusals : (es : List Event) (e : Event) → ComesUp (h .next es e .answer)
   -- A view that is given out has nothing past n.
@@ -68,7 +67,7 @@ pub record Demand2Of (n : ℕ) (h : House) : Type 0 where
   -- remember: of each writer the last report, the newest up to maxtag and, while a round is open, the newest up to its
   -- tag; the tags heard; the good view that is kept; and the wait with its numbers.
   pub remembers : (es : List Event) (c : ℕ) → OneTo n c
-      → Follows n c (K.after n (faults n) channelRoom K.start (map meaning es) .nodes c) (node (h .bytes es) c)
+      → Follows n f c (K.after n f channelRoom K.start (map meaning es) .nodes c) (node (h .bytes es) c)
 
-abbrev pub Demand2 : ℕ → List ℕ → Type 0
-Demand2 n b = Demand2Of n (houseOf n b)
+abbrev pub Demand2 : (n f : ℕ) → List ℕ → Type 0
+Demand2 n f b = Demand2Of n f (houseOf n f b)

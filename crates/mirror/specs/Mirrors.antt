@@ -1,5 +1,5 @@
 -- When a cluster's bytes mirror a cluster over sets: block by block, its stop flag, its record and what waits for it.
-use Prim.Native.Nat.{ℕ, _≤_}
+use Prim.Native.Nat.{ℕ, _+_, _≤_, _<_}
 use mathlib.Core.Path.{_≡_}
 use mathlib.Core.Bool.{Bool, true}
 use mathlib.Core.List.{List, [], map}
@@ -10,11 +10,10 @@ use Rattle.view.specs.View.{viewOf}
 use Rattle.view.specs.declared.View.{View}
 use Rattle.wire.specs.Codec.{front, viewAt}
 use Rattle.wire.specs.declared.Message.{Message}
-use Rattle.table.specs.Quorum.{faults}
 use Rattle.region.specs.Channel.{capacity, waiting}
 use Rattle.block.specs.Block.{blockSize, hasStopped, recordIn, channelIn, nodeIn, recordSound}
 use Rattle.outgoing.specs.Entries.{Entry}
-use Rattle.layout.specs.Layout.{clusterSize, stated, block}
+use Rattle.layout.specs.Layout.{clusterSize, stated, faultsIn, block}
 use Rattle.outgoing.specs.declared.Extent.{Extent}
 use Rattle.outgoing.specs.declared.Extent.the-variants.{Whole, Cut}
 use Rattle.history.specs.Message as M
@@ -49,24 +48,26 @@ extentOf Whole = H.whole
 extentOf (Cut m) = H.cut m
 
 -- The block of node c: its sets, whether it has stopped, and what waits on its channel from each node, oldest first.
-pub record Says (n c : ℕ) (k : List ℕ) (ν : A.Node) (stopped : Bool) (channel : ℕ → List M.Message) : Type 0 where
+pub record Says (n f c : ℕ) (k : List ℕ) (ν : A.Node) (stopped : Bool) (channel : ℕ → List M.Message) : Type 0 where
   pub size : length k ≡ blockSize
-  pub node : Follows n c ν (nodeIn k)
-  pub sound : recordSound n c (recordIn k) ≡ true
+  pub node : Follows n f c ν (nodeIn k)
+  pub sound : recordSound n f c (recordIn k) ≡ true
   pub stop : hasStopped k ≡ stopped
   pub waits : (a : ℕ) → OneTo n a → waiting (meant n c) (channelIn k a) ≡ map result (channel a)
 
--- The bytes of a cluster of n nodes.
-pub record Shows (n : ℕ) (b : List ℕ) (nodes : ℕ → A.Node) (stopped : ℕ → Bool)
+-- The bytes of a cluster of n nodes, f of which may stop.
+pub record Shows (n f : ℕ) (b : List ℕ) (nodes : ℕ → A.Node) (stopped : ℕ → Bool)
     (channel : ℕ → ℕ → List M.Message) : Type 0 where
   pub long : length b ≡ clusterSize n
   pub states : stated b ≡ n
-  pub says : (c : ℕ) → OneTo n c → Says n c (block b c) (nodes c) (stopped c) (λ a. channel a c)
+  pub faults : faultsIn b ≡ f
+  pub says : (c : ℕ) → OneTo n c → Says n f c (block b c) (nodes c) (stopped c) (λ a. channel a c)
 
 -- Bytes b mirror cluster σ: they show it, no channel holds more than its capacity, nothing waits for a node that has
--- stopped, and at most f have.
-pub record Mirrors (n : ℕ) (b : List ℕ) (σ : Cluster) : Type 0 where
-  pub shows : Shows n b (σ .nodes) (σ .stopped) (σ .channel)
+-- stopped, at most f have, and 2f < n.
+pub record Mirrors (n f : ℕ) (b : List ℕ) (σ : Cluster) : Type 0 where
+  pub shows : Shows n f b (σ .nodes) (σ .stopped) (σ .channel)
   pub room : (a c : ℕ) → OneTo n a → OneTo n c → length (σ .channel a c) ≤ capacity
   pub gone : (a c : ℕ) → σ .stopped c ≡ true → σ .channel a c ≡ []
-  pub few : C.count (σ .stopped) n ≤ faults n
+  pub few : C.count (σ .stopped) n ≤ f
+  pub half : f + f < n

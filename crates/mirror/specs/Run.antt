@@ -47,8 +47,8 @@ traceFrom n b [] = []
 traceFrom n b (e ∷ es) = seen n e (event e b) ∷ traceFrom n (event e b .bytes) es
 
 -- The run from what fresh makes of lent bytes b.
-abbrev pub traceOf : ℕ → List ℕ → List Event → Trace
-traceOf n b es = traceFrom n (E.fresh n b .bytes) es
+abbrev pub traceOf : (n f : ℕ) → List ℕ → List Event → Trace
+traceOf n f b es = traceFrom n (E.fresh n f b .bytes) es
 
 -- The refusals that come up in a run. The others do not: 1 is for fresh, 2, 7 and 9 are for bytes that no run makes,
 -- and 12 is for a lent length.

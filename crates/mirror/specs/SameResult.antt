@@ -16,7 +16,7 @@ abbrev pub responseOf : ℕ → View → Answer Ending → H.Response
 responseOf n v (result e) = H.accepted (endingOf n v e)
 responseOf n v (refused k) = H.refused k
 
-pub record SameResult (n : ℕ) (r : Result) (t : K.Result) : Type 0 where
+pub record SameResult (n f : ℕ) (r : Result) (t : K.Result) : Type 0 where
   pub answer : responseOf n (r .view) (r .answer) ≡ t .answer
   pub sent : map (mail n) (r .sent) ≡ t .sent
-  pub mirrors : Mirrors n (r .bytes) (t .cluster)
+  pub mirrors : Mirrors n f (r .bytes) (t .cluster)

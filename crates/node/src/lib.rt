@@ -8,6 +8,7 @@ use record::blank_node;
 use record::usable::has_open;
 use record::usable::is_full;
 use record::usable::is_usable;
+use record::usable::sizes_within;
 pub use reply::Reply;
 pub use reply::Said;
 use reply::let_out;
@@ -15,7 +16,6 @@ use reply::refused_reply;
 use step_value::begin_step;
 use step_value::is_stale_message;
 use step_value::message_step;
-use table::quorum::most_faults;
 use view::View;
 use view::absent;
 use view::read_view;
@@ -34,22 +34,19 @@ ghost use Rattle.wire.specs.Layout.{allowed};
 ghost use Rattle.calls.specs.Entry.{leastOutput, fresh, begin, beside, taken, message};
 ghost use Rattle.reply.specs.Tells.{tells};
 
-// A fresh record of node `own` of n.
-pub fn fresh(n: usize, own: usize) -> Reply
-    ensures { λ r. ⌜ tells r [] (fresh n own) ⌝ }
+// A fresh record of node `own` of n, f of which may stop.
+pub fn fresh(n: usize, f: usize, own: usize) -> Reply
+    ensures { λ r. ⌜ tells r [] (fresh n f own) ⌝ }
 {
-    if wire::is_size(n) {
-        if and(1 <= own, own <= n) {
-            return Reply {
-                said: Said::Going,
-                node: blank_node(n, own),
-                view: absent(),
-                length: 0,
-            };
-        }
-        return refused_reply(1, blank_node(0, 0));
+    if sizes_within(n, f, own) {
+        return Reply {
+            said: Said::Going,
+            node: blank_node(n, f, own),
+            view: absent(),
+            length: 0,
+        };
     }
-    refused_reply(1, blank_node(0, 0))
+    refused_reply(1, blank_node(0, 0, 0))
 }
 
 // Begins an operation; the messages go to `out`.
@@ -67,7 +64,7 @@ pub fn begin(c: Node, o: Operation, out: &mut [u8]) -> Reply
         if is_full(c) {
             return refused_reply(6, c);
         }
-        return let_out(begin_step(most_faults(c.n), c, o), out);
+        return let_out(begin_step(c.f, c, o), out);
     }
     refused_reply(2, c)
 }
@@ -102,7 +99,7 @@ fn taken_message(c: Node, s: usize, v: &[u8], m: Message, out: &mut [u8]) -> Rep
         return refused_reply(9, c);
     }
     let view = view_beside(c.n, v, m);
-    let_out(message_step(most_faults(c.n), c, s, m, view), out)
+    let_out(message_step(c.f, c, s, m, view), out)
 }
 
 // Handles a message from node s; the messages that it gives rise to go to `out`.

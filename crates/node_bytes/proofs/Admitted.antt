@@ -16,13 +16,13 @@ use Rattle.record.specs.declared.Node.{Node}
 use Rattle.record.proofs.Parts.{parts}
 use Rattle.calls.specs.CallResult.{CallResult}
 use Rattle.calls.specs.Entry as N
-use Rattle.region.specs.Record.{recordSize, nPlace, ownPlace, recordOf, codesKnown}
+use Rattle.region.specs.Record.{recordSize, nPlace, fPlace, ownPlace, recordOf, codesKnown}
 use Rattle.block.specs.Block.{recordSound}
 use Rattle.calls_bytes.specs.Entry.{fits, usableIn, inBytes, atRecord, refuse}
 use Rattle.calls_bytes.proofs.Cases.{at-12, at-2, at-known}
 use Rattle.node_bytes.specs.Admission.{admission}
 
--- ---- a record is judged with its own n and number
+-- ---- a record is judged with its own n, f and number
 
 pub too-many : (r : List ℕ) {n : ℕ} → n ≡ word r nPlace → nodes < n → usableIn r ≡ false
 unfolding recordOf
@@ -30,14 +30,15 @@ too-many r e h = not-true-false (usableIn r) (λ u.
     let p : word r nPlace ≤ nodes = parts (recordOf r) (both-right (codesKnown r) (usable (recordOf r)) u) .n-high in
     omega (arith, e, h, p))
 
-with-true : (b : Bool) {x y : Bool} → x ≡ true → y ≡ true → both b (both x y) ≡ b
-with-true true p q = rw (p, q) refl
-with-true false p q = refl
+with-true : (b : Bool) {x y z : Bool} → x ≡ true → y ≡ true → z ≡ true → both b (both (both x y) z) ≡ b
+with-true true p q h = rw (p, q, h) refl
+with-true false p q h = refl
 
-pub own-sound : (r : List ℕ) {n own : ℕ} → n ≡ word r nPlace → own ≡ word r ownPlace → recordSound n own r ≡ usableIn r
+pub own-sound : (r : List ℕ) {n f own : ℕ} → n ≡ word r nPlace → f ≡ word r fPlace → own ≡ word r ownPlace
+    → recordSound n f own r ≡ usableIn r
 unfolding recordOf
-own-sound r {n} {own} e f =
-    with-true (usableIn r) (eq-eqb (word r nPlace) n (sym e)) (eq-eqb (word r ownPlace) own (sym f))
+own-sound r {n} {f} {own} e g h = with-true (usableIn r) (eq-eqb (word r nPlace) n (sym e))
+    (eq-eqb (word r fPlace) f (sym g)) (eq-eqb (word r ownPlace) own (sym h))
 
 pub in-refused : (k : ℕ) (r out : List ℕ) → inBytes r (N.refuse k (recordOf r) out) ≡ refuse k r out
 unfolding inBytes

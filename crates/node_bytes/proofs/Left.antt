@@ -9,15 +9,15 @@ use lib.ListN.{length, length-replicate}
 use borrow.Author.Tests.{leb-true, eq-eqb}
 use Rattle.octets.specs.Answer.{Answer, result, refused}
 use Rattle.octets.specs.Test.{both}
-use Rattle.octets.proofs.Test.{both-left, both-right, both-true}
-use Rattle.view.specs.Size.{nodes, isSize}
+use Rattle.octets.proofs.Test.{both-left, both-right}
+use Rattle.view.specs.Size.{nodes}
 use Rattle.wire.specs.Codec.{decode, viewPart}
 use Rattle.wire.specs.declared.Message.{Message}
 use Rattle.wire.specs.declared.Message.the-variants.{Read, ReadAnswer, Write, WriteAnswer, Echo, Value, Good}
 use Rattle.wire.proofs.RoundTrip.{read-only}
 use Rattle.table.specs.Table.{cells}
-use Rattle.record.specs.Record.{blank, faultsOf}
-use Rattle.record.specs.Usable.{usable, isOpen, full}
+use Rattle.record.specs.Record.{blank}
+use Rattle.record.specs.Usable.{sizesWithin, usable, isOpen, full}
 use Rattle.record.specs.declared.Node.{Node}
 use Rattle.record.specs.declared.Operation.{Operation}
 use Rattle.record.proofs.Fresh.{fresh-usable}
@@ -58,8 +58,8 @@ holds c u z =
       same = record-back c z;
     }
 
-blank-sized : (n own : ℕ) → SizedNode (blank n own)
-blank-sized n own =
+blank-sized : (n f own : ℕ) → SizedNode (blank n f own)
+blank-sized n f own =
     record {
       heard = length-replicate {A = ℕ} cells 0;
       last = sized-none;
@@ -107,7 +107,7 @@ begins : (r : List ℕ) (o : Operation) (out : List ℕ) → Accepts (λ x. x �
 unfolding N.begin beginStep
 begins r o out =
     let c = recordOf r in
-    let f = faultsOf c in
+    let f = c .f in
     let A = Accepts (λ x. x ≡ None) in
     let no = refuses (λ x. x ≡ None) in
     on-pick A (ltb (length out) N.leastOutput) _ _ (λ e. no 12 c out) (λ long.
@@ -115,7 +115,7 @@ begins r o out =
     on-pick A (isOpen (c .wait)) _ _ (λ e. no 5 c out) (λ idle.
     on-pick A (full c) _ _ (λ e. no 6 c out) (λ more.
     steps (λ x. x ≡ None) (beginStep f c o) out
-    (begin-asks-only f c o u idle more (faults-below (c .n) (parts c u .n-low)) .0)
+    (begin-asks-only f c o u idle more (faults-below c u) .0)
     (begin-usable f c o u idle more) (sized-moved f (begun c o) (sized-begun c o (sized-of r))))))
     (λ e. no 2 c out))
 
@@ -139,7 +139,7 @@ unfolding N.taken messageStep
 takes r s b out u k (refused j) d = refuses Any 7 (recordOf r) out
 takes r s b out u k (result m) d =
     let c = recordOf r in
-    let f = faultsOf c in
+    let f = c .f in
     let w = viewPart (c .n) b in
     let v = N.beside (c .n) w m in
     on-pick (Accepts Any) (staleMessage c s m) _ _ (λ e. refuses Any 9 c out) (λ e.
@@ -158,19 +158,12 @@ messages r s b out =
     on-pick (Accepts Any) (both (leb 1 s) (leb s (c .n))) _ _
     (λ k. takes r s b out u k (decode (c .n) b) refl) (λ e. refuses Any 3 c out)) (λ e. refuses Any 2 c out))
 
-fresh-leaves : (n own : ℕ) (r : List ℕ) → isSize n ≡ true → both (leb 1 own) (leb own n) ≡ true
-    → length r ≡ recordSize
-    → (fresh n own r .ending ≡ result None) × Holds (fresh n own r .bytes) (blank n own)
-fresh-leaves n own r s o l =
-    let e = made n own r (both-true s o) (eq-eqb (length r) recordSize l) in
-    let a = leb 1 n in
-    let b = leb n nodes in
-    let d = leb 1 own in
-    let g = leb own n in (
+fresh-leaves : (n f own : ℕ) (r : List ℕ) → sizesWithin n f own ≡ true → length r ≡ recordSize
+    → (fresh n f own r .ending ≡ result None) × Holds (fresh n f own r .bytes) (blank n f own)
+fresh-leaves n f own r s l =
+    let e = made n f own r s (eq-eqb (length r) recordSize l) in (
       ap (λ (x : LentResult). x .ending) e,
-      rw e (holds (blank n own)
-          (fresh-usable n own (leb-true _ _ (both-left a b s)) (leb-true _ _ (both-right a b s))
-          (leb-true _ _ (both-left d g o)) (leb-true _ _ (both-right d g o))) (blank-sized n own)),
+      rw e (holds (blank n f own) (fresh-usable n f own s) (blank-sized n f own)),
     )
 
 pub left : claim.Left

@@ -8,14 +8,13 @@ use lib.Dec.{ltb}
 use lib.ListN.{length}
 use Rattle.octets.specs.Answer.{Answer, result}
 use Rattle.octets.specs.Bytes.{put}
+use Rattle.octets.specs.Word.{word}
 use Rattle.view.specs.Size.{nodes}
 use Rattle.view.specs.View.{noView, viewOf, viewBytes}
 use Rattle.view.specs.declared.View.{View}
 use Rattle.wire.specs.Layout.{allowed}
 use Rattle.wire.specs.declared.Message.{Message}
 use Rattle.wire.specs.declared.Message.the-variants.{Read, ReadAnswer, Write, WriteAnswer, Echo, Value, Good}
-use Rattle.table.specs.Quorum.{faults}
-use Rattle.record.specs.Record.{faultsOf}
 use Rattle.record.specs.Usable.{usable}
 use Rattle.record.specs.declared.Node.{Node}
 use Rattle.record.specs.declared.Operation.{Operation}
@@ -37,7 +36,7 @@ use Rattle.calls.proofs.Rooms.{Fit, message-fit}
 use Rattle.emit.specs.Good.{anyGood}
 use Rattle.emit.proofs.Runs.{handler-alone}
 use Rattle.reply.proofs.Tells.{told-toldView}
-use Rattle.region.specs.Record.{recordOf, recordBytes}
+use Rattle.region.specs.Record.{fPlace, recordOf, recordBytes}
 use Rattle.region.proofs.Back.{sized-view, sized-of}
 use Rattle.react_bytes.proofs.Handling.{reacted-step}
 use Rattle.step_bytes.specs.Moved.{isStep, restedOf, followed, rests}
@@ -106,16 +105,20 @@ react-beside c s (Echo t) n v = refl
 react-beside c s (Value t w p) n v = refl
 react-beside c s (Good t) n v = refl
 
+pub f-in : (r : List ℕ) → word r fPlace ≡ recordOf r .f
+unfolding recordOf
+f-in r = refl
+
 -- a message handled and moved on, on bytes that were r and then r′, is the step of a message
 pub handled : (r r′ : List ℕ) (n s f : ℕ) (m : Message) (v : List ℕ) {x : Sent} → recordOf r .n ≡ n → n ≤ nodes
-    → f ≡ faults n → x ≡ react (recordOf r) s m (viewOf n v) .outbox .handler
+    → f ≡ word r fPlace → x ≡ react (recordOf r) s m (viewOf n v) .outbox .handler
     → r′ ≡ recordBytes (react (recordOf r) s m (viewOf n v) .node)
     → moveOn f (started (recordOf r′) s x)
-    ≡ messageStep (faultsOf (recordOf r)) (recordOf r) s m (beside (recordOf r .n) v m)
+    ≡ messageStep (recordOf r .f) (recordOf r) s m (beside (recordOf r .n) v m)
 unfolding messageStep
 handled r r′ n s f m v e h g q p =
     ap (moveOn f) (reacted-step r r′ s m (viewOf n v) (sized-view n v h) p q ∙ react-beside (recordOf r) s m n v)
-    ∙ ap₂ (λ (i j : ℕ). moveOn i (react (recordOf r) s m (beside j v m))) (g ∙ ap faults (sym e)) (sym e)
+    ∙ ap₂ (λ (i j : ℕ). moveOn i (react (recordOf r) s m (beside j v m))) (g ∙ f-in r) (sym e)
 
 -- what a step sends can be written
 pub can-write : (s : Step) (n : ℕ) (room : ℕ) {e : Effect} {r : List ℕ} → Fit s room → isStep e r s → s .node .n ≡ n
@@ -142,17 +145,17 @@ long-of r =
 
 module _ (r : List ℕ) (n s : ℕ) (m : Message) (v : List ℕ) (e : recordOf r .n ≡ n) where
   abbrev pub step : Step
-  step = messageStep (faultsOf (recordOf r)) (recordOf r) s m (beside (recordOf r .n) v m)
+  step = messageStep (recordOf r .f) (recordOf r) s m (beside (recordOf r .n) v m)
 
   pub step-n : step .node .n ≡ n
-  step-n = message-n (faultsOf (recordOf r)) (recordOf r) s m (beside (recordOf r .n) v m) ∙ e
+  step-n = message-n (recordOf r .f) (recordOf r) s m (beside (recordOf r .n) v m) ∙ e
 
   -- what it sends has room
   pub step-fit : (room : ℕ) → usable (recordOf r) ≡ true → 1 ≤ s → s ≤ n → allowed n m v ≡ true → leastOutput ≤ room
       → Fit step room
   step-fit room u a b l k =
       let c = recordOf r in
-      message-fit (faultsOf c) c s m (beside (c .n) v m) step room refl refl u
+      message-fit c s m (beside (c .n) v m) step room refl u
       (read-lawful (c .n) v m (ap (λ (j : ℕ). allowed j m v) e ∙ l)) (long-of r) a
       (subst (λ (j : ℕ). s ≤ j) (sym e) b) k
 

@@ -5,13 +5,10 @@ use Prim.Native.Nat.{ℕ}
 use mathlib.Core.Path.{_≡_}
 use mathlib.Core.Bool.{true}
 use mathlib.Core.List.{List}
-use lib.Dec.{leb}
 use lib.ListN.{length}
 use Rattle.octets.specs.Answer.{result}
-use Rattle.octets.specs.Test.{both}
-use Rattle.view.specs.Size.{isSize}
 use Rattle.record.specs.Record.{blank}
-use Rattle.record.specs.Usable.{usable}
+use Rattle.record.specs.Usable.{sizesWithin, usable}
 use Rattle.record.specs.declared.Node.{Node}
 use Rattle.record.specs.declared.Operation.{Operation}
 use Rattle.step.specs.declared.Ending.{Ending}
@@ -27,9 +24,8 @@ pub record Holds (b : List ℕ) (c : Node) : Type 0 where
   pub same : recordOf b ≡ c
 
 pub record Left : Type 0 where
-  pub fresh-left : (n own : ℕ) (r : List ℕ) → isSize n ≡ true → both (leb 1 own) (leb own n) ≡ true
-      → length r ≡ recordSize
-      → (fresh n own r .ending ≡ result None) × Holds (fresh n own r .bytes) (blank n own)
+  pub fresh-left : (n f own : ℕ) (r : List ℕ) → sizesWithin n f own ≡ true → length r ≡ recordSize
+      → (fresh n f own r .ending ≡ result None) × Holds (fresh n f own r .bytes) (blank n f own)
   pub begin-left : (r : List ℕ) (o : Operation) (out : List ℕ) (x : Ending) → begin r o out .ending ≡ result x
       → (x ≡ None) × Holds (begin r o out .bytes) (N.begin (recordOf r) o out .node)
   pub message-left : (r : List ℕ) (s : ℕ) (b out : List ℕ) (x : Ending) → message r s b out .ending ≡ result x

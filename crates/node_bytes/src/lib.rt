@@ -14,8 +14,10 @@ use react_bytes::is_stale_in;
 use react_bytes::react_in;
 use record::Operation;
 use record::Wait;
+use record::usable::sizes_within;
 use region::head::Head;
 use region::head::save_head;
+use region::places::F_PLACE;
 use region::places::N_PLACE;
 use region::places::OWN_PLACE;
 use region::places::RECORD;
@@ -26,7 +28,6 @@ use step_bytes::is_full_in;
 use step_bytes::is_open_in;
 use step_bytes::is_rest;
 use step_bytes::plan_in;
-use table::quorum::most_faults;
 use view::NODES;
 use view::VIEW;
 use wire::Message;
@@ -70,11 +71,11 @@ pub fn turned_away(k: u8) -> Called
     }
 }
 
-// Makes the lent bytes the fresh record of node `own` of n, or refuses with 1, 12.
-pub fn fresh(n: usize, own: usize, r: &mut [u8]) -> Called
-    ensures { λ a. ⌜ tells a (now (r .exit)) [] (freshCall n own (now (r .entry))) ⌝ }
+// Makes the lent bytes the fresh record of node `own` of n, f of which may stop, or refuses with 1, 12.
+pub fn fresh(n: usize, f: usize, own: usize, r: &mut [u8]) -> Called
+    ensures { λ a. ⌜ tells a (now (r .exit)) [] (freshCall n f own (now (r .entry))) ⌝ }
 {
-    if !and(and(1 <= n, n <= NODES), and(1 <= own, own <= n)) {
+    if !sizes_within(n, f, own) {
         return turned_away(1);
     }
     if r.len() != RECORD {
@@ -85,6 +86,7 @@ pub fn fresh(n: usize, own: usize, r: &mut [u8]) -> Called
         r,
         Head {
             n: n as u64,
+            f: f as u64,
             own: own as u64,
             maxtag: 0,
             request: 0,
@@ -107,7 +109,12 @@ fn is_usable_in(r: &[u8]) -> bool
     if NODES < n {
         return false;
     }
-    record_sound(r, n, get_word(r, OWN_PLACE) as usize)
+    record_sound(
+        r,
+        n,
+        get_word(r, F_PLACE) as usize,
+        get_word(r, OWN_PLACE) as usize,
+    )
 }
 
 // The first of 12 and 2 that refuses a call on these bytes with so much room for output, of which it asks for at least
@@ -166,8 +173,9 @@ pub fn take_message(
     if is_stale_in(r, s, m) {
         return turned_away(9);
     }
+    let f = get_word(r, F_PLACE) as usize;
     let sent = react_in(r, n, s, m, v);
-    let p = plan_in(r, n, most_faults(n));
+    let p = plan_in(r, n, f);
     if is_rest(p) {
         let written = emit_handler(n, sent, out);
         return Called {

@@ -1,6 +1,6 @@
 -- A scan at a fresh cluster and any deliveries after it: once nothing waits it has finished, and it shows no report of
 -- any node, since no update was begun.
-use Prim.Native.Nat.{ℕ, zero, suc, _-_, _<_}
+use Prim.Native.Nat.{ℕ, zero, suc, _+_, _-_, _<_}
 use native.Mathlib.Omega.{arith}
 use mathlib.Core.Path.{_≡_, refl, sym, ap, ap₂, _∙_, subst}
 use mathlib.Core.Bool.{false, _||_}
@@ -65,11 +65,11 @@ module _ (calls : Calls) (n : ℕ) where
       ∙ stops-none (d .sender) (d .receiver) (answered (delivery d) b) c)
       (deliveries-stop ds w (event calls (delivery d) b .bytes) c)
 
-  pub stands : (ds : List Delivery) → AllWhole ds → (b : List ℕ) (c : ℕ)
-      → T.stopped (traceOf calls n b (scanThen c ds)) c ≡ false
+  pub stands : (f : ℕ) (ds : List Delivery) → AllWhole ds → (b : List ℕ) (c : ℕ)
+      → T.stopped (traceOf calls n f b (scanThen c ds)) c ≡ false
   unfolding traceFrom T.stopped
-  stands ds w b c = ap₂ _||_ (begin-stops-none c (answered (R.begin c Scan Whole) (calls .fresh n b .bytes)) c)
-      (deliveries-stop ds w (event calls (R.begin c Scan Whole) (calls .fresh n b .bytes) .bytes) c)
+  stands f ds w b c = ap₂ _||_ (begin-stops-none c (answered (R.begin c Scan Whole) (calls .fresh n f b .bytes)) c)
+      (deliveries-stop ds w (event calls (R.begin c Scan Whole) (calls .fresh n f b .bytes) .bytes) c)
 
 abbrev Updates : T.Begun → Type 0
 Updates T.nothing = ⊥
@@ -101,12 +101,13 @@ absent-view n c (T.ended k (H.shown r v)) long end each = all-absent v
 
 -- ---- the scan
 
-module _ (n c : ℕ) (size : OneTo nodes n) (at : OneTo n c) (b : List ℕ) (long : length b ≡ clusterSize n) where
+module _ (n f c : ℕ) (size : OneTo nodes n) (half : f + f < n) (at : OneTo n c) (b : List ℕ)
+    (long : length b ≡ clusterSize n) where
   abbrev start : List ℕ
-  start = E.fresh n b .bytes
+  start = E.fresh n f b .bytes
 
-  mirror : Mirrors n start K.start
-  mirror = start-mirrors n size b long
+  mirror : Mirrors n f start K.start
+  mirror = start-mirrors n f size half b long
 
   same-n : stated start ≡ n
   same-n = mirror .shows .states
@@ -114,7 +115,7 @@ module _ (n c : ℕ) (size : OneTo nodes n) (at : OneTo n c) (b : List ℕ) (lon
   in-start : {k : ℕ} → OneTo (stated start) k → OneTo n k
   in-start {k} o = subst (λ j. OneTo j k) same-n o
 
-  follows : Follows n c A.fresh (node start c)
+  follows : Follows n f c A.fresh (node start c)
   follows = mirror .shows .says c at .node
 
   -- Its begin is accepted.
@@ -132,7 +133,7 @@ module _ (n c : ℕ) (size : OneTo nodes n) (at : OneTo n c) (b : List ℕ) (lon
 
   module _ (ds : List Delivery) where
     abbrev tr : T.Trace
-    tr = R.traceOf n b (scanThen c ds)
+    tr = R.traceOf n f b (scanThen c ds)
 
     abbrev later : List ℕ
     later = E.begin c Scan Whole start .bytes
@@ -148,10 +149,10 @@ module _ (n c : ℕ) (size : OneTo nodes n) (at : OneTo n c) (b : List ℕ) (lon
 
     module _ (up : T.stopped tr c ≡ false) (quiet : NothingWaits n tr) where
       pub finished : Finished (T.fate tr 0)
-      finished = subst (ClosedBy tr 0) scans (demand3 n size b long (scanThen c ds) .1 quiet 0) up
+      finished = subst (ClosedBy tr 0) scans (demand3 n f size half b long (scanThen c ds) .1 quiet 0) up
 
       order : SingleOrder n tr
-      order = demand3 n size b long (scanThen c ds) .0
+      order = demand3 n f size half b long (scanThen c ds) .0
 
       is-scan : IsScan (T.begun tr 0)
       is-scan = subst IsScan (sym scans) tt

@@ -14,7 +14,6 @@ use Rattle.view.specs.Size.{nodes}
 use Rattle.view.specs.View.{noView}
 use Rattle.wire.specs.declared.Message.the-variants.{Read}
 use Rattle.table.specs.Loop.{count}
-use Rattle.table.specs.Quorum.{faults}
 use Rattle.record.specs.declared.Operation.{Operation}
 use Rattle.step.specs.Move.{begun, beginStep}
 use Rattle.step.specs.declared.Step.{Step}
@@ -31,7 +30,8 @@ use Rattle.events.specs.Event.{Result, begin, settle}
 use Rattle.outgoing.specs.Outgoing.{mayCut}
 use Rattle.outgoing.specs.declared.Extent.{Extent}
 use Rattle.outgoing.specs.declared.Extent.the-variants.{Whole, Cut}
-use Rattle.events.proofs.Admitted.{sound-n, admits, begin-opens}
+use Rattle.layout.proofs.Check.{sound-n, sound-half}
+use Rattle.events.proofs.Admitted.{admits, begin-opens}
 use Rattle.events.proofs.Settled.{open-settles}
 use Rattle.history.specs.Order.{OneTo}
 use Rattle.mirror.specs.Run as R
@@ -55,11 +55,11 @@ module _ (b : List ℕ) (c : ℕ) (o : Operation) (x : Extent) (M : MayBegin b c
   n = stated b
 
   abbrev step : Step
-  step = beginStep (faults n) (node b c) o
+  step = beginStep (faultsIn b) (node b c) o
 
   asks : step ≡ begun (node b c) o
-  asks = begin-asks (faults n) (node b c) o
-      (rw (sound-n b (M .usable) n c refl (node-is n c (M .at))) (omega (arith, M .at .0, M .at .1)))
+  asks = begin-asks (faultsIn b) (node b c) o
+      (rw (sound-n b (M .usable) c (node-is n c (M .at))) (omega (arith, sound-half b (M .usable))))
 
   heard : length (step .node .heard) ≡ cells
   unfolding begun
@@ -68,8 +68,8 @@ module _ (b : List ℕ) (c : ℕ) (o : Operation) (x : Extent) (M : MayBegin b c
   settles : begin c o x b ≡ settle n c c x step b b
   settles = begin-opens c o x b n refl
       (admits c c b (M .fit) (M .usable) (node-is n c (M .at)) (node-is n c (M .at)) (M .stands))
-      ∙ open-settles n c o x b (node b c) refl (M .idle) (M .left) (may-cut b x (M .cut)) refl
-      (sound-n b (M .usable) n c refl (node-is n c (M .at))) (omega (arith, M .at .0, M .at .1)) asks
+      ∙ open-settles n c o x b (node b c) refl (M .idle) (M .left) (may-cut b x (M .cut))
+      (sound-n b (M .usable) c (node-is n c (M .at))) (sound-half b (M .usable)) asks
 
   less-none : (k : ℕ) → k ≡ k - 0
   less-none k = omega arith

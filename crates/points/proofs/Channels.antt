@@ -194,7 +194,7 @@ writes-two f d v e h = go (d .wait) refl
     go (Comparing k i r) z = true-false (isOpen (d .wait)) (rw z refl) e
     go (Borrowing k r) z = true-false (isOpen (d .wait)) (rw z refl) e
 
-module _ {n : ℕ} (b : List ℕ) (F : Filled n 1 16 (Write 1 1) b) where
+module _ {n f : ℕ} (b : List ℕ) (F : Filled n f 1 16 (Write 1 1) b) where
   two : goTo 1 (handled b 1 1 Whole (Write 1 1)) ≡ 2
   unfolding addressed goTo
   two =
@@ -231,7 +231,10 @@ channels-hold = record {
   seventeenth = λ b c d o M p up e. begin-judged b c o Whole M .full (no-room b c o M d p up e);
   own-place = place;
   overflow = overflows;
-  fifteen-reads = filled-reads 1 (omega arith, omega arith) 1 (omega arith, omega arith) 14 (omega arith);
-  sixteen-reads = filled-reads 1 (omega arith, omega arith) 1 (omega arith, omega arith) 15 (omega arith);
-  sixteen-writes = filled-writes 1 (omega arith, omega arith) 1 (omega arith, omega arith) 15 (omega arith);
+  fifteen-reads = filled-reads 1 0 (omega arith, omega arith) (omega arith) 1
+      (omega arith, omega arith) 14 (omega arith);
+  sixteen-reads = filled-reads 1 0 (omega arith, omega arith) (omega arith) 1
+      (omega arith, omega arith) 15 (omega arith);
+  sixteen-writes = filled-writes 1 0 (omega arith, omega arith) (omega arith) 1
+      (omega arith, omega arith) 15 (omega arith);
 }

@@ -1,5 +1,5 @@
 -- A cluster in which messages wait from node 1 to node d: the fresh one, with copies of a message let out.
-use Prim.Native.Nat.{ℕ, zero, suc, _+_, _≤_}
+use Prim.Native.Nat.{ℕ, zero, suc, _+_, _≤_, _<_}
 use native.Mathlib.Omega.{arith}
 use native.Mathlib.Decide.{ℕ-discrete}
 use mathlib.Core.Path.{_≡_, refl, sym, ap, _∙_, subst}
@@ -44,11 +44,11 @@ use Rattle.mirror.proofs.Says.{says-count, says-first}
 use Rattle.mirror.proofs.Shows.{Fit}
 use Rattle.points.specs.Channels.{Filled}
 
-abbrev filled : (n d k : ℕ) → Message → List ℕ
-filled n d k m = letOut n 1 (replicate k (entry noView m d)) (freshBytes n (clusterSize n))
+abbrev filled : (n f d k : ℕ) → Message → List ℕ
+filled n f d k m = letOut n 1 (replicate k (entry noView m d)) (freshBytes n f (clusterSize n))
 
 -- The message is known by what it means for the algorithm, and is never stale.
-module _ (n : ℕ) (size : OneTo nodes n) (d : ℕ) (at : OneTo n d) (m : Message)
+module _ (n f : ℕ) (size : OneTo nodes n) (half : f + f < n) (d : ℕ) (at : OneTo n d) (m : Message)
     (ok : allowed n m (viewBytes n noView) ≡ true)
     (known : (k : Message) (v : View) → messageOf n d v k ≡ messageOf n d noView m → k ≡ m)
     (new : (k : Node) → staleMessage k 1 m ≡ false) where
@@ -86,21 +86,21 @@ module _ (n : ℕ) (size : OneTo nodes n) (d : ℕ) (at : OneTo n d) (m : Messag
   sized : isSize n ≡ true
   sized = both-true (le-leb 1 n (size .0)) (le-leb n 16 small)
 
-  start : Mirrors n (freshBytes n (clusterSize n)) K.start
+  start : Mirrors n f (freshBytes n f (clusterSize n)) K.start
   start =
       let long : length {A = ℕ} (replicate (clusterSize n) 0) ≡ clusterSize n
       = length-replicate {A = ℕ} (clusterSize n) 0 in
-      subst (λ j. Mirrors n (freshBytes n j) K.start) long
-      (fresh-mirrors n (size .0) small (replicate (clusterSize n) 0) long)
+      subst (λ j. Mirrors n f (freshBytes n f j) K.start) long
+      (fresh-mirrors n f (size .0) small half (replicate (clusterSize n) 0) long)
 
   module _ (j : ℕ) (few : suc j ≤ capacity) where
     abbrev b : List ℕ
-    b = filled n d (suc j) m
+    b = filled n f d (suc j) m
 
     abbrev q : ℕ → ℕ → List M.Message
     q = K.channels (λ c. false) 1 (map (mail n) (replicate (suc j) e)) (λ a d. [])
 
-    shows : Shows n b (λ c. A.fresh) (λ c. false) q
+    shows : Shows n f b (λ c. A.fresh) (λ c. false) q
     shows = shows-out small sized 1 one (replicate (suc j) e) (start .shows) (λ a d h. refl) (fits-all (suc j))
         (λ c o s. omega (arith, goes-most c (suc j)))
 
@@ -119,12 +119,13 @@ module _ (n : ℕ) (size : OneTo nodes n) (d : ℕ) (at : OneTo n d) (m : Messag
           | no h ↦ rw (channel-other (λ c. false) 1 l (λ a d. []) a c refl h) (omega arith)
         ]
 
-    mirrors : Mirrors n b (record { nodes = λ c. A.fresh; stopped = λ c. false; channel = q })
+    mirrors : Mirrors n f b (record { nodes = λ c. A.fresh; stopped = λ c. false; channel = q })
     mirrors = record {
       shows = shows;
       room = λ a c p o. omega (arith, few-wait a c);
       gone = λ a c h. true-false false h refl;
       few = omega (arith, count-none n);
+      half = half;
     }
 
     there : (c : ℕ) → OneTo n c → OneTo (stated b) c
@@ -144,12 +145,12 @@ module _ (n : ℕ) (size : OneTo nodes n) (d : ℕ) (at : OneTo n d) (m : Messag
 
         go : (r : Answer (Message × ℕ)) → front n slot ≡ r → meantBy n d v r ≡ result meaning
             → (k : ℕ) × (front n slot ≡ result (m, k))
-        go (refused k) f h = absurd (subst IsResult (sym h) tt)
-        go (result p) f h =
+        go (refused k) r h = absurd (subst IsResult (sym h) tt)
+        go (result p) r h =
             let same : messageOf n d v (p .0) ≡ meaning = cc h in
-            (p .1, f ∙ ap (λ z. result (z, p .1)) (known (p .0) v same))
+            (p .1, r ∙ ap (λ z. result (z, p .1)) (known (p .0) v same))
 
-    is-filled : Filled n d (suc j) m b
+    is-filled : Filled n f d (suc j) m b
     unfolding A.limit
     is-filled = record {
       begins = record {
@@ -174,6 +175,7 @@ module _ (n : ℕ) (size : OneTo nodes n) (d : ℕ) (at : OneTo n d) (m : Messag
         cut = λ h. true-false false h refl;
       };
       states = shows .states;
+      faults = shows .faults;
       stands = λ c o. shows .says c o .stop;
       holds = holds;
       no-more = λ c o. omega (arith, says-count small (shows .says c o) 1 one, few-wait 1 c);
@@ -198,18 +200,18 @@ known-write n d (Echo t) v e = cc
 known-write n d (Value t w p) v e = cc
 known-write n d (Good t) v e = cc
 
-pub filled-reads : (n : ℕ) → OneTo nodes n → (d : ℕ) → OneTo n d → (j : ℕ) → suc j ≤ capacity
-    → (b : List ℕ) × Filled n d (suc j) (Read 1) b
+pub filled-reads : (n f : ℕ) → OneTo nodes n → f + f < n → (d : ℕ) → OneTo n d → (j : ℕ) → suc j ≤ capacity
+    → (b : List ℕ) × Filled n f d (suc j) (Read 1) b
 unfolding allowed
-filled-reads n size d at j h = (
-  filled n d (suc j) (Read 1),
-  is-filled n size d at (Read 1) refl (known-read n d) (λ k. refl) j h,
+filled-reads n f size half d at j h = (
+  filled n f d (suc j) (Read 1),
+  is-filled n f size half d at (Read 1) refl (known-read n d) (λ k. refl) j h,
 )
 
-pub filled-writes : (n : ℕ) → OneTo nodes n → (d : ℕ) → OneTo n d → (j : ℕ) → suc j ≤ capacity
-    → (b : List ℕ) × Filled n d (suc j) (Write 1 1) b
+pub filled-writes : (n f : ℕ) → OneTo nodes n → f + f < n → (d : ℕ) → OneTo n d → (j : ℕ) → suc j ≤ capacity
+    → (b : List ℕ) × Filled n f d (suc j) (Write 1 1) b
 unfolding allowed
-filled-writes n size d at j h = (
-  filled n d (suc j) (Write 1 1),
-  is-filled n size d at (Write 1 1) refl (known-write n d) (λ k. refl) j h,
+filled-writes n f size half d at j h = (
+  filled n f d (suc j) (Write 1 1),
+  is-filled n f size half d at (Write 1 1) refl (known-write n d) (λ k. refl) j h,
 )

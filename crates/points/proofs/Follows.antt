@@ -1,6 +1,7 @@
 -- The clauses of the points that follow from others, of any calls: from which single fact. They say a case in the
 -- documents' words, and rule out no call that that fact does not. In the law on channels `only` follows from `full`, by
--- `only-if-full`; the clauses on calls waiting follow from that on figures, by `shows-five`, `shows-none`.
+-- `only-if-full`; the clauses on calls waiting follow from that on figures, by `shows-five`, `shows-none`, and those on
+-- the stop of one node, of the second of three and with f = 0 from `full`, by `alone`, `second-stop`, `none-stops`.
 use Prim.Native.Nat.{ℕ, _+_, _*_, _≤_, _<_}
 use native.Mathlib.Omega.{arith}
 use mathlib.Core.Path.{_≡_, refl, sym, ap, _∙_}
@@ -13,21 +14,26 @@ use Rattle.octets.specs.Loop.{upTo, allTo}
 use Rattle.octets.proofs.Put.{put-over}
 use Rattle.view.specs.Report.{reportOf}
 use Rattle.view.specs.Size.{limit}
-use Rattle.view.specs.View.{viewOk}
+use Rattle.view.specs.View.{noView, viewOk}
 use Rattle.view.specs.declared.Report.{Report}
 use Rattle.wire.specs.Layout.{encode, allowed, messageSize}
 use Rattle.wire.specs.declared.Message.{Message}
 use Rattle.wire.specs.declared.Message.the-variants.{Read, Write, Good}
 use Rattle.wire.proofs.Numbers.{length-encode}
 use Rattle.figures.specs.Figures.{totals}
+use Rattle.record.specs.Record.{blank}
 use Rattle.record.specs.Usable.{isOpen}
 use Rattle.record.specs.declared.Node.{Node}
 use Rattle.record.specs.declared.Operation.{Operation}
 use Rattle.record.specs.declared.Operation.the-variants.{Update}
+use Rattle.step.specs.declared.Ending.the-variants.{None}
+use Rattle.step.specs.Told.{nothing}
+use Rattle.calls.specs.CallResult.{CallResult}
+use Rattle.calls.specs.Entry as N
 use Rattle.region.specs.Channel.{countOf}
 use Rattle.outgoing.specs.Entries.{goTo}
 use Rattle.layout.specs.Layout.{stated, stopped, node, channel}
-use Rattle.events.specs.Event.{refuse}
+use Rattle.events.specs.Event.{Result, refuse, freshBytes}
 use Rattle.outgoing.specs.declared.Extent.the-variants.{Whole}
 use Rattle.history.specs.Message.{absent}
 use Rattle.history.specs.Event as H
@@ -38,6 +44,7 @@ use Rattle.points.specs.Calls.{Calls, traceFrom, traceOf}
 use Rattle.points.specs.Channels.{MayBegin, MayDeliver, StandsAfter, Room, waits, stillWaits, begun, handled}
 use Rattle.points.specs.Channels.{Filled}
 use Rattle.points.specs.LastTag.{LastAnswer, used, spentBy}
+use Rattle.points.specs.Faults.{Made, NotMade}
 use Rattle.points.specs.Messages.{zeros, readOne}
 use Rattle.points.proofs.Absences.{stands}
 use Rattle.points.proofs.Begins.{still-stands, one-each, no-room}
@@ -69,6 +76,22 @@ module _ (calls : Calls) where
     where
       is : (n f : ℕ) → 2 * f < n → n ≤ 2 * (f + 1) → calls .faults n ≡ f
       is n f lo hi = omega (arith, largest n (omega arith) .0, largest n (omega arith) .1)
+
+  -- The cases of the f that are taken and that are not.
+  not-made : ((n f own : ℕ) → (f + f < n → ⊥) → calls .fresh-node n f own ≡ N.refuse 1 (blank 0 0 0) [])
+      → ((n f : ℕ) (b : List ℕ) → (f + f < n → ⊥) → calls .fresh n f b ≡ refuse 1 b)
+      → (n f : ℕ) → (f + f < n → ⊥) → NotMade calls n f
+  not-made node cluster n f h = record { node = λ own. node n f own h; cluster = λ b. cluster n f b h }
+
+  made : (n : ℕ) → ((f own : ℕ) → f + f < n → OneTo n own → calls .fresh-node n f own
+      ≡ record { answer = nothing; ending = result None; node = blank n f own; length = 0; out = [] })
+      → ((f : ℕ) (b : List ℕ) → f + f < n → length b ≡ calls .size n → calls .fresh n f b
+      ≡ record { bytes = freshBytes n f (length b); answer = result None; view = noView; sent = [] })
+      → (f : ℕ) → f + f < n → Made calls n f
+  made n node cluster f half = record {
+    node = λ own o. ap (λ (r : CallResult). r .answer) (node f own half o);
+    cluster = λ b e. ap (λ (r : Result). r .answer) (cluster f b half e);
+  }
 
   read-one : {n : ℕ} → ((m : Message) (v : List ℕ) → allowed n m v ≡ true → calls .read n (encode m v) ≡ result m)
       → calls .read n readOne ≡ result (Read 1)
@@ -102,30 +125,30 @@ module _ (calls : Calls) where
 
   -- ---- absences
 
-  module _ (n c : ℕ) (b : List ℕ) (ds : List Delivery) where
+  module _ (n f c : ℕ) (b : List ℕ) (ds : List Delivery) where
     abbrev tr : T.Trace
-    tr = traceOf calls n b (scanThen c ds)
+    tr = traceOf calls n f b (scanThen c ds)
 
     -- A view with an entry was given by an ending, and what ended has begun.
     finished : 1 ≤ n → T.scanView (T.fate tr 0) ≡ replicate n absent → Finished (T.fate tr 0)
     finished h e = go (T.fate tr 0) (ap length e ∙ length-replicate n absent)
       where
         go : (x : T.Fate) → length (T.scanView x) ≡ n → Finished x
-        go T.unfinished f = absurd (omega arith)
-        go (T.ended k y) f = tt
+        go T.unfinished z = absurd (omega arith)
+        go (T.ended k y) z = tt
 
     is-begun : Finished (T.fate tr 0) → T.begun tr 0 ≡ T.scanning c
     unfolding traceFrom
-    is-begun f = go (T.at tr 0 .answer) f
+    is-begun z = go (T.at tr 0 .answer) z
       where
         go : (y : H.Response) → Finished (T.fateOf tr 0 (T.begunBy (H.begin c H.scan H.whole) y))
             → T.begunBy (H.begin c H.scan H.whole) y ≡ T.scanning c
-        go (H.refused k) f = absurd f
-        go (H.accepted e) f = refl
+        go (H.refused k) z = absurd z
+        go (H.accepted e) z = refl
 
-    whole : (T.stopped tr c ≡ false → NothingWaits n tr → ShowsNone calls n c b ds) → AllWhole ds
-        → NothingWaits n tr → ShowsNone calls n c b ds
-    whole cut w quiet = cut (stands calls n ds w b c) quiet
+    whole : (T.stopped tr c ≡ false → NothingWaits n tr → ShowsNone calls n f c b ds) → AllWhole ds
+        → NothingWaits n tr → ShowsNone calls n f c b ds
+    whole cut w quiet = cut (stands calls n f ds w b c) quiet
 
   -- ---- channels
 
@@ -146,7 +169,7 @@ module _ (calls : Calls) where
       → countOf (channel (calls .deliver c c Whole b .bytes) c c) ≡ 16
   own-waits b c q M idle holds e = holds c (still-stands b c c (M .receiver) (M .stands)) ∙ own-count b c q M idle ∙ e
 
-  overflow : (b : List ℕ) → Filled 1 1 16 (Write 1 1) b
+  overflow : (b : List ℕ) → Filled 1 0 1 16 (Write 1 1) b
       → ((Room b 1 Whole (stillWaits b 1 1) (handled b 1 1 Whole (Write 1 1)) → ⊥)
       → calls .deliver 1 1 Whole b ≡ refuse 11 b) → calls .deliver 1 1 Whole b ≡ refuse 11 b
   overflow b F full = full (no-place b F)

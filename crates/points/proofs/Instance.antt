@@ -1,6 +1,6 @@
 -- The point on absences, of the run of the calls; and a list that it speaks of: the scan of a cluster of one node and
 -- its five deliveries, after which nothing waits. So its premise can be met.
-use Prim.Native.Nat.{ℕ}
+use Prim.Native.Nat.{ℕ, _+_, _<_}
 use native.Mathlib.Omega.{arith}
 use native.Mathlib.Decide.{ℕ-discrete, decLe, decLt}
 use mathlib.Core.Path.{_≡_, refl, sym, ap, ap₂, _∙_, subst}
@@ -43,35 +43,39 @@ unfolding K.traceFrom event roomy sentTo entries moveOn kept table newest includ
     ℕ-discrete decLe decLt decide T.letOutTo T.handedOver
 all-handed = refl
 
-nothing-waits : (b : List ℕ) → length b ≡ clusterSize 1 → NothingWaits 1 (R.traceOf 1 b (scanThen 1 five))
+nothing-waits : (b : List ℕ) → length b ≡ clusterSize 1 → NothingWaits 1 (R.traceOf 1 0 b (scanThen 1 five))
 nothing-waits b long a c (lo, hi) (low, high) up =
     let first : a ≡ 1 = omega arith in
     let second : c ≡ 1 = omega arith in
-    ap₂ (λ x y. T.waits (R.traceOf 1 b (scanThen 1 five)) x y) first second
-    ∙ ap (λ tr. T.waits tr 1 1) (demand2 1 (omega arith, omega arith) b long .same (scanThen 1 five)) ∙ all-handed
+    ap₂ (λ x y. T.waits (R.traceOf 1 0 b (scanThen 1 five)) x y) first second
+    ∙ ap (λ tr. T.waits tr 1 1) (demand2 1 0 (omega arith, omega arith) (omega arith) b long .same (scanThen 1 five))
+    ∙ all-handed
 
-none-of-code : (n c : ℕ) → OneTo nodes n → OneTo n c → (b : List ℕ) → length b ≡ clusterSize n → (ds : List Delivery)
-    → T.stopped (C.traceOf C.code n b (scanThen c ds)) c ≡ false
-    → NothingWaits n (C.traceOf C.code n b (scanThen c ds)) → ShowsNone C.code n c b ds
-none-of-code n c size at b long ds up quiet = record {
-  begun = ap (λ tr. T.begun tr 0) e ∙ scans n c size at b long ds;
-  finished = subst (λ tr. Finished (T.fate tr 0)) (sym e) (finished n c size at b long ds stands-still none-waits);
-  view = ap (λ tr. T.scanView (T.fate tr 0)) e ∙ none-shown n c size at b long ds stands-still none-waits;
+none-of-code : (n f c : ℕ) → OneTo nodes n → f + f < n → OneTo n c → (b : List ℕ) → length b ≡ clusterSize n
+    → (ds : List Delivery)
+    → T.stopped (C.traceOf C.code n f b (scanThen c ds)) c ≡ false
+    → NothingWaits n (C.traceOf C.code n f b (scanThen c ds)) → ShowsNone C.code n f c b ds
+none-of-code n f c size half at b long ds up quiet = record {
+  begun = ap (λ tr. T.begun tr 0) e ∙ scans n f c size half at b long ds;
+  finished = subst (λ tr. Finished (T.fate tr 0)) (sym e)
+      (finished n f c size half at b long ds stands-still none-waits);
+  view = ap (λ tr. T.scanView (T.fate tr 0)) e ∙ none-shown n f c size half at b long ds stands-still none-waits;
 }
   where
-    e : C.traceOf C.code n b (scanThen c ds) ≡ R.traceOf n b (scanThen c ds)
-    e = same-trace n (fresh n b .bytes) (scanThen c ds)
+    e : C.traceOf C.code n f b (scanThen c ds) ≡ R.traceOf n f b (scanThen c ds)
+    e = same-trace n (fresh n f b .bytes) (scanThen c ds)
 
-    stands-still : T.stopped (R.traceOf n b (scanThen c ds)) c ≡ false
+    stands-still : T.stopped (R.traceOf n f b (scanThen c ds)) c ≡ false
     stands-still = subst (λ tr. T.stopped tr c ≡ false) e up
 
-    none-waits : NothingWaits n (R.traceOf n b (scanThen c ds))
+    none-waits : NothingWaits n (R.traceOf n f b (scanThen c ds))
     none-waits = subst (NothingWaits n) e quiet
 
 pub absences-hold : Absences C.code
 absences-hold = record {
-  whole = λ n c size at b long ds w quiet. none-of-code n c size at b long ds (stands C.code n ds w b c) quiet;
+  whole = λ n f c size half at b long ds w quiet. none-of-code n f c size half at b long ds
+      (stands C.code n f ds w b c) quiet;
   cut = none-of-code;
   all-delivered = λ b long.
-      subst (NothingWaits 1) (sym (same-trace 1 (fresh 1 b .bytes) (scanThen 1 five))) (nothing-waits b long);
+      subst (NothingWaits 1) (sym (same-trace 1 (fresh 1 0 b .bytes) (scanThen 1 five))) (nothing-waits b long);
 }

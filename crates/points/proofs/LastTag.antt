@@ -22,7 +22,7 @@ use Rattle.table.specs.Quorum.{member, with, only, membersIn, isQuorum}
 use Rattle.table.specs.Table.{heardWithin}
 use Rattle.table.proofs.Entries.{viewWithin-absent}
 use Rattle.table.proofs.Sets.{membersIn-with}
-use Rattle.record.specs.Record.{withWait, closed, faultsOf}
+use Rattle.record.specs.Record.{withWait, closed}
 use Rattle.record.specs.Usable.{stillUses}
 use Rattle.record.specs.declared.Node.{Node}
 use Rattle.record.specs.declared.Operation.{Operation}
@@ -49,7 +49,7 @@ use Rattle.points.specs.LastTag.{LastAnswer, used, spentBy, goesOn, scan
 
 module _ (c : Node) (o : Operation) (m s t : ℕ) (b out : List ℕ) (L : LastAnswer c o m s t b out) where
   abbrev f : ℕ
-  f = faultsOf c
+  f = c .f
 
   abbrev step : Step
   step = messageStep f c s (ReadAnswer (c .request) t) noView
@@ -161,6 +161,7 @@ meets m top t low h k o = record {
   is-usable = usable-of (reader m top o) (record {
     n-low = omega arith;
     n-high = omega arith;
+    half = omega arith;
     own-low = omega arith;
     own-high = omega arith;
     max-high = h;

@@ -1,5 +1,5 @@
 -- The points on n, f and messages: by computation where they are small, by a general law where not.
-use Prim.Native.Nat.{ℕ, _+_, _*_}
+use Prim.Native.Nat.{ℕ, _+_, _*_, _^_, _<_}
 use native.Mathlib.Omega.{arith}
 use mathlib.Core.Path.{_≡_, refl, sym, ap, _∙_}
 use mathlib.Core.Bool.{true, false}
@@ -10,7 +10,7 @@ use Rattle.octets.specs.Answer.{Answer, result, refused}
 use Rattle.octets.specs.Bytes.{part}
 use Rattle.octets.specs.Loop.{upTo, allTo}
 use Rattle.octets.proofs.Put.{put-over}
-use Rattle.octets.proofs.Test.{both-true}
+use Rattle.octets.proofs.Test.{both-right, both-true, true-false, not-true-false}
 use Rattle.view.specs.Size.{isSize, nodes}
 use Rattle.view.specs.Report.{reportOf}
 use Rattle.view.specs.View.{viewOk}
@@ -22,13 +22,17 @@ use Rattle.wire.proofs.Entries.{answered}
 use Rattle.wire.proofs.Numbers.{length-encode}
 use Rattle.wire.proofs.RoundTrip.{read-back, read-only, refuses-seven, refuses-one}
 use Rattle.figures.specs.Figures.{totals, figuresOf}
-use Rattle.table.proofs.Sets.{faults-largest}
+use Rattle.table.specs.Quorum.{tolerates, isCluster}
+use Rattle.table.proofs.Sets.{faults-largest, tolerates-half, half-tolerates}
+use Rattle.calls.specs.CallResult.{CallResult}
 use Rattle.calls.specs.Entry as N
 use Rattle.layout.specs.Layout.{sizeFor}
+use Rattle.events.specs.Event.{Result}
 use Rattle.events.proofs.Told.{fresh-none, fresh-is}
 use Rattle.history.specs.Order.{OneTo}
 use Rattle.points.specs.Calls.{code}
-use Rattle.points.specs.Messages.{Refused, Taken, Sizes, Faults, readOne, ReadOne, GoodBytes}
+use Rattle.points.specs.Messages.{Refused, Taken, Sizes, readOne, ReadOne, GoodBytes}
+use Rattle.points.specs.Faults.{Made, NotMade, Faults}
 
 -- A call to write, by its answer.
 writes : (n : ℕ) (m : Message) (v out : List ℕ) {a : Answer ℕ} → answer n m v (length out) ≡ a
@@ -40,8 +44,8 @@ unfolding answer figuresOf N.fresh
 not-taken n s = record {
   read = λ b. refuses-one n b s;
   write = λ m v out. writes n m v out (rw s refl);
-  fresh-node = λ own. rw s refl;
-  fresh-cluster = λ b. fresh-none n b s;
+  fresh-node = λ f own. rw s refl;
+  fresh-cluster = λ f b. fresh-none n f b (rw s refl);
   figures = λ v e. rw (eq-eqb (length v) (16 * n) e, s) refl;
 }
 
@@ -50,8 +54,8 @@ unfolding figuresOf N.fresh sizeFor
 is-taken n (low, small) = record {
   read = λ m v h. read-back n m v s h;
   write = λ m v out h l. writes n m v out (answered n m v (length out) s h l);
-  fresh-node = λ own (lo, hi). rw (s, le-leb 1 own lo, le-leb own n hi) refl;
-  fresh-cluster = λ b e. fresh-is n b s (e ∙ rw s refl);
+  fresh-node = λ f own half (lo, hi). rw (s, half-tolerates n f small half, le-leb 1 own lo, le-leb own n hi) refl;
+  fresh-cluster = λ f b half e. fresh-is n f b (both-true s (half-tolerates n f small half)) (e ∙ rw s refl);
   figures = λ v e ok. rw (eq-eqb (length v) (16 * n) e, s, ok) refl;
 }
   where
@@ -69,8 +73,37 @@ sizes-hold = record {
   length-first = λ n v h. rw (ne-eqb (length v) (16 * n) h) refl;
 }
 
+-- No f is taken with 2f not below n.
+module _ (n f : ℕ) (h : f + f < n → ⊥) where
+  not-half : tolerates n f ≡ false
+  not-half = not-true-false (tolerates n f) (λ e. h (tolerates-half n f e))
+
+  none-made : isCluster n f ≡ false
+  none-made = not-true-false (isCluster n f) (λ e. true-false (tolerates n f)
+      (both-right (isSize n) (tolerates n f) e) not-half)
+
+  pub not-made : NotMade code n f
+  unfolding N.fresh
+  not-made = record { node = λ own. rw none-made refl; cluster = λ b. fresh-none n f b none-made }
+
+pub is-made : (n f : ℕ) → OneTo nodes n → f + f < n → Made code n f
+is-made n f size half = record {
+  node = λ own o. ap (λ (r : CallResult). r .answer) (is-taken n size .fresh-node f own half o);
+  cluster = λ b e. ap (λ (r : Result). r .answer) (is-taken n size .fresh-cluster f b half e);
+}
+
 pub faults-hold : Faults code
-faults-hold = record { values = refl; largest = faults-largest }
+faults-hold = record {
+  values = refl;
+  largest = faults-largest;
+  node-refused = λ n f own h. not-made n f h .node own;
+  cluster-refused = λ n f b h. not-made n f h .cluster b;
+  seven-of-15 = is-made 15 7 (omega arith, omega arith) (omega arith);
+  seven-of-16 = is-made 16 7 (omega arith, omega arith) (omega arith);
+  seven-of-14 = not-made 14 7 (λ h. omega arith);
+  none-of-any = λ n size. is-made n 0 size (omega (arith, size .0));
+  wide = λ n small. not-made n (2 ^ 63) (λ h. omega arith);
+}
 
 pub read-one-holds : (n : ℕ) → isSize n ≡ true → ReadOne code n
 unfolding decode front said begins encode allowed part answer

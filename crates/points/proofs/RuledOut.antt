@@ -2,8 +2,8 @@
 -- call is the code's but where a test says so, and no other clause rules it out; this is not proved. Two kinds of
 -- clause rule out no call alone: one that follows from others (`Follows`), which has a wrong call where it has the
 -- words of a document; and one that says of the code that there is such a case. Here for n, f and messages: `absent-1`
--- and `absent-16`, `values`, `written`, `read` and `long` follow.
-use Prim.Native.Nat.{ℕ, _+_, _*_, _≤_, _<_, min, max}
+-- and `absent-16`, `values`, the cases of f, `written`, `read` and `long` follow.
+use Prim.Native.Nat.{ℕ, _+_, _-_, _*_, _≤_, _<_, min, max}
 use native.Mathlib.Omega.{arith}
 use mathlib.Core.Path.{_≡_, refl, sym, ap, _∙_}
 use mathlib.Core.Bool.{Bool, not}
@@ -23,7 +23,7 @@ use Rattle.wire.specs.declared.Message.{Message}
 use Rattle.wire.specs.declared.Message.the-variants.{Read, Echo, Good}
 use Rattle.figures.specs.Figures.{totals, figuresOf}
 use Rattle.figures.specs.declared.Totals.{Totals}
-use Rattle.table.specs.Quorum.{faults}
+use Rattle.table.specs.Quorum.{faults, isCluster}
 use Rattle.step.specs.Told as K
 use Rattle.step.specs.declared.Ending.{Ending}
 use Rattle.calls.specs.Entry as N
@@ -81,26 +81,27 @@ long-lent n = length-replicate {A = ℕ} (code .size n) 0
 -- ---- n 0 and 17 refused: each call in turn takes 0 for 1, or 17 for 16
 
 -- The number that n is taken for is not refused.
-module _ (f : ℕ → ℕ) (k : ℕ) (size : OneTo nodes (f k)) where
-  abbrev taken : Taken code (f k)
-  taken = points .sizes .taken (f k) size
+module _ (g : ℕ → ℕ) (k : ℕ) (size : OneTo nodes (g k)) where
+  abbrev taken : Taken code (g k)
+  taken = points .sizes .taken (g k) size
 
-  reads-it : Refused (reads (λ n b. decode (f n) b)) k → ⊥
+  reads-it : Refused (reads (λ n b. decode (g n) b)) k → ⊥
   unfolding allowed
   reads-it R = apart (taken .read (Read 1) [] refl) (R .read (encode (Read 1) []))
 
-  writes-it : Refused (writes (λ n m v out. code .write (f n) m v out)) k → ⊥
+  writes-it : Refused (writes (λ n m v out. code .write (g n) m v out)) k → ⊥
   unfolding allowed encode fifteen
   writes-it R = apart (ap (λ (p : Answer ℕ × List ℕ). p .0) (taken .write (Read 1) [] fifteen refl (omega arith)))
       (ap (λ (p : Answer ℕ × List ℕ). p .0) (R .write (Read 1) [] fifteen))
 
-  makes-it : Refused (makes (λ n own. N.fresh (f n) own)) k → ⊥
+  makes-it : Refused (makes (λ n f own. N.fresh (g n) f own)) k → ⊥
   makes-it R = not-refused (ap (λ (x : CallResult). x .answer)
-      (sym (taken .fresh-node 1 (omega arith, size .0)) ∙ R .fresh-node 1))
+      (sym (taken .fresh-node 0 1 (omega (arith, size .0)) (omega arith, size .0)) ∙ R .fresh-node 0 1))
 
-  starts-it : Refused (starts (λ n b. E.fresh (f n) b)) k → ⊥
-  starts-it R = answers (ap (λ (r : E.Result). r .answer) (taken .fresh-cluster (lent (f k)) (long-lent (f k))))
-      (R .fresh-cluster (lent (f k)))
+  starts-it : Refused (starts (λ n f b. E.fresh (g n) f b)) k → ⊥
+  starts-it R = answers (ap (λ (r : E.Result). r .answer)
+      (taken .fresh-cluster 0 (lent (g k)) (omega (arith, size .0)) (long-lent (g k))))
+      (R .fresh-cluster 0 (lent (g k)))
 
 abbrev up : ℕ → ℕ
 up n = max n 1
@@ -120,16 +121,16 @@ write-zero P = writes-it up 0 (omega arith, omega arith) (P .sizes .none)
 write-seventeen : RuledOut (writes (λ n m v out. code .write (down n) m v out))
 write-seventeen P = writes-it down 17 (omega arith, omega arith) (P .sizes .seventeen)
 
-node-zero : RuledOut (makes (λ n own. N.fresh (up n) own))
+node-zero : RuledOut (makes (λ n f own. N.fresh (up n) f own))
 node-zero P = makes-it up 0 (omega arith, omega arith) (P .sizes .none)
 
-node-seventeen : RuledOut (makes (λ n own. N.fresh (down n) own))
+node-seventeen : RuledOut (makes (λ n f own. N.fresh (down n) f own))
 node-seventeen P = makes-it down 17 (omega arith, omega arith) (P .sizes .seventeen)
 
-cluster-zero : RuledOut (starts (λ n b. E.fresh (up n) b))
+cluster-zero : RuledOut (starts (λ n f b. E.fresh (up n) f b))
 cluster-zero P = starts-it up 0 (omega arith, omega arith) (P .sizes .none)
 
-cluster-seventeen : RuledOut (starts (λ n b. E.fresh (down n) b))
+cluster-seventeen : RuledOut (starts (λ n f b. E.fresh (down n) f b))
 cluster-seventeen P = starts-it down 17 (omega arith, omega arith) (P .sizes .seventeen)
 
 -- The figures for n = k are 12, whatever the length of the view.
@@ -158,28 +159,28 @@ unfolding allowed encode fifteen
 echo-unwritten P = apart (ap (λ (p : Answer ℕ × List ℕ). p .0)
     (P .sizes .taken 16 (omega arith, omega arith) .write (Echo 1) [] fifteen refl (omega arith))) refl
 
-first-only : RuledOut (makes (λ n own. N.fresh n 1))
+first-only : RuledOut (makes (λ n f own. N.fresh n f 1))
 first-only P =
     let size : OneTo nodes 2 = (omega arith, omega arith) in
     let e : _≡_ {A = ℕ} 1 2 = ap (λ (x : CallResult). x .node .own)
-    (sym (points .sizes .taken 2 size .fresh-node 1 (omega arith, omega arith))
-    ∙ P .sizes .taken 2 size .fresh-node 2 (omega arith, omega arith)) in omega arith
+    (sym (points .sizes .taken 2 size .fresh-node 0 1 (omega arith) (omega arith, omega arith))
+    ∙ P .sizes .taken 2 size .fresh-node 0 2 (omega arith) (omega arith, omega arith)) in omega arith
 
-abbrev untold : ℕ → List ℕ → E.Result
-untold n b = record { bytes = E.fresh n b .bytes; answer = refused 12; view = noView; sent = [] }
+abbrev untold : ℕ → ℕ → List ℕ → E.Result
+untold n f b = record { bytes = E.fresh n f b .bytes; answer = refused 12; view = noView; sent = [] }
 
 untold-at : (b : List ℕ) → length b ≡ code .size 16
-    → RuledOut (starts (λ n b. pick (isSize n) (untold n b) (E.fresh n b)))
+    → RuledOut (starts (λ n f b. pick (isCluster n f) (untold n f b) (E.fresh n f b)))
 untold-at b long P = apart (ap (λ (r : E.Result). r .answer)
-    (P .sizes .taken 16 (omega arith, omega arith) .fresh-cluster b long)) refl
+    (P .sizes .taken 16 (omega arith, omega arith) .fresh-cluster 0 b (omega arith) long)) refl
 
-start-untold : RuledOut (starts (λ n b. pick (isSize n) (untold n b) (E.fresh n b)))
+start-untold : RuledOut (starts (λ n f b. pick (isCluster n f) (untold n f b) (E.fresh n f b)))
 start-untold P = untold-at (lent 16) (long-lent 16) P
 
 no-size : RuledOut (lends (λ n. 0))
 unfolding E.fresh
 no-size P = apart (ap (λ (r : E.Result). r .answer)
-    (P .sizes .taken 16 (omega arith, omega arith) .fresh-cluster [] refl)) refl
+    (P .sizes .taken 16 (omega arith, omega arith) .fresh-cluster 0 [] (omega arith) refl)) refl
 
 -- the view of one node whose report has one extension busy
 busy : List ℕ
@@ -209,6 +210,28 @@ four-of-seven P = let e : 2 * 4 < 7 = P .faults .largest 7 (omega arith) .0 in o
 
 none-of-seven : RuledOut (fails (λ n. pick (eqb n 7) 0 (faults n)))
 none-of-seven P = let e : 7 ≤ 2 * (0 + 1) = P .faults .largest 7 (omega arith) .1 in omega arith
+
+-- Half of the nodes may stop: where 2f = n, f is taken for one less.
+abbrev halfTaken : ℕ → ℕ → ℕ
+halfTaken n f = pick (eqb (f + f) n) (f - 1) f
+
+half-node : RuledOut (makes (λ n f own. N.fresh n (halfTaken n f) own))
+half-node P = not-refused (ap (λ (x : CallResult). x .answer)
+    (sym (points .sizes .taken 14 (omega arith, omega arith) .fresh-node 6 1 (omega arith) (omega arith, omega arith))
+    ∙ P .faults .node-refused 14 7 1 (λ h. omega arith)))
+
+half-cluster : RuledOut (starts (λ n f b. E.fresh n (halfTaken n f) b))
+half-cluster P = answers (ap (λ (r : E.Result). r .answer)
+    (points .sizes .taken 14 (omega arith, omega arith) .fresh-cluster 6 (lent 14) (omega arith) (long-lent 14)))
+    (P .faults .cluster-refused 14 7 (lent 14) (λ h. omega arith))
+
+-- A node is made in whose record f is 0, whatever it is made with.
+none-recorded : RuledOut (makes (λ n f own. N.fresh n (pick (isCluster n f) 0 f) own))
+none-recorded P =
+    let size : OneTo nodes 3 = (omega arith, omega arith) in
+    let e : _≡_ {A = ℕ} 0 1 = ap (λ (x : CallResult). x .node .f)
+    (sym (points .sizes .taken 3 size .fresh-node 0 1 (omega arith) (omega arith, omega arith))
+    ∙ P .sizes .taken 3 size .fresh-node 1 1 (omega arith) (omega arith, omega arith)) in omega arith
 
 -- ---- read number 1: a buffer left as it was, another number read, a byte not missed
 

@@ -78,7 +78,7 @@ too-much b = getD-part (part (loaded b) (blockPlace 1) blockSize) (channelPlace 
 over : (b : List ℕ) {r : E.Result} (s : E.Result) → r ≡ loads b s → countOf (channel (r .bytes) 2 1) ≤ 16 → ⊥
 over b s e h = omega (arith, ap (λ (q : E.Result). countOf (channel (q .bytes) 2 1)) e, too-much (s .bytes), h)
 
-second : {b : List ℕ} → Filled 2 1 14 (Read 1) b → OneTo (stated b) 2
+second : {b : List ℕ} → Filled 2 0 1 14 (Read 1) b → OneTo (stated b) 2
 second F = (omega arith, omega (arith, F .states))
 
 -- Where node 1 of two steps, and there is room.

@@ -1,6 +1,6 @@
 -- For every clause of the points on the largest tag and stops a wrong call that it rules out: the code's call, but
 -- where a test says so. `by-answer` and `by-own` follow from `spent`.
-use Prim.Native.Nat.{ℕ, _-_, max}
+use Prim.Native.Nat.{ℕ, _+_, _-_, _<_, max}
 use native.Mathlib.Omega.{arith}
 use mathlib.Core.Path.{_≡_, refl, sym, ap, _∙_}
 use mathlib.Core.Bool.{Bool, true, false, not}
@@ -16,6 +16,8 @@ use Rattle.view.specs.View.{noView}
 use Rattle.wire.specs.Codec.{decode}
 use Rattle.wire.specs.declared.Message.{Message}
 use Rattle.wire.specs.declared.Message.the-variants.{Read, ReadAnswer, Write, WriteAnswer, Echo, Value, Good}
+use Rattle.logs.proofs.Count.{count-none}
+use Rattle.table.specs.Loop.{count}
 use Rattle.record.specs.declared.Node.{Node}
 use Rattle.record.specs.declared.Operation.{Operation}
 use Rattle.record.specs.declared.Operation.the-variants.{Update, Scan}
@@ -31,11 +33,14 @@ use Rattle.layout.specs.Layout.{stated, stopped, onBlock}
 use Rattle.events.specs.Event as E
 use Rattle.events.specs.Stop.{stop}
 use Rattle.history.specs.Order.{OneTo}
+use Rattle.eqaso.specs.Cluster as C
+use Rattle.mirror.specs.Mirrors.{Mirrors}
+use Rattle.mirror.proofs.Checks.{same-stopped}
 use Rattle.points.specs.LastTag.{LastAnswer, spentBy}
-use Rattle.points.specs.Stops.{OneStopped}
+use Rattle.points.specs.Stops.{OneStopped, Standing}
 use Rattle.points.proofs.Proved.{points}
 use Rattle.points.proofs.RuledOut.{RuledOut, apart, answers, number, space, long-space}
-use Rattle.points.proofs.Stops.{start-mirrors}
+use Rattle.points.proofs.Stops.{start-mirrors, is-cluster}
 use Rattle.points.proofs.Wrong.{hands, stops}
 
 -- ---- the largest tag: an answer changes nothing, or spends what it should not
@@ -159,13 +164,14 @@ two : OneTo 3 2
 two = (omega arith, omega arith)
 
 abbrev three : List ℕ
-three = E.fresh 3 (space 3) .bytes
+three = E.fresh 3 1 (space 3) .bytes
 
 fresh-stands : stopped three 1 ≡ false
-fresh-stands = start-mirrors 3 (omega arith, omega arith) (space 3) (long-space 3) .shows .says 1 one .stop
+fresh-stands =
+    start-mirrors 3 1 (omega arith, omega arith) (omega arith) (space 3) (long-space 3) .shows .says 1 one .stop
 
 fresh-states : stated three ≡ 3
-fresh-states = start-mirrors 3 (omega arith, omega arith) (space 3) (long-space 3) .shows .states
+fresh-states = start-mirrors 3 1 (omega arith, omega arith) (omega arith) (space 3) (long-space 3) .shows .states
 
 -- Node 1 of three has stopped, and node 2 stands.
 abbrev left : List ℕ
@@ -183,8 +189,40 @@ two-stands = not-true-false (stopped left 2) (λ e.
 single-stops : RuledOut (stops (but (λ c b. eqb (stated b) 1) halts))
 single-stops P =
     let I = points .stops .fresh-single (space 1) (long-space 1) in
-    answers (instead (λ c b. eqb (stated b) 1) halts 1 (E.fresh 1 (space 1) .bytes) (rw (I .states) refl))
+    answers (instead (λ c b. eqb (stated b) 1) halts 1 (E.fresh 1 0 (space 1) .bytes) (rw (I .states) refl))
     (P .stops .single _ I)
+
+-- Five nodes, with this f.
+abbrev five : ℕ → List ℕ
+five f = E.fresh 5 f (space 5) .bytes
+
+module _ (f : ℕ) (half : f + f < 5) where
+  start : Mirrors 5 f (five f) C.start
+  start = start-mirrors 5 f (omega arith, omega arith) half (space 5) (long-space 5)
+
+  one-stands : Standing 5 1 (five f)
+  one-stands = record {
+    cluster = is-cluster (omega arith, omega arith) start;
+    node = (omega arith, omega arith);
+    stands = start .shows .says 1 (omega arith, omega arith) .stop;
+  }
+
+  none-yet : count 5 (stopped (five f)) ≡ 0
+  none-yet = same-stopped (omega arith) (omega arith) start ∙ count-none 5
+
+-- 10 goes by the largest f: of five nodes two may stop, whatever is recorded.
+by-largest : RuledOut (stops (but (λ c b. eqb (stated b) 5) halts))
+by-largest P = answers
+    (instead (λ c b. eqb (stated b) 5) halts 1 (five 0) (rw (start 0 (omega arith) .shows .states) refl))
+    (P .stops .full 5 1 (five 0) (one-stands 0 (omega arith))
+    (none-yet 0 (omega arith) ∙ sym (start 0 (omega arith) .shows .faults)))
+
+-- Of five nodes none may stop, whatever is recorded.
+none-of-five : RuledOut (stops (but (λ c b. eqb (stated b) 5) (λ c b. E.refuse 10 b)))
+none-of-five P = apart (P .stops .fewer 5 1 (five 1) (one-stands 1 (omega arith))
+    (omega (arith, none-yet 1 (omega arith), start 1 (omega arith) .shows .faults)))
+    (instead (λ c b. eqb (stated b) 5) (λ c b. E.refuse 10 b) 1 (five 1)
+    (rw (start 1 (omega arith) .shows .states) refl))
 
 one-more-stops : RuledOut (stops (but standsOfThree halts))
 one-more-stops P = answers

@@ -63,11 +63,11 @@ of-one tr e a d (lo, hi) (low, high) up =
 -- ---- a begin that shows at once what was not reported, where nothing waits
 
 abbrev start : List ℕ
-start = E.fresh 1 (space 1) .bytes
+start = E.fresh 1 0 (space 1) .bytes
 
 fresh-one : both (eqb (stated start) 1) (eqb (countOf (channel start 1 1)) 0) ≡ true
 fresh-one =
-    let S = start-mirrors 1 size (space 1) (long-space 1) .shows in
+    let S = start-mirrors 1 0 size (omega arith) (space 1) (long-space 1) .shows in
     rw (S .states, says-count (size .1) (S .says 1 one) 1 one) refl
 
 -- a view with tag 1 of node 1
@@ -84,7 +84,7 @@ told = begins (λ c o x b. but (holding 1 0) (λ b r. ends (r .bytes)) b (E.begi
 abbrev seen : T.Trace
 seen = R.seen 1 (R.begin 1 Scan Whole) (ends []) ∷ []
 
-scans : traceOf told 1 (space 1) (scanThen 1 []) ≡ seen
+scans : traceOf told 1 0 (space 1) (scanThen 1 []) ≡ seen
 unfolding traceFrom
 scans = rw fresh-one refl
 
@@ -99,7 +99,8 @@ up = refl
 shows-some : RuledOut told
 unfolding shown T.firstEnding ℕ-discrete decide A.table
 shows-some P =
-    let e = P .absences .cut 1 1 size one (space 1) (long-space 1) [] (ap (λ tr. T.stopped tr 1) scans ∙ up)
+    let e = P .absences .cut 1 0 1 size (omega arith) one (space 1) (long-space 1) []
+    (ap (λ tr. T.stopped tr 1) scans ∙ up)
     (subst (NothingWaits 1) (sym scans) (of-one seen quiet)) .view in
     let z : _≡_ {A = ℕ} 1 0 = ap (λ (l : List Entry). getD l 0 absent .tag)
     (sym (ap (λ tr. T.scanView (T.fate tr 0)) scans) ∙ e) in omega arith
@@ -130,7 +131,8 @@ first-seen = refl
 
 scan-seen : R.seen 1 (R.begin 1 Scan Whole) (E.begin 1 Scan Whole start) ≡ scanned
 unfolding R.traceFrom
-scan-seen = ap (λ tr. T.at tr 0) (demand2 1 size (space 1) (long-space 1) .same (scanThen 1 [])) ∙ first-seen
+scan-seen = ap (λ tr. T.at tr 0) (demand2 1 0 size (omega arith) (space 1) (long-space 1) .same (scanThen 1 []))
+    ∙ first-seen
 
 -- The scan, a delivery that is refused, and one after which nothing waits.
 module _ (f : Extent → Bool) (x : Extent) (h : f x ≡ true) where
@@ -138,7 +140,7 @@ module _ (f : Extent → Bool) (x : Extent) (h : f x ≡ true) where
   two = record { sender = 0; receiver = 1; extent = x } ∷ record { sender = 1; receiver = 1; extent = Whole } ∷ []
 
   abbrev lost : T.Trace
-  lost = traceOf (delivers (loses f)) 1 (space 1) (scanThen 1 two)
+  lost = traceOf (delivers (loses f)) 1 0 (space 1) (scanThen 1 two)
 
   abbrev ran : T.Trace
   ran = scanned ∷ R.seen 1 (R.deliver 0 1 x) (E.refuse 3 [])
@@ -167,9 +169,11 @@ abbrev isWhole : Extent → Bool
 isWhole x = not (isCut x)
 
 never-finishes : RuledOut (delivers (loses isWhole))
-never-finishes P = unfinished isWhole Whole refl (P .absences .whole 1 1 size one (space 1) (long-space 1)
+never-finishes P = unfinished isWhole Whole refl
+    (P .absences .whole 1 0 1 size (omega arith) one (space 1) (long-space 1)
     (two isWhole Whole refl) (refl, (refl, tt)) (none-waits isWhole Whole refl) .finished)
 
 never-finishes-cut : RuledOut (delivers (loses isCut))
-never-finishes-cut P = unfinished isCut (Cut 0) refl (P .absences .cut 1 1 size one (space 1) (long-space 1)
+never-finishes-cut P = unfinished isCut (Cut 0) refl
+    (P .absences .cut 1 0 1 size (omega arith) one (space 1) (long-space 1)
     (two isCut (Cut 0) refl) (stands isCut (Cut 0) refl) (none-waits isCut (Cut 0) refl) .finished)

@@ -1,4 +1,4 @@
--- Stops: of one node none may stop, of three one may.
+-- Stops: of a cluster f nodes may stop; so of one none, and of three at most one.
 use Prim.Native.Nat.{ℕ, zero, suc, _+_, _≤_, _<_}
 use native.Mathlib.Omega.{arith}
 use native.Mathlib.Decide.{ℕ-discrete}
@@ -15,11 +15,10 @@ use Rattle.logs.proofs.Count.{count-none}
 use Rattle.logs.proofs.Update.{upd-same}
 use Rattle.view.specs.View.{noView}
 use Rattle.table.specs.Loop.{count}
-use Rattle.table.specs.Quorum.{faults}
 use Rattle.step.specs.declared.Ending.the-variants.{None}
 use Rattle.block.specs.Block.{halt}
 use Rattle.layout.specs.Layout.{clusterSize, faultsIn, stopped, onBlock, isNode}
-use Rattle.layout.proofs.Check.{sound-few}
+use Rattle.layout.proofs.Check.{sound-half, sound-few}
 use Rattle.events.specs.Event.{Result, refuse, fresh}
 use Rattle.events.specs.Stop.{stopIn, stop}
 use Rattle.events.proofs.Admitted.{is-stopped, is-admitted, stop-refused, stop-is, stop-many, stop-halts}
@@ -32,20 +31,20 @@ use Rattle.mirror.specs.Run.{after}
 use Rattle.mirror.proofs.Checks.{is-fit, is-sound, same-stopped}
 use Rattle.mirror.proofs.Run.{run-mirrors}
 use Rattle.mirror.proofs.Stops.{stop-mirrors}
-use Rattle.points.specs.Calls.{code}
-use Rattle.points.specs.Stops.{IsCluster, OneStopped, Stops}
+use Rattle.points.specs.Calls.{Calls, code}
+use Rattle.points.specs.Stops.{IsCluster, OneStopped, Standing, Stops}
 
 pub node-is : (n c : ℕ) → OneTo n c → isNode n c ≡ true
 node-is n c (lo, hi) = both-true (le-leb 1 c lo) (le-leb c n hi)
 
 -- Fresh bytes mirror the cluster at its start.
-pub start-mirrors : (n : ℕ) → OneTo nodes n → (b : List ℕ) → length b ≡ clusterSize n
-    → Mirrors n (fresh n b .bytes) K.start
+pub start-mirrors : (n f : ℕ) → OneTo nodes n → f + f < n → (b : List ℕ) → length b ≡ clusterSize n
+    → Mirrors n f (fresh n f b .bytes) K.start
 unfolding after K.after
-start-mirrors n (low, small) b long = run-mirrors n low small b long []
+start-mirrors n f (low, small) half b long = run-mirrors n f low small half b long []
 
 -- Bytes that mirror a cluster are those of a cluster.
-pub is-cluster : {n : ℕ} → OneTo nodes n → {b : List ℕ} {σ : K.Cluster} → Mirrors n b σ → IsCluster n b
+pub is-cluster : {n f : ℕ} → OneTo nodes n → {b : List ℕ} {σ : K.Cluster} → Mirrors n f b σ → IsCluster n b
 is-cluster (low, small) M = record {
   states = M .shows .states;
   fit = is-fit low small M;
@@ -79,8 +78,11 @@ module _ (p : ℕ → Bool) where
 
 -- A stop of node c of any cluster: 4, 10, or the stop.
 module _ {n : ℕ} {b : List ℕ} (I : IsCluster n b) (c : ℕ) (o : OneTo n c) where
-  pub few : count n (stopped b) ≤ faults n
-  few = subst (λ k. count k (stopped b) ≤ faults k) (I .states) (sound-few b (I .usable))
+  pub few : count n (stopped b) ≤ faultsIn b
+  few = subst (λ k. count k (stopped b) ≤ faultsIn b) (I .states) (sound-few b (I .usable))
+
+  pub half : faultsIn b + faultsIn b < n
+  half = subst (λ k. faultsIn b + faultsIn b < k) (I .states) (sound-half b (I .usable))
 
   here : both (isNode n c) (isNode n c) ≡ true
   here = both-true (node-is n c o) (node-is n c o)
@@ -92,56 +94,73 @@ module _ {n : ℕ} {b : List ℕ} (I : IsCluster n b) (c : ℕ) (o : OneTo n c) 
   stops-in : stopped b c ≡ false → stop c b ≡ stopIn n c b
   stops-in e = stop-is c b n (sym (I .states)) (sym (is-admitted c c b n (sym (I .states)) (I .fit) (I .usable) here e))
 
-  many-stopped : stopped b c ≡ false → faults n ≤ count n (stopped b) → stop c b ≡ refuse 10 b
-  many-stopped e h = stops-in e
-      ∙ stop-many c b n (le-ltb (count n (stopped b)) (faultsIn b) (rw (I .states) h))
+  many-stopped : stopped b c ≡ false → count n (stopped b) ≡ faultsIn b → stop c b ≡ refuse 10 b
+  many-stopped e h = stops-in e ∙ stop-many c b n (le-ltb (count n (stopped b)) (faultsIn b) (omega arith))
 
-  stops-now : stopped b c ≡ false → count n (stopped b) < faults n
+  stops-now : stopped b c ≡ false → count n (stopped b) < faultsIn b
       → stop c b ≡ record { bytes = onBlock c (halt n) b; answer = result None; view = noView; sent = [] }
-  stops-now e h = stops-in e
-      ∙ stop-halts c b n (lt-ltb (count n (stopped b)) (faultsIn b) (rw (I .states) h))
+  stops-now e h = stops-in e ∙ stop-halts c b n (lt-ltb (count n (stopped b)) (faultsIn b) h)
 
--- One node never stops.
-alone : (b : List ℕ) → IsCluster 1 b → stop 1 b ≡ refuse 10 b
-alone b I = many-stopped I 1 here
-    (not-true-false (stopped b 1) (λ e. omega (arith, few I 1 here, count-some (stopped b) 1 1 here e))) (omega arith)
-  where
-    here : OneTo 1 1
-    here = (omega arith, omega arith)
+-- The cases of a law that f stops are all.
+module _ (calls : Calls) (full : (n c : ℕ) (b : List ℕ) → Standing n c b → count n (stopped b) ≡ faultsIn b
+    → calls .stop c b ≡ refuse 10 b) where
+  -- Where none may, none has.
+  pub none-stops : (n c : ℕ) (b : List ℕ) → IsCluster n b → faultsIn b ≡ 0 → OneTo n c → calls .stop c b ≡ refuse 10 b
+  none-stops n c b I z o = full n c b (record {
+    cluster = I;
+    node = o;
+    stands = not-true-false (stopped b c) (λ e. omega (arith, few I c o, count-some (stopped b) n c o e));
+  }) (omega (arith, few I c o))
 
--- Of three nodes of which one has stopped the others stand.
-second-stop : (b : List ℕ) (a c : ℕ) → OneStopped b a → OneTo 3 c → (c ≡ a → ⊥) → stop c b ≡ refuse 10 b
-second-stop b a c S o ne = many-stopped (S .three) c o
-    (not-true-false (stopped b c) (λ e. omega (
+  -- One node never stops.
+  pub alone : (b : List ℕ) → IsCluster 1 b → calls .stop 1 b ≡ refuse 10 b
+  alone b I = none-stops 1 1 b I (omega (arith, half I 1 (omega arith, omega arith))) (omega arith, omega arith)
+
+  -- Of three nodes of which one has stopped the others stand.
+  pub second-stop : (b : List ℕ) (a c : ℕ) → OneStopped b a → OneTo 3 c → (c ≡ a → ⊥) → calls .stop c b ≡ refuse 10 b
+  second-stop b a c S o ne = full 3 c b (record {
+    cluster = S .three;
+    node = o;
+    stands = not-true-false (stopped b c) (λ e. omega (
       arith,
       few (S .three) c o,
+      half (S .three) c o,
       count-two (stopped b) 3 a c (S .node) o ne (S .stop) e,
-    )))
-    (omega (arith, count-some (stopped b) 3 a (S .node) (S .stop)))
+    ));
+  }) (omega (
+    arith,
+    few (S .three) c o,
+    half (S .three) c o,
+    count-some (stopped b) 3 a (S .node) (S .stop),
+  ))
 
--- A fresh cluster of three nodes, of which a stops.
+all-stopped : (n c : ℕ) (b : List ℕ) → Standing n c b → count n (stopped b) ≡ faultsIn b → stop c b ≡ refuse 10 b
+all-stopped n c b S = many-stopped (S .cluster) c (S .node) (S .stands)
+
+-- A fresh cluster of three nodes with f = 1, of which a stops.
 module _ (b : List ℕ) (long : length b ≡ clusterSize 3) (a : ℕ) (at : OneTo 3 a) where
   abbrev three : List ℕ
-  three = fresh 3 b .bytes
+  three = fresh 3 1 b .bytes
 
   size : OneTo nodes 3
   size = (omega arith, omega arith)
 
-  start : Mirrors 3 three K.start
-  start = start-mirrors 3 size b long
+  start : Mirrors 3 1 three K.start
+  start = start-mirrors 3 1 size (omega arith) b long
 
   none-stopped : count 3 (stopped three) ≡ 0
   none-stopped = same-stopped (size .0) (size .1) start ∙ count-none 3
 
   first-stop : stop a three
       ≡ record { bytes = onBlock a (halt 3) three; answer = result None; view = noView; sent = [] }
-  first-stop = stops-now (is-cluster size start) a at (start .shows .says a at .stop) (omega (arith, none-stopped))
+  first-stop = stops-now (is-cluster size start) a at (start .shows .says a at .stop)
+      (omega (arith, none-stopped, start .shows .faults))
 
   abbrev left : List ℕ
   left = stop a three .bytes
 
-  one-stopped : Mirrors 3 left (K.commit a (H.cut 0) (A.still A.fresh) [] (λ c d. []) K.start .cluster)
-  one-stopped = subst (λ (r : Result). Mirrors 3 (r .bytes)
+  one-stopped : Mirrors 3 1 left (K.commit a (H.cut 0) (A.still A.fresh) [] (λ c d. []) K.start .cluster)
+  one-stopped = subst (λ (r : Result). Mirrors 3 1 (r .bytes)
       (K.commit a (H.cut 0) (A.still A.fresh) [] (λ c d. []) K.start .cluster)) (sym first-stop)
       (stop-mirrors (size .1) start a at (omega (arith, count-none 3)))
 
@@ -154,9 +173,13 @@ module _ (b : List ℕ) (long : length b ≡ clusterSize 3) (a : ℕ) (at : OneT
 
 pub stops-hold : Stops code
 stops-hold = record {
-  single = alone;
-  fresh-single = λ b long. is-cluster (omega arith, omega arith) (start-mirrors 1 (omega arith, omega arith) b long);
-  second = second-stop;
+  full = all-stopped;
+  fewer = λ n c b S h. ap (λ (r : Result). r .answer) (stops-now (S .cluster) c (S .node) (S .stands) h);
+  none = none-stops code all-stopped;
+  single = alone code all-stopped;
+  fresh-single = λ b long.
+      is-cluster (omega arith, omega arith) (start-mirrors 1 0 (omega arith, omega arith) (omega arith) b long);
+  second = second-stop code all-stopped;
   again = λ b a S. stopped-before (S .three) a (S .node) (S .stop);
   first = λ b long a at. record {
     answer = ap (λ (r : Result). r .answer) (first-stop b long a at);

@@ -86,7 +86,7 @@ lends f = record {
   stop = code .stop;
 }
 
-abbrev pub makes : (ℕ → ℕ → CallResult) → Calls
+abbrev pub makes : (ℕ → ℕ → ℕ → CallResult) → Calls
 makes f = record {
   read = code .read;
   write = code .write;
@@ -116,7 +116,7 @@ hands f = record {
   stop = code .stop;
 }
 
-abbrev pub starts : (ℕ → List ℕ → Result) → Calls
+abbrev pub starts : (ℕ → ℕ → List ℕ → Result) → Calls
 starts f = record {
   read = code .read;
   write = code .write;

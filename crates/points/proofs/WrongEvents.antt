@@ -93,37 +93,37 @@ ends b r = record { bytes = r .bytes; answer = result Spent; view = r .view; sen
 one : OneTo 1 1
 one = (omega arith, omega arith)
 
-pub fourteen : (b : List ℕ) × Filled 1 1 14 (Read 1) b
-fourteen = filled-reads 1 (omega arith, omega arith) 1 one 13 (omega arith)
+pub fourteen : (b : List ℕ) × Filled 1 0 1 14 (Read 1) b
+fourteen = filled-reads 1 0 (omega arith, omega arith) (omega arith) 1 one 13 (omega arith)
 
-pub fifteen : (b : List ℕ) × Filled 1 1 15 (Read 1) b
+pub fifteen : (b : List ℕ) × Filled 1 0 1 15 (Read 1) b
 fifteen = points .channels .fifteen-reads
 
-pub sixteen : (b : List ℕ) × Filled 1 1 16 (Read 1) b
+pub sixteen : (b : List ℕ) × Filled 1 0 1 16 (Read 1) b
 sixteen = points .channels .sixteen-reads
 
-pub too-many : (b : List ℕ) × Filled 1 1 16 (Write 1 1) b
+pub too-many : (b : List ℕ) × Filled 1 0 1 16 (Write 1 1) b
 too-many = points .channels .sixteen-writes
 
 -- Two nodes.
 two : OneTo nodes 2
 two = (omega arith, omega arith)
 
-pub pair : (b : List ℕ) × Filled 2 1 14 (Read 1) b
-pair = filled-reads 2 two 1 (omega arith, omega arith) 13 (omega arith)
+pub pair : (b : List ℕ) × Filled 2 0 1 14 (Read 1) b
+pair = filled-reads 2 0 two (omega arith) 1 (omega arith, omega arith) 13 (omega arith)
 
-pub too-many-pair : (b : List ℕ) × Filled 2 1 16 (Write 1 1) b
-too-many-pair = filled-writes 2 two 1 (omega arith, omega arith) 15 (omega arith)
+pub too-many-pair : (b : List ℕ) × Filled 2 0 1 16 (Write 1 1) b
+too-many-pair = filled-writes 2 0 two (omega arith) 1 (omega arith, omega arith) 15 (omega arith)
 
 -- Three nodes: sixteen messages wait from the first to the second.
-pub three : (b : List ℕ) × Filled 3 2 16 (Read 1) b
-three = filled-reads 3 (omega arith, omega arith) 2 (omega arith, omega arith) 15 (omega arith)
+pub three : (b : List ℕ) × Filled 3 1 2 16 (Read 1) b
+three = filled-reads 3 1 (omega arith, omega arith) (omega arith) 2 (omega arith, omega arith) 15 (omega arith)
 
 -- Fifteen messages are left, whatever was there.
 abbrev pub fifteenLeft : Event
 fifteenLeft b r = accepted (fifteen .0)
 
-module _ {n k : ℕ} {b : List ℕ} (F : Filled n 1 k (Read 1) b) where
+module _ {n f k : ℕ} {b : List ℕ} (F : Filled n f 1 k (Read 1) b) where
   pub stands : StandsAfter b 1 Whole 1
   stands = still-stands b 1 1 (F .begins .at) (F .begins .stands)
 
@@ -145,7 +145,7 @@ module _ {n k : ℕ} {b : List ℕ} (F : Filled n 1 k (Read 1) b) where
     room = points .channels .begin b 1 Scan Whole (F .begins) .only (None, begin-none)
 
 -- A begin of the first of three that is cut after two entries.
-module _ {b : List ℕ} (F : Filled 3 2 16 (Read 1) b) where
+module _ {b : List ℕ} (F : Filled 3 1 2 16 (Read 1) b) where
   pub may-cut : MayBegin b 1 (Cut 2)
   unfolding count
   may-cut = record {
@@ -157,6 +157,7 @@ module _ {b : List ℕ} (F : Filled 3 2 16 (Read 1) b) where
     left = F .begins .left;
     cut = λ h. rw (
       F .states,
+      F .faults,
       F .stands 1 (omega arith, omega arith),
       F .stands 2 (omega arith, omega arith),
       F .stands 3 (omega arith, omega arith),
@@ -179,7 +180,7 @@ module _ {b : List ℕ} (F : Filled 3 2 16 (Read 1) b) where
 
 -- ---- the tests hold there
 
-module _ {n k : ℕ} {m : Message} {b : List ℕ} (F : Filled n 1 k m b) where
+module _ {n f k : ℕ} {m : Message} {b : List ℕ} (F : Filled n f 1 k m b) where
   holds-it : both (eqb (stated b) n) (eqb (countOf (channel b 1 1)) k) ≡ true
   holds-it = rw (F .states, F .holds) (both-true (eq-eqb n n refl) (eq-eqb k k refl))
 

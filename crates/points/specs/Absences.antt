@@ -1,5 +1,5 @@
 -- The point on absences: a look at a fresh house, all delivered, shows n absences.
-use Prim.Native.Nat.{ℕ}
+use Prim.Native.Nat.{ℕ, _+_, _<_}
 use mathlib.Core.Path.{_≡_}
 use mathlib.Core.Bool.{false}
 use mathlib.Core.List.{List, [], _∷_, map}
@@ -35,10 +35,10 @@ AllWhole (d ∷ ds) = (d .extent ≡ Whole) × AllWhole ds
 
 -- The operation that began at index 0 is a scan that has finished, and its view is n times no report. As n is not 0,
 -- `begun` and `finished` follow from `view`.
-pub record ShowsNone (calls : Calls) (n c : ℕ) (b : List ℕ) (ds : List Delivery) : Type 0 where
-  pub begun : T.begun (traceOf calls n b (scanThen c ds)) 0 ≡ T.scanning c
-  pub finished : Finished (T.fate (traceOf calls n b (scanThen c ds)) 0)
-  pub view : T.scanView (T.fate (traceOf calls n b (scanThen c ds)) 0) ≡ replicate n absent
+pub record ShowsNone (calls : Calls) (n f c : ℕ) (b : List ℕ) (ds : List Delivery) : Type 0 where
+  pub begun : T.begun (traceOf calls n f b (scanThen c ds)) 0 ≡ T.scanning c
+  pub finished : Finished (T.fate (traceOf calls n f b (scanThen c ds)) 0)
+  pub view : T.scanView (T.fate (traceOf calls n f b (scanThen c ds)) 0) ≡ replicate n absent
 
 -- Five deliveries at a cluster of one node.
 abbrev pub five : List Delivery
@@ -47,11 +47,13 @@ five = replicate 5 (record { sender = 1; receiver = 1; extent = Whole })
 pub record Absences (calls : Calls) : Type 0 where
   -- With whole deliveries. It follows from the next clause, since these stop no node, and rules out no call that that
   -- one does not.
-  pub whole : (n c : ℕ) → OneTo nodes n → OneTo n c → (b : List ℕ) → length b ≡ clusterSize n → (ds : List Delivery)
-      → AllWhole ds → NothingWaits n (traceOf calls n b (scanThen c ds)) → ShowsNone calls n c b ds
+  pub whole : (n f c : ℕ) → OneTo nodes n → f + f < n → OneTo n c → (b : List ℕ) → length b ≡ clusterSize n
+      → (ds : List Delivery)
+      → AllWhole ds → NothingWaits n (traceOf calls n f b (scanThen c ds)) → ShowsNone calls n f c b ds
   -- With cut deliveries too, where the scan's node has not stopped.
-  pub cut : (n c : ℕ) → OneTo nodes n → OneTo n c → (b : List ℕ) → length b ≡ clusterSize n → (ds : List Delivery)
-      → T.stopped (traceOf calls n b (scanThen c ds)) c ≡ false
-      → NothingWaits n (traceOf calls n b (scanThen c ds)) → ShowsNone calls n c b ds
+  pub cut : (n f c : ℕ) → OneTo nodes n → f + f < n → OneTo n c → (b : List ℕ) → length b ≡ clusterSize n
+      → (ds : List Delivery)
+      → T.stopped (traceOf calls n f b (scanThen c ds)) c ≡ false
+      → NothingWaits n (traceOf calls n f b (scanThen c ds)) → ShowsNone calls n f c b ds
   -- There is such a list: at the code's cluster of one node, the scan and its five deliveries.
-  pub all-delivered : (b : List ℕ) → length b ≡ clusterSize 1 → NothingWaits 1 (traceOf code 1 b (scanThen 1 five))
+  pub all-delivered : (b : List ℕ) → length b ≡ clusterSize 1 → NothingWaits 1 (traceOf code 1 0 b (scanThen 1 five))

@@ -26,14 +26,14 @@ pub record Calls : Type 0 where
   -- The answer, and the buffer after it.
   pub write : (n : ℕ) → Message → (view out : List ℕ) → Answer ℕ × List ℕ
   pub figures : (n : ℕ) → List ℕ → Answer Totals
-  -- f, and the length to lend for a cluster.
+  -- The largest f, and the length to lend for a cluster.
   pub faults : ℕ → ℕ
   pub size : ℕ → ℕ
   -- One node.
-  pub fresh-node : (n own : ℕ) → CallResult
+  pub fresh-node : (n f own : ℕ) → CallResult
   pub message : Node → (sender : ℕ) → (bytes out : List ℕ) → CallResult
   -- A cluster in bytes.
-  pub fresh : (n : ℕ) → List ℕ → E.Result
+  pub fresh : (n f : ℕ) → List ℕ → E.Result
   pub begin : (node : ℕ) → Operation → Extent → List ℕ → E.Result
   pub deliver : (sender receiver : ℕ) → Extent → List ℕ → E.Result
   pub stop : (node : ℕ) → List ℕ → E.Result
@@ -64,5 +64,5 @@ traceFrom calls n b [] = []
 traceFrom calls n b (e ∷ es) = R.seen n e (event calls e b) ∷ traceFrom calls n (event calls e b .bytes) es
 
 -- The run from what fresh makes of lent bytes b.
-abbrev pub traceOf : Calls → ℕ → List ℕ → List R.Event → Trace
-traceOf calls n b es = traceFrom calls n (calls .fresh n b .bytes) es
+abbrev pub traceOf : Calls → (n f : ℕ) → List ℕ → List R.Event → Trace
+traceOf calls n f b es = traceFrom calls n (calls .fresh n f b .bytes) es

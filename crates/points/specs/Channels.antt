@@ -103,11 +103,12 @@ pub record Judged (calls : Calls) (e : R.Event) (b : List ℕ) (c : ℕ) (x : Ex
 
 -- ---- the cases
 
--- A cluster of n nodes, in which k messages m wait from node 1 to node d.
-pub record Filled (n d k : ℕ) (m : Message) (b : List ℕ) : Type 0 where
+-- A cluster of n nodes, f of which may stop, in which k messages m wait from node 1 to node d.
+pub record Filled (n f d k : ℕ) (m : Message) (b : List ℕ) : Type 0 where
   pub begins : MayBegin b 1 Whole
   pub delivers : MayDeliver b 1 d Whole m
   pub states : stated b ≡ n
+  pub faults : faultsIn b ≡ f
   pub stands : (c : ℕ) → OneTo n c → stopped b c ≡ false
   pub holds : countOf (channel b 1 d) ≡ k
   pub no-more : (c : ℕ) → OneTo n c → countOf (channel b 1 c) ≤ k
@@ -134,8 +135,8 @@ pub record Channels (calls : Calls) : Type 0 where
       → (calls .deliver c c Whole b .answer ≡ result None)
       × (countOf (channel (calls .deliver c c Whole b .bytes) c c) ≡ 16)
   -- It frees no more: a write with a tag above maxtag is echoed and answered, and of sixteen such none is delivered.
-  pub overflow : (b : List ℕ) → Filled 1 1 16 (Write 1 1) b → calls .deliver 1 1 Whole b ≡ refuse 11 b
+  pub overflow : (b : List ℕ) → Filled 1 0 1 16 (Write 1 1) b → calls .deliver 1 1 Whole b ≡ refuse 11 b
   -- There are such clusters.
-  pub fifteen-reads : (b : List ℕ) × Filled 1 1 15 (Read 1) b
-  pub sixteen-reads : (b : List ℕ) × Filled 1 1 16 (Read 1) b
-  pub sixteen-writes : (b : List ℕ) × Filled 1 1 16 (Write 1 1) b
+  pub fifteen-reads : (b : List ℕ) × Filled 1 0 1 15 (Read 1) b
+  pub sixteen-reads : (b : List ℕ) × Filled 1 0 1 16 (Read 1) b
+  pub sixteen-writes : (b : List ℕ) × Filled 1 0 1 16 (Write 1 1) b

@@ -14,7 +14,7 @@ use Rattle.wire.specs.Layout.{encode}
 use Rattle.wire.specs.Codec.{decode}
 use Rattle.wire.specs.declared.Message.the-variants.{ReadAnswer, Write, Value}
 use Rattle.table.specs.Quorum.{member, with, membersIn}
-use Rattle.record.specs.Record.{blank, setTop, setWait, closed, faultsOf}
+use Rattle.record.specs.Record.{blank, setTop, setWait, closed}
 use Rattle.record.specs.Usable.{usable}
 use Rattle.record.specs.declared.Node.{Node}
 use Rattle.record.specs.declared.Operation.{Operation}
@@ -35,7 +35,7 @@ pub record LastAnswer (c : Node) (o : Operation) (m s t : ℕ) (b out : List ℕ
   pub is-usable : usable c ≡ true
   pub answered : ℕ
   pub reads : c .wait ≡ Reading o answered m
-  pub short : membersIn (c .n) answered + 1 ≡ c .n - faultsOf c
+  pub short : membersIn (c .n) answered + 1 ≡ c .n - c .f
   pub sender : OneTo (c .n) s
   pub new : member answered s ≡ false
   pub says : decode (c .n) b ≡ result (ReadAnswer (c .request) t)
@@ -70,10 +70,10 @@ scanGoesOn c out = record {
   out = put out 0 (encode (Write (c .request + 1) limit) []);
 }
 
--- Node 1 of three, which reads with request number 1 and has counted its own answer with tag m; node 2's answer with
--- tag t, and a buffer.
+-- Node 1 of three with f = 1, which reads with request number 1 and has counted its own answer with tag m; node 2's
+-- answer with tag t, and a buffer.
 abbrev pub reader : (m maxtag : ℕ) → Operation → Node
-reader m top o = setWait (setTop (blank 3 1) top noView) 1 (Reading o (with 0 1) m) noView
+reader m top o = setWait (setTop (blank 3 1 1) top noView) 1 (Reading o (with 0 1) m) noView
 
 abbrev pub MeetsAt : (m maxtag t : ℕ) → Operation → Type 0
 MeetsAt m top t o = LastAnswer (reader m top o) o m 2 t (encode (ReadAnswer 1 t) []) (replicate 512 0)

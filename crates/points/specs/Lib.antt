@@ -4,5 +4,6 @@ pub mod Channels
 pub mod Figures
 pub mod LastTag
 pub mod Messages
+pub mod Faults
 pub mod Points
 pub mod Stops

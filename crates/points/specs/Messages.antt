@@ -1,8 +1,8 @@
--- The points on n, f and messages.
+-- The points on n and messages.
 use Prim.Native.Nat.{ℕ, _+_, _*_, _≤_, _<_}
 use mathlib.Core.Path.{_≡_}
 use mathlib.Core.Bool.{true}
-use mathlib.Core.List.{List, [], _∷_, map}
+use mathlib.Core.List.{List, [], _∷_}
 use lib.ListN.{length, take, getD, replicate}
 use Rattle.octets.specs.Answer.{result, refused}
 use Rattle.octets.specs.Bytes.{put}
@@ -27,22 +27,24 @@ use Rattle.points.specs.Calls.{Calls}
 pub record Refused (calls : Calls) (n : ℕ) : Type 0 where
   pub read : (b : List ℕ) → calls .read n b ≡ refused 1
   pub write : (m : Message) (v out : List ℕ) → calls .write n m v out ≡ (refused 1, out)
-  pub fresh-node : (own : ℕ) → calls .fresh-node n own ≡ N.refuse 1 (blank 0 0) []
-  pub fresh-cluster : (b : List ℕ) → calls .fresh n b ≡ refuse 1 b
+  pub fresh-node : (f own : ℕ) → calls .fresh-node n f own ≡ N.refuse 1 (blank 0 0 0) []
+  pub fresh-cluster : (f : ℕ) (b : List ℕ) → calls .fresh n f b ≡ refuse 1 b
   -- of a view of the length for n
   pub figures : (v : List ℕ) → length v ≡ 16 * n → calls .figures n v ≡ refused 1
 
--- Every call that is given n takes it: each message that the layout allows is read and written, and so on.
+-- Every call that is given n takes it: each message that the layout allows is read and written, a node and a cluster
+-- are made with every f for which 2f < n, and so on.
 pub record Taken (calls : Calls) (n : ℕ) : Type 0 where
   pub read : (m : Message) (v : List ℕ) → allowed n m v ≡ true → calls .read n (encode m v) ≡ result m
   pub write : (m : Message) (v out : List ℕ) → allowed n m v ≡ true → length (encode m v) ≤ length out
       → calls .write n m v out ≡ (result (length (encode m v)), put out 0 (encode m v))
-  pub fresh-node : (own : ℕ) → OneTo n own
-      → calls .fresh-node n own
-      ≡ record { answer = nothing; ending = result None; node = blank n own; length = 0; out = [] }
+  pub fresh-node : (f own : ℕ) → f + f < n → OneTo n own
+      → calls .fresh-node n f own
+      ≡ record { answer = nothing; ending = result None; node = blank n f own; length = 0; out = [] }
   -- in bytes of the length that the library states for n
-  pub fresh-cluster : (b : List ℕ) → length b ≡ calls .size n
-      → calls .fresh n b ≡ record { bytes = freshBytes n (length b); answer = result None; view = noView; sent = [] }
+  pub fresh-cluster : (f : ℕ) (b : List ℕ) → f + f < n → length b ≡ calls .size n
+      → calls .fresh n f b
+      ≡ record { bytes = freshBytes n f (length b); answer = result None; view = noView; sent = [] }
   pub figures : (v : List ℕ) → length v ≡ 16 * n → viewOk n limit v ≡ true → calls .figures n v ≡ result (totals n v)
 
 abbrev pub zeros : Totals
@@ -58,14 +60,6 @@ pub record Sizes (calls : Calls) : Type 0 where
   pub absent-16 : calls .figures 16 (replicate 256 0) ≡ result zeros
   -- The length of a view is judged before n, whatever n is.
   pub length-first : (n : ℕ) (v : List ℕ) → (length v ≡ 16 * n → ⊥) → calls .figures n v ≡ refused 12
-
--- ---- f is 0, 0, 1, 1, 2, 7 for n 1, 2, 3, 4, 5, 16
-
-pub record Faults (calls : Calls) : Type 0 where
-  -- These follow from `largest`, and rule out no call that it does not.
-  pub values : map (calls .faults) (1 ∷ 2 ∷ 3 ∷ 4 ∷ 5 ∷ 16 ∷ []) ≡ 0 ∷ 0 ∷ 1 ∷ 1 ∷ 2 ∷ 7 ∷ []
-  -- f is the largest number with 2 f < n.
-  pub largest : (n : ℕ) → 1 ≤ n → (2 * calls .faults n < n) × (n ≤ 2 * (calls .faults n + 1))
 
 -- ---- read number 1 is 01 0001 01 02 0008 0000000000000001 (hexadecimal); one byte less is 7
 

@@ -52,7 +52,7 @@ module _ (r : List ℕ) (h : Bytes r) (l : length r ≡ recordSize) where
   unfolding put tab part join
   numbers-there =
       ap (λ (t : List ℕ). take nPlace r ++ t ++ drop (nPlace + codePlace) r)
-      (words-there r h 5 nPlace (omega arith)) ∙ take-append-drop codePlace r
+      (words-there r h (length (numbers (headOf r))) nPlace (omega arith)) ∙ take-append-drop codePlace r
 
   -- so that another wait is written alone
   pub wait-bytes : (w : Wait) → put r codePlace (waitBytes w) ≡ recordBytes (withWait (recordOf r) w)

@@ -1,7 +1,7 @@
 -- What usable says, fact by fact, and back. Assumes nothing.
 use mathlib.Core.Path.{_≡_, refl}
 use mathlib.Core.Bool.{Bool, true, false}
-use Prim.Native.Nat.{ℕ, _-_, _≤_, _<_}
+use Prim.Native.Nat.{ℕ, _+_, _-_, _≤_, _<_}
 use native.Mathlib.Nat.{le-of-lt}
 use native.Mathlib.Decide.{decLe, decLt}
 use native.Mathlib.Omega.{arith}
@@ -9,10 +9,11 @@ use lib.Dec.{leb, ltb}
 use borrow.Author.Tests.{leb-true, le-leb, ltb-true, lt-ltb}
 use Rattle.octets.proofs.Test.{both-left, both-right, both-true}
 use Rattle.octets.specs.Test.{both}
-use Rattle.view.specs.Size.{limit, nodes}
+use Rattle.view.specs.Size.{limit, nodes, isSize}
 use Rattle.table.specs.Loop.{either}
-use Rattle.table.specs.Quorum.{only}
+use Rattle.table.specs.Quorum.{only, tolerates}
 use Rattle.table.specs.Table.{viewWithin, heardWithin}
+use Rattle.table.proofs.Sets.{tolerates-half, half-tolerates}
 use Rattle.record.specs.declared.Node.{Node}
 use Rattle.record.specs.declared.Operation.{Operation}
 use Rattle.record.specs.declared.Kind.{Kind}
@@ -22,6 +23,7 @@ use Rattle.record.specs.Usable.{stillUses, roundTag, roundOk, waitOk, si
 pub record Parts (c : Node) : Type 0 where
   pub n-low : 1 ≤ c .n
   pub n-high : c .n ≤ nodes
+  pub half : c .f + c .f < c .n
   pub own-low : 1 ≤ c .own
   pub own-high : c .own ≤ c .n
   pub max-high : c .maxtag ≤ limit
@@ -42,7 +44,7 @@ halves a b h f = f (both-left a b h) (both-right a b h)
 -- the tests of usable, group by group
 module _ (c : Node) where
   abbrev nT : Bool
-  nT = both (leb 1 (c .n)) (leb (c .n) nodes)
+  nT = both (isSize (c .n)) (tolerates (c .n) (c .f))
 
   abbrev ownT : Bool
   ownT = both (leb 1 (c .own)) (leb (c .own) (c .n))
@@ -67,7 +69,8 @@ module _ (c : Node) where
 
 pub sizes-most : (c : Node) → sizesOk c ≡ true → c .n ≤ nodes
 sizes-most c h =
-    halves (nT c) (ownT c) h (λ p q. leb-true (c .n) nodes (both-right (leb 1 (c .n)) (leb (c .n) nodes) p))
+    halves (nT c) (ownT c) h (λ p q. halves (isSize (c .n)) (tolerates (c .n) (c .f)) p
+    (λ s t. leb-true (c .n) nodes (both-right (leb 1 (c .n)) (leb (c .n) nodes) s)))
 
 pub parts : (c : Node) → usable c ≡ true → Parts c
 unfolding usable numbersOk tablesOk
@@ -75,7 +78,8 @@ parts c h =
     halves (sizesOk c) (both (both (maxT c) (leftT c)) (both (firstT c) (restT c))) h (λ s r.
     halves (both (maxT c) (leftT c)) (both (firstT c) (restT c)) r (λ p t.
     halves (nT c) (ownT c) s (λ s₁ s₂.
-    halves (leb 1 (c .n)) (leb (c .n) nodes) s₁ (λ nl nh.
+    halves (isSize (c .n)) (tolerates (c .n) (c .f)) s₁ (λ s₃ s₄.
+    halves (leb 1 (c .n)) (leb (c .n) nodes) s₃ (λ nl nh.
     halves (leb 1 (c .own)) (leb (c .own) (c .n)) s₂ (λ ol oh.
     halves (maxT c) (leftT c) p (λ p₁ p₂.
     halves (leb (c .maxtag) limit) (numT c) p₁ (λ mx rk.
@@ -88,6 +92,7 @@ parts c h =
     record {
       n-low = leb-true 1 (c .n) nl;
       n-high = leb-true (c .n) nodes nh;
+      half = tolerates-half (c .n) (c .f) s₄;
       own-low = leb-true 1 (c .own) ol;
       own-high = leb-true (c .own) (c .n) oh;
       max-high = leb-true (c .maxtag) limit mx;
@@ -100,12 +105,13 @@ parts c h =
       max-ok = am;
       round-ok = ar;
       kept-ok = ke;
-    })))))))))))))
+    }))))))))))))))
 
 pub usable-of : (c : Node) → Parts c → usable c ≡ true
 unfolding usable numbersOk tablesOk
 usable-of c p =
-    both-true (both-true (both-true (le-leb 1 (c .n) (p .n-low)) (le-leb (c .n) nodes (p .n-high)))
+    both-true (both-true (both-true (both-true (le-leb 1 (c .n) (p .n-low)) (le-leb (c .n) nodes (p .n-high)))
+    (half-tolerates (c .n) (c .f) (p .n-high) (p .half)))
     (both-true (le-leb 1 (c .own) (p .own-low)) (le-leb (c .own) (c .n) (p .own-high))))
     (both-true (both-true (both-true (le-leb (c .maxtag) limit (p .max-high))
     (both-true (le-leb (c .request) limit (p .request-high)) (le-leb (c .kept) limit (p .kept-high))))

@@ -7,16 +7,16 @@ use lib.ListN.{replicate}
 use Rattle.view.specs.declared.View.{View}
 use Rattle.view.specs.View.{noView}
 use Rattle.table.specs.Table.{cells}
-use Rattle.table.specs.Quorum.{faults}
 use Rattle.record.specs.declared.Node.{Node}
 use Rattle.record.specs.declared.Wait.{Wait}
 use Rattle.record.specs.declared.Wait.the-variants.{Idle}
 
 -- Lines 1 to 3 of Algorithm 1: nothing received, maxtag 0; and amendment 4's kept message: tag 0 with no report.
-abbrev pub blank : ℕ → ℕ → Node
-blank n own =
+abbrev pub blank : (n f own : ℕ) → Node
+blank n f own =
     record {
       n = n;
+      f = f;
       own = own;
       maxtag = 0;
       request = 0;
@@ -29,15 +29,12 @@ blank n own =
       keptview = noView;
     }
 
--- f, how many nodes may stop: a record implies it by its n
-abbrev pub faultsOf : Node → ℕ
-faultsOf c = faults (c .n)
-
 -- another maxtag, and reports held for it
 abbrev pub setTop : Node → (maxtag : ℕ) → (atmax : View) → Node
 setTop c top held =
     record {
       n = c .n;
+      f = c .f;
       own = c .own;
       maxtag = top;
       request = c .request;
@@ -55,6 +52,7 @@ abbrev pub setWait : Node → (request : ℕ) → Wait → (atround : View) → 
 setWait c q w held =
     record {
       n = c .n;
+      f = c .f;
       own = c .own;
       maxtag = c .maxtag;
       request = q;
@@ -72,6 +70,7 @@ abbrev pub setTables : Node → (heard : List ℕ) → (last atmax atround : Vie
 setTables c heard last atmax atround =
     record {
       n = c .n;
+      f = c .f;
       own = c .own;
       maxtag = c .maxtag;
       request = c .request;
@@ -89,6 +88,7 @@ abbrev pub setKept : Node → (kept : ℕ) → (keptview : View) → Node
 setKept c t v =
     record {
       n = c .n;
+      f = c .f;
       own = c .own;
       maxtag = c .maxtag;
       request = c .request;

@@ -5,10 +5,10 @@ use mathlib.Core.Bool.{Bool, true, false}
 use Prim.Native.Nat.{ℕ, _-_}
 use lib.Dec.{leb, ltb}
 use Rattle.octets.specs.Test.{both}
-use Rattle.view.specs.Size.{limit, nodes}
+use Rattle.view.specs.Size.{limit}
 use Rattle.table.specs.Loop.{either}
 use Rattle.table.specs.Table.{tagOf, viewWithin, heardOf, heardWithin}
-use Rattle.table.specs.Quorum.{only}
+use Rattle.table.specs.Quorum.{only, isCluster}
 use Rattle.record.specs.declared.Node.{Node}
 use Rattle.record.specs.declared.Operation.the-variants.{Update, Scan}
 use Rattle.record.specs.declared.Wait.{Wait}
@@ -43,9 +43,12 @@ waitOk n (Writing k i r a) = both (only n a) (roundOk i r)
 waitOk n (Comparing k i r) = roundOk i r
 waitOk n (Borrowing k r) = leb r limit
 
--- n and the own number
+-- n, f and the own number: what a fresh record may be made of
+abbrev pub sizesWithin : (n f own : ℕ) → Bool
+sizesWithin n f own = both (isCluster n f) (both (leb 1 own) (leb own n))
+
 abbrev pub sizesOk : Node → Bool
-sizesOk c = both (both (leb 1 (c .n)) (leb (c .n) nodes)) (both (leb 1 (c .own)) (leb (c .own) (c .n)))
+sizesOk c = sizesWithin (c .n) (c .f) (c .own)
 
 -- the numbers and the wait keep their limits, and enough request numbers are left
 abbrev pub numbersWithin : (n maxtag request kept : ℕ) → Wait → Bool

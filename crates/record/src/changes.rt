@@ -17,6 +17,7 @@ pub fn set_wait(c: Node, q: u64, w: Wait, v: View) -> Node
     let keptview = c.keptview;
     Node {
         n: c.n,
+        f: c.f,
         own: c.own,
         maxtag: c.maxtag,
         request: q,

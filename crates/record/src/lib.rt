@@ -50,12 +50,13 @@ pub enum Wait {
     },
 }
 
-// The record. `maxtag` is the source's maxTag (document 01: top stamp), `request` the last request number used,
-// `heard` the last tag heard per sender and writer. Per writer: `last` its last report, `atmax` the newest not above
-// `maxtag`, `atround` the newest not above the open round's tag (no reports while no round is open). `kept` and
-// `keptview` are the good message kept.
+// The record. Of the cluster's n nodes at most f stop; `own` is the number of this one. `maxtag` is the source's maxTag
+// (document 01: top stamp), `request` the last request number used, `heard` the last tag heard per sender and writer.
+// Per writer: `last` its last report, `atmax` the newest not above `maxtag`, `atround` the newest not above the open
+// round's tag (no reports while no round is open). `kept` and `keptview` are the good message kept.
 pub struct Node {
     pub n: usize,
+    pub f: usize,
     pub own: usize,
     pub maxtag: u64,
     pub request: u64,
@@ -68,12 +69,13 @@ pub struct Node {
     pub keptview: View,
 }
 
-// The record of node `own` of n that has done nothing.
-pub fn blank_node(n: usize, own: usize) -> Node
-    ensures { λ r. ⌜ r ≡ blank n own ⌝ }
+// The record of node `own` of n, f of which may stop, that has done nothing.
+pub fn blank_node(n: usize, f: usize, own: usize) -> Node
+    ensures { λ r. ⌜ r ≡ blank n f own ⌝ }
 {
     Node {
         n: n,
+        f: f,
         own: own,
         maxtag: 0,
         request: 0,

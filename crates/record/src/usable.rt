@@ -5,6 +5,7 @@ use crate::Wait;
 use octets::and;
 use octets::less;
 use table::or;
+use table::quorum::is_cluster;
 use table::quorum::is_only;
 use table::views::heard_within;
 use table::views::tag_of;
@@ -14,8 +15,8 @@ use view::NODES;
 ghost use mathlib.Core.Path.{_≡_};
 ghost use Prim.Native.Nat.{_≤_};
 ghost use Rattle.view.specs.Size.{nodes};
-ghost use Rattle.record.specs.Usable.{stillUses, roundTag, roundOk, waitOk, sizesOk, numbersWithin, numbersOk};
-ghost use Rattle.record.specs.Usable.{tablesOk, usable, isOpen, full, staleTag, stale};
+ghost use Rattle.record.specs.Usable.{stillUses, roundTag, roundOk, waitOk, sizesWithin, numbersWithin};
+ghost use Rattle.record.specs.Usable.{numbersOk, tablesOk, usable, isOpen, full, staleTag, stale};
 
 // The request numbers that the open operation may still use.
 fn still_uses(wait: Wait) -> u64
@@ -104,10 +105,11 @@ fn wait_ok(n: usize, wait: Wait) -> bool
     }
 }
 
-fn sizes_ok(c: Node) -> bool
-    ensures { λ r. ⌜ r ≡ sizesOk c ⌝ }
+// Whether there may be a node `own` of n, f of which may stop (refusals 1 and 2).
+pub fn sizes_within(n: usize, f: usize, own: usize) -> bool
+    ensures { λ r. ⌜ r ≡ sizesWithin n f own ⌝ }
 {
-    and(and(1 <= c.n, c.n <= NODES), and(1 <= c.own, c.own <= c.n))
+    and(is_cluster(n, f), and(1 <= own, own <= n))
 }
 
 // Whether the numbers of a record keep their limits.
@@ -148,7 +150,7 @@ fn tables_ok(c: Node) -> bool
 pub fn is_usable(c: Node) -> bool
     ensures { λ r. ⌜ r ≡ usable c ⌝ }
 {
-    if sizes_ok(c) {
+    if sizes_within(c.n, c.f, c.own) {
         and(numbers_ok(c), tables_ok(c))
     } else {
         false

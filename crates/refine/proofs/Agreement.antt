@@ -29,7 +29,7 @@ either-right : (a b : Bool) → b ≡ true → either a b ≡ true
 either-right true b e = refl
 either-right false b e = e
 
-module _ {n i : ℕ} {ν : A.Node} {c : Node} (F : Follows n i ν c) (b : BoundedNode n ν) (t : ℕ)
+module _ {n f i : ℕ} {ν : A.Node} {c : Node} (F : Follows n f i ν c) (b : BoundedNode n ν) (t : ℕ)
     (held : Holds n (c .atround) t (ν .all)) where
   covers : ℕ → ℕ → Bool
   covers k w = leb (at (c .atround .tags) w) (heardOf (c .heard) k w)
@@ -58,8 +58,8 @@ module _ {n i : ℕ} {ν : A.Node} {c : Node} (F : Follows n i ν c) (b : Bounde
       (λ e. agrees-told k o .1 (agrees-by-tags i ν b t k .0 e), λ e. agrees-by-tags i ν b t k .1 (agrees-told k o .0 e))
 
   -- A quorum of agreeing nodes.
-  pub agreeing-tells : (f : ℕ) → Tells (isQuorum n f (agreeing n i (c .heard) (c .atround .tags)))
+  pub agreeing-tells : Tells (isQuorum n f (agreeing n i (c .heard) (c .atround .tags)))
       (n - f ≤ C.count (A.agrees i ν t) n)
   unfolding agreeing
-  agreeing-tells f = quorum-tells n f _ (A.agrees i ν t)
+  agreeing-tells = quorum-tells n f _ (A.agrees i ν t)
       (same-count n (agrees n i (c .heard) (c .atround .tags)) (A.agrees i ν t) same-agrees)

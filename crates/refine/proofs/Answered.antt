@@ -20,24 +20,24 @@ use Rattle.refine.proofs.Choice.{split, Tells, eq-tells, same-side, sam
 use Rattle.refine.proofs.Quorums.{same-with, same-again}
 use Rattle.refine.proofs.Turned.{follows-withRequestAndWait}
 
-module _ {n i : ℕ} {ν : A.Node} {c : Node} (F : Follows n i ν c) (k q t : ℕ) (sender : OneTo n k) where
+module _ {n f i : ℕ} {ν : A.Node} {c : Node} (F : Follows n f i ν c) (k q t : ℕ) (sender : OneTo n k) where
   R : Wait → A.Node → Type 0
-  R w μ = Follows n i μ (withWait c w)
+  R w μ = Follows n f i μ (withWait c w)
 
   current : Tells (eqb q (c .request)) (q ≡ ν .request)
   current = rw (F .request) (eq-tells q (ν .request))
 
   -- The wait as it was.
-  unmoved : {w′ : Wait} → c .wait ≡ w′ → Follows n i ν (withWait c w′)
-  unmoved e = subst (λ w. Follows n i ν (withWait c w)) e F
+  unmoved : {w′ : Wait} → c .wait ≡ w′ → Follows n f i ν (withWait c w′)
+  unmoved e = subst (λ w. Follows n f i ν (withWait c w)) e F
 
   -- Another wait that holds the same reports for its round.
   rewaits : {w : A.Wait} {w′ : Wait} → SameWait n w w′ → HoldsRound n (c .atround) w (ν .all)
-      → Follows n i (A.withWait w ν) (withWait c w′)
+      → Follows n f i (A.withWait w ν) (withWait c w′)
   rewaits same h = follows-withRequestAndWait F (F .request) same h (F .atround-size)
 
   pub read-answered : {w : A.Wait} {w′ : Wait} → c .wait ≡ w′ → SameWait n w w′
-      → Follows n i (A.readAnswered k q t ν w) (withWait c (readWait (c .request) k q t w′))
+      → Follows n f i (A.readAnswered k q t ν w) (withWait c (readWait (c .request) k q t w′))
   unfolding R
   read-answered e (SameWait.reading {o} {s} {a} {u} same) = same-side R (ℕ-discrete q (ν .request)) current
       (λ d. same-test R (s k) (sym (same k sender)) (λ y. unmoved e)
@@ -48,7 +48,7 @@ module _ {n i : ℕ} {ν : A.Node} {c : Node} (F : Follows n i ν c) (k q t : �
   read-answered e SameWait.borrowing = unmoved e
 
   pub write-answered : {w : A.Wait} {w′ : Wait} → ν .wait ≡ w → c .wait ≡ w′ → SameWait n w w′
-      → Follows n i (A.writeAnswered k q t ν w) (withWait c (writeWait (c .request) k q t w′))
+      → Follows n f i (A.writeAnswered k q t ν w) (withWait c (writeWait (c .request) k q t w′))
   unfolding R
   write-answered e e′ (SameWait.writing {op} {r} {t = u} {a} {s} same) =
       same-side R (ℕ-discrete q (ν .request)) current
@@ -60,7 +60,7 @@ module _ {n i : ℕ} {ν : A.Node} {c : Node} (F : Follows n i ν c) (k q t : �
       round : ℕ → Wait
       round b = Writing (kindOf op) (number r) u b
 
-      count : Follows n i (A.withWait (A.writing op r u (upd s k true)) ν)
+      count : Follows n f i (A.withWait (A.writing op r u (upd s k true)) ν)
           (withWait c (pick (member a k) (round a) (round (with a k))))
       count = split (member a k)
           (λ y. rw y (rewaits (SameWait.writing (same-again n a k s y same)) held))

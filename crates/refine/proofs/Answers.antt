@@ -29,14 +29,14 @@ use Rattle.refine.proofs.Lockstep.{Handled, Asked, Together, handled-as
 use Rattle.refine.proofs.Lockstep.{nothing-done}
 
 -- A quorum of the senders counted, at a record that follows.
-answers-tell : {n i : ℕ} {ν : A.Node} {c : Node} → Follows n i ν c → (f a : ℕ) (s : A.Nodes) → SameNodes n s a
+answers-tell : {n f i : ℕ} {ν : A.Node} {c : Node} → Follows n f i ν c → (a : ℕ) (s : A.Nodes) → SameNodes n s a
     → Tells (isQuorum (c .n) f (membersIn (c .n) a)) (n - f ≤ C.count s n)
-answers-tell {n} F f a s same = rw (F .size) (membersIn-tells n f a s same)
+answers-tell {n} {f} F a s same = rw (F .size) (membersIn-tells n f a s same)
 
 module _ {n i k : ℕ} (small : n ≤ nodes) (f : ℕ) (s : Step) (t : A.Step) where
-  module _ (T : Together n i k (Handled n) s t) (going : t .ending ≡ H.none) where
+  module _ (T : Together n f i k (Handled n) s t) (going : t .ending ≡ H.none) where
     R : Step → A.Step → Type 0
-    R x y = Together n i k (Asked n) x (A.then-by t y H.none)
+    R x y = Together n f i k (Asked n) x (A.then-by t y H.none)
 
     -- With the tag u used.
     after-read : (o : Operation) (u : ℕ) → t .node .maxtag ≤ u
@@ -72,7 +72,7 @@ module _ {n i k : ℕ} (small : n ≤ nodes) (f : ℕ) (s : Step) (t : A.Step) w
     read-by : {w : A.Wait} {w′ : Wait} → SameWait n w w′ → R (readPass f s (s .node) w′) (A.readPass n f i (t .node) w)
     unfolding R readPass
     read-by (SameWait.reading {o} {s = answered} {a} {u} same) =
-        same-side R (A.quorum? n f answered) (answers-tell (T .node) f a answered same)
+        same-side R (A.quorum? n f answered) (answers-tell (T .node) a answered same)
         (λ h. subst (λ m. R (afterRead s (s .node) o (max u m))
         (A.afterRead i (max u (t .node .maxtag)) (operationOf o) (t .node)))
         (sym (T .node .maxtag)) (after-read o (max u (t .node .maxtag)) (omega arith)))
@@ -82,8 +82,8 @@ module _ {n i k : ℕ} (small : n ≤ nodes) (f : ℕ) (s : Step) (t : A.Step) w
     read-by SameWait.comparing = nothing-done handled-asked T going
     read-by SameWait.borrowing = nothing-done handled-asked T going
 
-  pub reads-follow : Together n i k (Handled n) s t
-      → Together n i k (Asked n) (reads f s) (t then (λ ν. A.readPass n f i ν (ν .wait)))
+  pub reads-follow : Together n f i k (Handled n) s t
+      → Together n f i k (Asked n) (reads f s) (t then (λ ν. A.readPass n f i ν (ν .wait)))
   unfolding R readPass
   reads-follow T = follow-pass handled-asked (reads f) (λ ν. A.readPass n f i ν (ν .wait)) rests s t T
       (λ e. read-by T e (T .node .wait))
@@ -91,15 +91,15 @@ module _ {n i k : ℕ} (small : n ≤ nodes) (f : ℕ) (s : Step) (t : A.Step) w
       rests : (s : Step) → s .node .wait ≡ Idle → reads f s ≡ s
       rests s e = rw e refl
 
-  module _ (T : Together n i k (Asked n) s t) (going : t .ending ≡ H.none) where
+  module _ (T : Together n f i k (Asked n) s t) (going : t .ending ≡ H.none) where
     Q : Step → A.Step → Type 0
-    Q x y = Together n i k (Asked n) x (A.then-by t y H.none)
+    Q x y = Together n f i k (Asked n) x (A.then-by t y H.none)
 
     write-by : {w : A.Wait} {w′ : Wait} → t .node .wait ≡ w → SameWait n w w′
         → Q (writePass f s (s .node) w′) (A.writePass n f (t .node) w)
     unfolding Q writePass
     write-by e (SameWait.writing {op} {r} {t = u} {a} {s = answered} same) =
-        same-side Q (A.quorum? n f answered) (answers-tell (T .node) f a answered same)
+        same-side Q (A.quorum? n f answered) (answers-tell (T .node) a answered same)
         (λ h. record {
           sent = rw (append-nil (t .sent)) (T .sent);
           ending = T .ending ∙ going;
@@ -116,8 +116,8 @@ module _ {n i k : ℕ} (small : n ≤ nodes) (f : ℕ) (s : Step) (t : A.Step) w
     write-by e SameWait.comparing = nothing-done (λ o l h. h) T going
     write-by e SameWait.borrowing = nothing-done (λ o l h. h) T going
 
-  pub writes-follow : Together n i k (Asked n) s t
-      → Together n i k (Asked n) (writes f s) (t then (λ ν. A.writePass n f ν (ν .wait)))
+  pub writes-follow : Together n f i k (Asked n) s t
+      → Together n f i k (Asked n) (writes f s) (t then (λ ν. A.writePass n f ν (ν .wait)))
   unfolding Q writePass
   writes-follow T = follow-pass (λ o l h. h) (writes f) (λ ν. A.writePass n f ν (ν .wait)) rests s t T
       (λ e. write-by T e refl (T .node .wait))

@@ -52,16 +52,16 @@ given-out : {n m : ℕ} → m ≡ n → (v : View) → viewMeaning n (firstOf m 
 given-out {n} e v = ap (λ k. viewMeaning n (firstOf k v)) e ∙ view-first n v
 
 -- A quorum of agreeing nodes, at a record that follows.
-agreement-tells : {n i : ℕ} {ν : A.Node} {c : Node} (F : Follows n i ν c) → BoundedNode n ν → (f u : ℕ)
+agreement-tells : {n f i : ℕ} {ν : A.Node} {c : Node} (F : Follows n f i ν c) → BoundedNode n ν → (u : ℕ)
     → Holds n (c .atround) u (ν .all)
     → Tells (agreement f c)
     (n - f ≤ C.count (A.agrees i ν u) n)
-agreement-tells F b f u held = rw (F .size, F .own) (agreeing-tells F b u held f)
+agreement-tells F b u held = rw (F .size, F .own) (agreeing-tells F b u held)
 
 module _ {n i k : ℕ} (small : n ≤ nodes) (f : ℕ) (s : Step) (t : A.Step) where
-  module _ (T : Together n i k (Asked n) s t) (going : t .ending ≡ H.none) (op : H.Operation) (u : ℕ) where
+  module _ (T : Together n f i k (Asked n) s t) (going : t .ending ≡ H.none) (op : H.Operation) (u : ℕ) where
     R : Step → A.Step → Type 0
-    R x y = Together n i k (Whole n) x (A.then-by t y H.none)
+    R x y = Together n f i k (Whole n) x (A.then-by t y H.none)
 
     -- The tag of the round after round 0.
     next-tag : max (u + 1) (s .node .maxtag) ≡ max (suc u) (t .node .maxtag)
@@ -140,15 +140,16 @@ module _ {n i k : ℕ} (small : n ≤ nodes) (f : ℕ) (s : Step) (t : A.Step) w
       after-good H.round2 = ends 2 H.round2 refl
       after-good H.round3 = ends 3 H.round3 refl
 
-  module _ (T : Together n i k (Asked n) s t) (going : t .ending ≡ H.none) where
+  module _ (T : Together n f i k (Asked n) s t) (going : t .ending ≡ H.none) where
     compare-by : {w : A.Wait} {w′ : Wait} → t .node .wait ≡ w → SameWait n w w′
-        → Together n i k (Whole n) (comparePass f s (s .node) w′) (A.then-by t (A.comparePass n f i (t .node) w) H.none)
+        → Together n f i k (Whole n) (comparePass f s (s .node) w′)
+        (A.then-by t (A.comparePass n f i (t .node) w) H.none)
     unfolding comparePass R
     compare-by e (SameWait.comparing {op} {r} {t = u}) =
         let held : Holds n (s .node .atround) u (t .node .all) =
         subst (λ w. HoldsRound n (s .node .atround) w (t .node .all)) e (T .node .atround) in
         same-side (R T going op u) (A.quorum? n f (A.agrees i (t .node) u))
-        (agreement-tells (T .node) (T .bounded) f u held)
+        (agreement-tells (T .node) (T .bounded) u held)
         (λ q. same-side (R T going op u) (decLe (t .node .maxtag) u) (le-tells-as (T .node .maxtag) refl)
         (λ h. after-good T going op u held r) (λ h. after-failed T going op u r))
         (λ q. nothing-done asked-whole T going)
@@ -157,8 +158,8 @@ module _ {n i k : ℕ} (small : n ≤ nodes) (f : ℕ) (s : Step) (t : A.Step) w
     compare-by e (SameWait.writing same) = nothing-done asked-whole T going
     compare-by e SameWait.borrowing = nothing-done asked-whole T going
 
-  pub compares-follow : Together n i k (Asked n) s t
-      → Together n i k (Whole n) (compares f s) (t then (λ ν. A.comparePass n f i ν (ν .wait)))
+  pub compares-follow : Together n f i k (Asked n) s t
+      → Together n f i k (Whole n) (compares f s) (t then (λ ν. A.comparePass n f i ν (ν .wait)))
   unfolding comparePass
   compares-follow T = follow-pass asked-whole (compares f) (λ ν. A.comparePass n f i ν (ν .wait)) rests s t T
       (λ e. compare-by T e refl (T .node .wait))
@@ -167,12 +168,12 @@ module _ {n i k : ℕ} (small : n ≤ nodes) (f : ℕ) (s : Step) (t : A.Step) w
       rests s e = rw e refl
 
 -- The kept view is borrowed.
-module _ {n i k : ℕ} (s : Step) (t : A.Step) where
-  borrow-by : Together n i k (Whole n) s t → t .ending ≡ H.none → {w : A.Wait} {w′ : Wait} → SameWait n w w′
-      → Together n i k (Whole n) (borrowPass s (s .node) w′) (A.then-by t (A.borrowPass n (t .node) w) H.none)
+module _ {n f i k : ℕ} (s : Step) (t : A.Step) where
+  borrow-by : Together n f i k (Whole n) s t → t .ending ≡ H.none → {w : A.Wait} {w′ : Wait} → SameWait n w w′
+      → Together n f i k (Whole n) (borrowPass s (s .node) w′) (A.then-by t (A.borrowPass n (t .node) w) H.none)
   unfolding borrowPass
   borrow-by T going (SameWait.borrowing {op} {t = u}) =
-      same-side (λ x y. Together n i k (Whole n) x (A.then-by t y H.none)) (decLe u (A.kept n (t .node .goods) .tag))
+      same-side (λ x y. Together n f i k (Whole n) x (A.then-by t y H.none)) (decLe u (A.kept n (t .node .goods) .tag))
       (le-tells-as refl (T .node .kept))
       (λ h. record {
         sent = rw (append-nil (t .sent)) (T .sent);
@@ -189,8 +190,8 @@ module _ {n i k : ℕ} (s : Step) (t : A.Step) where
   borrow-by T going (SameWait.writing same) = nothing-done (λ o l h. h) T going
   borrow-by T going SameWait.comparing = nothing-done (λ o l h. h) T going
 
-  pub borrows-follow : Together n i k (Whole n) s t
-      → Together n i k (Whole n) (borrows s) (t then (λ ν. A.borrowPass n ν (ν .wait)))
+  pub borrows-follow : Together n f i k (Whole n) s t
+      → Together n f i k (Whole n) (borrows s) (t then (λ ν. A.borrowPass n ν (ν .wait)))
   unfolding borrowPass
   borrows-follow T = follow-pass (λ o l h. h) borrows (λ ν. A.borrowPass n ν (ν .wait)) rests s t T
       (λ e. borrow-by T e (T .node .wait))

@@ -45,15 +45,15 @@ Over (H.shown r v) w = w ≡ A.idle
 Over H.spent w = w ≡ A.idle
 
 -- The two steps after a part; S says what the code's outbox has to do with the messages sent.
-pub record Together (n i k : ℕ) (S : Outbox → List M.Message → Type 0) (s : Step) (t : A.Step) : Type 0 where
+pub record Together (n f i k : ℕ) (S : Outbox → List M.Message → Type 0) (s : Step) (t : A.Step) : Type 0 where
   pub sent : S (s .outbox) (t .sent)
   pub to : s .outbox .to ≡ k
   pub ending : endingOf n (s .view) (s .ending) ≡ t .ending
-  pub node : Follows n i (t .node) (s .node)
+  pub node : Follows n f i (t .node) (s .node)
   pub bounded : BoundedNode n (t .node)
   pub over : Over (t .ending) (t .node .wait)
 
-pub same-step : {n i k : ℕ} {s : Step} {t : A.Step} → Together n i k (Whole n) s t → SameStep n i k s t
+pub same-step : {n f i k : ℕ} {s : Step} {t : A.Step} → Together n f i k (Whole n) s t → SameStep n f i k s t
 same-step T = record { to = T .to; sent = T .sent; ending = T .ending; node = T .node }
 
 -- Nothing more is sent.
@@ -91,11 +91,11 @@ idle-only : {n : ℕ} {w : Wait} → SameWait n A.idle w → w ≡ Idle
 idle-only SameWait.idle = refl
 
 -- A pass leads from S to S′, at least where it does nothing.
-module _ {n i k : ℕ} {S S′ : Outbox → List M.Message → Type 0}
+module _ {n f i k : ℕ} {S S′ : Outbox → List M.Message → Type 0}
     (weaken : (o : Outbox) (l : List M.Message) → S o l → S′ o l) where
   -- It does nothing on either side.
-  pub nothing-done : {s : Step} {t : A.Step} → Together n i k S s t → t .ending ≡ H.none
-      → Together n i k S′ s (A.then-by t (A.still (t .node)) H.none)
+  pub nothing-done : {s : Step} {t : A.Step} → Together n f i k S s t → t .ending ≡ H.none
+      → Together n f i k S′ s (A.then-by t (A.still (t .node)) H.none)
   nothing-done {s} {t} T e = record {
     sent = rw (append-nil (t .sent)) (weaken (s .outbox) (t .sent) (T .sent));
     to = T .to;
@@ -107,12 +107,12 @@ module _ {n i k : ℕ} {S S′ : Outbox → List M.Message → Type 0}
 
   -- The code does nothing where no operation is open, so that only the going step is left to look at.
   pub follow-pass : (pass : Step → Step) (part : A.Node → A.Step) → ((s : Step) → s .node .wait ≡ Idle → pass s ≡ s)
-      → (s : Step) (t : A.Step) → Together n i k S s t
-      → (t .ending ≡ H.none → Together n i k S′ (pass s) (A.then-by t (part (t .node)) H.none))
-      → Together n i k S′ (pass s) (t then part)
+      → (s : Step) (t : A.Step) → Together n f i k S s t
+      → (t .ending ≡ H.none → Together n f i k S′ (pass s) (A.then-by t (part (t .node)) H.none))
+      → Together n f i k S′ (pass s) (t then part)
   follow-pass pass part rests s t T more = go (t .ending) refl
     where
-      stays : t .node .wait ≡ A.idle → Together n i k S′ (pass s) t
+      stays : t .node .wait ≡ A.idle → Together n f i k S′ (pass s) t
       stays e = rw (rests s (idle-only (subst (λ w. SameWait n w (s .node .wait)) e (T .node .wait)))) (record {
         sent = weaken (s .outbox) (t .sent) (T .sent);
         to = T .to;
@@ -122,7 +122,7 @@ module _ {n i k : ℕ} {S S′ : Outbox → List M.Message → Type 0}
         over = T .over;
       })
 
-      go : (e : H.Ending) → t .ending ≡ e → Together n i k S′ (pass s) (A.then-by t (part (t .node)) e)
+      go : (e : H.Ending) → t .ending ≡ e → Together n f i k S′ (pass s) (A.then-by t (part (t .node)) e)
       go H.none e = more e
       go (H.done r v) e = stays (subst (λ x. Over x (t .node .wait)) e (T .over))
       go (H.shown r v) e = stays (subst (λ x. Over x (t .node .wait)) e (T .over))

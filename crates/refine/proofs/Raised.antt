@@ -20,11 +20,12 @@ use Rattle.refine.specs.Follows.{Sized, Follows}
 use Rattle.refine.proofs.Tables.{sized-newest}
 use Rattle.refine.proofs.Turned.{newest-held}
 
-module _ {n i : ℕ} {ν : A.Node} {c : Node} (F : Follows n i ν c) (t : ℕ) where
-  pub raised-higher : n ≤ nodes → BoundedNode n ν → ν .maxtag < t → Follows n i (topping t ν) (raised c t)
+module _ {n f i : ℕ} {ν : A.Node} {c : Node} (F : Follows n f i ν c) (t : ℕ) where
+  pub raised-higher : n ≤ nodes → BoundedNode n ν → ν .maxtag < t → Follows n f i (topping t ν) (raised c t)
   unfolding raised
   raised-higher small b h = rw (lt-ltb (c .maxtag) t (omega (arith, F .maxtag))) (record {
     size = F .size;
+    faults = F .faults;
     own = F .own;
     maxtag = refl;
     request = F .request;
@@ -42,14 +43,15 @@ module _ {n i : ℕ} {ν : A.Node} {c : Node} (F : Follows n i ν c) (t : ℕ) w
     keptview-size = F .keptview-size;
   })
 
-  pub raised-not : ¬ (ν .maxtag < t) → Follows n i ν (raised c t)
+  pub raised-not : ¬ (ν .maxtag < t) → Follows n f i ν (raised c t)
   unfolding raised
   raised-not h = rw (le-ltb (c .maxtag) t (omega (arith, F .maxtag))) F
 
-  pub kept-follows : (v : View) → Sized v → Follows n i (A.keep t (viewMeaning n v) ν) (keep c t v)
+  pub kept-follows : (v : View) → Sized v → Follows n f i (A.keep t (viewMeaning n v) ν) (keep c t v)
   unfolding keep A.kept
   kept-follows v z = record {
     size = F .size;
+    faults = F .faults;
     own = F .own;
     maxtag = F .maxtag;
     request = F .request;

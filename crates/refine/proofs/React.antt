@@ -37,13 +37,13 @@ use Rattle.refine.proofs.Raised.{raised-higher, raised-not, kept-follow
 use Rattle.refine.proofs.Received.{valueOf, not-new, is-new, received-again, received-new}
 use Rattle.refine.proofs.Lockstep.{Means, Handled, Together}
 
-module _ {n i : ℕ} (small : n ≤ nodes) {ν : A.Node} {c : Node} (F : Follows n i ν c) (b : BoundedNode n ν) (k : ℕ)
+module _ {n f i : ℕ} (small : n ≤ nodes) {ν : A.Node} {c : Node} (F : Follows n f i ν c) (b : BoundedNode n ν) (k : ℕ)
     (sender : OneTo n k) where
   -- What a handler does and sends, the sets staying bounded.
   abbrev Same : Node → Sent → A.Step → Type 0
-  Same d m t = BoundedNode n (t .node) → Together n i k (Handled n) (started d k m) t
+  Same d m t = BoundedNode n (t .node) → Together n f i k (Handled n) (started d k m) t
 
-  sends : (m : Sent) (l : List M.Message) {d : Node} {μ : A.Node} → Follows n i μ d → Means n k m l
+  sends : (m : Sent) (l : List M.Message) {d : Node} {μ : A.Node} → Follows n f i μ d → Means n k m l
       → Same d m (A.sending l μ)
   sends m l G h bounded = record {
     sent = record { handler = h; reading = refl; comparing = refl };
@@ -97,13 +97,13 @@ module _ {n i : ℕ} (small : n ≤ nodes) {ν : A.Node} {c : Node} (F : Follows
           rw (is-new small F k w t p sender a new)
           (sends (One (Value t w p)) (M.value v ∷ []) (received-new small F k w t p sender a new) (λ x. refl))
 
-  pub react-follows : (f : ℕ) (m : Message) (v : View) → Sized v → Expected n k ν (messageOf n i v m)
-      → Together n i k (Handled n) (react c k m v) (A.react k (messageOf n i v m) ν)
+  pub react-follows : (m : Message) (v : View) → Sized v → Expected n k ν (messageOf n i v m)
+      → Together n f i k (Handled n) (react c k m v) (A.react k (messageOf n i v m) ν)
   unfolding react
-  react-follows f m v z a = by m a (reacts n k (messageOf n i v m) ν b a)
+  react-follows m v z a = by m a (reacts n k (messageOf n i v m) ν b a)
     where
       by : (m : Message) → Expected n k ν (messageOf n i v m) → BoundedNode n (A.react k (messageOf n i v m) ν .node)
-          → Together n i k (Handled n) (react c k m v) (A.react k (messageOf n i v m) ν)
+          → Together n f i k (Handled n) (react c k m v) (A.react k (messageOf n i v m) ν)
       by (Read q) a = sends (One (ReadAnswer q (c .maxtag))) (M.readAnswer k q (ν .maxtag) ∷ []) F
           (λ x. rw (F .maxtag) refl)
       by (ReadAnswer q t) a = sends Nothing [] (read-answered F k q t sender refl (F .wait)) (λ x. refl)

@@ -38,7 +38,7 @@ use Rattle.refine.proofs.Tables.{heard-set-other}
 abbrev pub valueOf : ℕ → ℕ → Report → M.Value
 valueOf t w p = record { tag = t; writer = w; report = code p }
 
-module _ {n i : ℕ} (small : n ≤ nodes) {ν : A.Node} {c : Node} (F : Follows n i ν c) (k w t : ℕ) (p : Report)
+module _ {n f i : ℕ} (small : n ≤ nodes) {ν : A.Node} {c : Node} (F : Follows n f i ν c) (k w t : ℕ) (p : Report)
     (sender : OneTo n k) (a : Arrives n (ν .all) (ν .from) (ν .maxtag) k (valueOf t w p)) where
   abbrev v : M.Value
   v = valueOf t w p
@@ -74,10 +74,11 @@ module _ {n i : ℕ} (small : n ≤ nodes) {ν : A.Node} {c : Node} (F : Follows
   heard-size = length-set (c .heard) (cell k w) t ∙ F .heard-size
 
   -- A value that the node has.
-  pub received-again : v ∈ ν .all → Follows n i (holding (ν .all) from ν) (received c k w t p)
+  pub received-again : v ∈ ν .all → Follows n f i (holding (ν .all) from ν) (received c k w t p)
   unfolding received
   received-again m = rw (not-new m) (record {
     size = F .size;
+    faults = F .faults;
     own = F .own;
     maxtag = F .maxtag;
     request = F .request;
@@ -128,10 +129,11 @@ module _ {n i : ℕ} (small : n ≤ nodes) {ν : A.Node} {c : Node} (F : Follows
     round-follows (SameWait.comparing {t = u}) h = held-follows (c .atround) u (F .atround-size) h
     round-follows SameWait.borrowing h = tt
 
-    pub received-new : Follows n i (holding (v ∷ ν .all) from ν) (received c k w t p)
+    pub received-new : Follows n f i (holding (v ∷ ν .all) from ν) (received c k w t p)
     unfolding received
     received-new = rw (is-new new) (record {
       size = F .size;
+      faults = F .faults;
       own = F .own;
       maxtag = F .maxtag;
       request = F .request;

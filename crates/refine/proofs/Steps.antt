@@ -31,20 +31,20 @@ use Rattle.refine.proofs.Answers.{reads-follow, writes-follow}
 use Rattle.refine.proofs.Compares.{compares-follow, borrows-follow}
 use Rattle.refine.proofs.Received.{valueOf, not-stale}
 
-moves-follow : {n i k : ℕ} → n ≤ nodes → (f : ℕ) (s : Step) (t : A.Step) → Together n i k (Handled n) s t
-    → Together n i k (Whole n) (moveOn f s) (A.moveOn n f i t)
+moves-follow : {n i k : ℕ} → n ≤ nodes → (f : ℕ) (s : Step) (t : A.Step) → Together n f i k (Handled n) s t
+    → Together n f i k (Whole n) (moveOn f s) (A.moveOn n f i t)
 unfolding moveOn A.moveOn
 moves-follow small f s t T = borrows-follow _ _
     (compares-follow small f _ _ (writes-follow small f _ _ (reads-follow small f s t T)))
 
-module _ {n i : ℕ} (small : n ≤ nodes) {ν : A.Node} {c : Node} (F : Follows n i ν c) (b : BoundedNode n ν) (f : ℕ) where
+module _ {n f i : ℕ} (small : n ≤ nodes) {ν : A.Node} {c : Node} (F : Follows n f i ν c) (b : BoundedNode n ν) where
   -- A message m from node k, with the view that a good message carries.
   pub message-follows : (k : ℕ) → OneTo n k → (m : Message) (v : View) → Sized v → Expected n k ν (messageOf n i v m)
-      → SameStep n i k (messageStep f c k m v) (A.messageStep n f i k (messageOf n i v m) ν)
+      → SameStep n f i k (messageStep f c k m v) (A.messageStep n f i k (messageOf n i v m) ν)
   unfolding messageStep
-  message-follows k o m v z a = same-step (moves-follow small f _ _ (react-follows small F b k o f m v z a))
+  message-follows k o m v z a = same-step (moves-follow small f _ _ (react-follows small F b k o m v z a))
 
-  pub begin-follows : (o : Operation) → SameStep n i i (beginStep f c o) (A.beginStep n f i (operationOf o) ν)
+  pub begin-follows : (o : Operation) → SameStep n f i i (beginStep f c o) (A.beginStep n f i (operationOf o) ν)
   unfolding beginStep begun
   begin-follows o = same-step (moves-follow small f (begun c o) _ (record {
     sent = record { handler = λ v. rw (request-next F) refl; reading = refl; comparing = refl };
@@ -63,7 +63,7 @@ same-idle (SameWait.writing same) = refl
 same-idle SameWait.comparing = refl
 same-idle SameWait.borrowing = refl
 
-module _ {n i : ℕ} {ν : A.Node} {c : Node} (F : Follows n i ν c) where
+module _ {n f i : ℕ} {ν : A.Node} {c : Node} (F : Follows n f i ν c) where
   pub not-full : 5 ≤ A.limit - ν .request → full c ≡ false
   unfolding A.limit
   not-full h = le-ltb (limit - c .request) 5 (rw (F .request) h)

@@ -23,10 +23,11 @@ use Rattle.refine.proofs.Quorums.{same-nobody}
 use Rattle.refine.proofs.Tables.{sized-absent, entry-absent, view-absent, heard-none, entry-newest, sized-newest}
 
 -- A fresh record follows the empty sets.
-pub follows-fresh : (n i : ℕ) → Follows n i A.fresh (blank n i)
+pub follows-fresh : (n f i : ℕ) → Follows n f i A.fresh (blank n f i)
 unfolding A.newest A.kept
-follows-fresh n i = record {
+follows-fresh n f i = record {
   size = refl;
+  faults = refl;
   own = refl;
   maxtag = refl;
   request = refl;
@@ -44,11 +45,13 @@ follows-fresh n i = record {
   keptview-size = sized-absent;
 }
 
-module _ {n i : ℕ} {ν : A.Node} {c : Node} (F : Follows n i ν c) where
+module _ {n f i : ℕ} {ν : A.Node} {c : Node} (F : Follows n f i ν c) where
   pub follows-withRequestAndWait : {q q′ : ℕ} → q′ ≡ q → {w : A.Wait} {w′ : Wait} → SameWait n w w′
-      → {v : View} → HoldsRound n v w (ν .all) → Sized v → Follows n i (A.withRequestAndWait q w ν) (setWait c q′ w′ v)
+      → {v : View} → HoldsRound n v w (ν .all) → Sized v
+      → Follows n f i (A.withRequestAndWait q w ν) (setWait c q′ w′ v)
   follows-withRequestAndWait e same {v} h z = record {
     size = F .size;
+    faults = F .faults;
     own = F .own;
     maxtag = F .maxtag;
     request = e;
@@ -85,11 +88,11 @@ module _ {n i : ℕ} {ν : A.Node} {c : Node} (F : Follows n i ν c) where
 
   -- A round opens.
   pub follows-opened : n ≤ nodes → BoundedNode n ν → (op : H.Operation) (r : H.Round) (t : ℕ) → ν .maxtag ≤ t
-      → Follows n i (A.asking (A.writing op r t A.nobody) ν) (opened c (kindOf op) (number r) t)
+      → Follows n f i (A.asking (A.writing op r t A.nobody) ν) (opened c (kindOf op) (number r) t)
   unfolding opened
   follows-opened small b op r t high = follows-withRequestAndWait request-next (SameWait.writing (same-nobody n))
       (newest-held small b t high) (sized-newest t (c .last) (c .atmax))
 
   -- The operation is closed.
-  pub follows-closed : Follows n i (A.withWait A.idle ν) (closed c Idle)
+  pub follows-closed : Follows n f i (A.withWait A.idle ν) (closed c Idle)
   follows-closed = follows-withRequestAndWait (F .request) SameWait.idle tt sized-absent

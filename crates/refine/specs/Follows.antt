@@ -53,9 +53,11 @@ HoldsRound n v (A.writing op r t s) l = Holds n v t l
 HoldsRound n v (A.comparing op r t) l = Holds n v t l
 HoldsRound n v (A.borrowing op t) l = Unit {0}
 
--- Record c of node i of n follows the sets ν. All but `atround` holds whether a round is open or not.
-pub record Follows (n i : ℕ) (ν : A.Node) (c : Node) : Type 0 where
+-- Record c of node i of n, f of which may stop, follows the sets ν. All but `atround` holds whether a round is open or
+-- not.
+pub record Follows (n f i : ℕ) (ν : A.Node) (c : Node) : Type 0 where
   pub size : c .n ≡ n
+  pub faults : c .f ≡ f
   pub own : c .own ≡ i
   pub maxtag : c .maxtag ≡ ν .maxtag
   pub request : c .request ≡ ν .request

@@ -7,9 +7,9 @@ use Rattle.algorithm.specs.Algorithm as A
 use Rattle.refine.specs.Meaning.{sentOf, endingOf}
 use Rattle.refine.specs.Follows.{Follows}
 
--- Node i of n handles a message of node k; at a begin k is i.
-pub record SameStep (n i k : ℕ) (s : Step) (t : A.Step) : Type 0 where
+-- Node i of n, f of which may stop, handles a message of node k; at a begin k is i.
+pub record SameStep (n f i k : ℕ) (s : Step) (t : A.Step) : Type 0 where
   pub to : s .outbox .to ≡ k
   pub sent : sentOf n (s .outbox) ≡ t .sent
   pub ending : endingOf n (s .view) (s .ending) ≡ t .ending
-  pub node : Follows n i (t .node) (s .node)
+  pub node : Follows n f i (t .node) (s .node)

@@ -157,6 +157,7 @@ module _ (b : List ℕ) (h : Head) (r : HeadRuns b h) where
     number 2 (omega arith),
     number 3 (omega arith),
     number 4 (omega arith),
+    number 5 (omega arith),
     wait-of,
   ) refl
 
@@ -268,6 +269,7 @@ module _ (b : List ℕ) (c : Node) (z : SizedNode c) (r : Runs b c) where
         n 2 (omega arith),
         n 3 (omega arith),
         n 4 (omega arith),
+        n 5 (omega arith),
         wait-of b (headIn c) (r .ofHead),
         heard-of,
         view-of (c .last) lastIn (z .last) (r .ofLast),

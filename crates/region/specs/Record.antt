@@ -1,5 +1,5 @@
 -- The record of a node in bytes: its head, the table of tags heard, and four views of all entries. The head is the
--- numbers and the wait, eleven words and the report of an update that reads. Every run of bytes of this length is some
+-- numbers and the wait, twelve words and the report of an update that reads. Every run of bytes of this length is some
 -- record; only the codes of the wait and of its kind can be wrong.
 use Prim.Native.Nat.{ℕ, _+_, _*_}
 use mathlib.Core.Bool.{Bool, true}
@@ -27,8 +27,11 @@ use Rattle.region.specs.declared.head.Head.{Head}
 abbrev pub nPlace : ℕ
 nPlace = 0
 
+abbrev pub fPlace : ℕ
+fPlace = nPlace + wordSize
+
 abbrev pub ownPlace : ℕ
-ownPlace = nPlace + wordSize
+ownPlace = fPlace + wordSize
 
 abbrev pub maxtagPlace : ℕ
 maxtagPlace = ownPlace + wordSize
@@ -139,6 +142,7 @@ abbrev pub headOf : List ℕ → Head
 headOf b =
     record {
       n = word b nPlace;
+      f = word b fPlace;
       own = word b ownPlace;
       maxtag = word b maxtagPlace;
       request = word b requestPlace;
@@ -148,10 +152,18 @@ headOf b =
 
 abbrev pub headIn : Node → Head
 headIn c =
-    record { n = c .n; own = c .own; maxtag = c .maxtag; request = c .request; kept = c .kept; wait = c .wait }
+    record {
+      n = c .n;
+      f = c .f;
+      own = c .own;
+      maxtag = c .maxtag;
+      request = c .request;
+      kept = c .kept;
+      wait = c .wait;
+    }
 
 abbrev pub numbers : Head → List ℕ
-numbers h = h .n ∷ h .own ∷ h .maxtag ∷ h .request ∷ h .kept ∷ []
+numbers h = h .n ∷ h .f ∷ h .own ∷ h .maxtag ∷ h .request ∷ h .kept ∷ []
 
 abbrev pub headBytes : Head → List ℕ
 headBytes h = wordBytes (numbers h) ++ waitBytes (h .wait)
@@ -159,19 +171,19 @@ headBytes h = wordBytes (numbers h) ++ waitBytes (h .wait)
 -- A head with another field.
 abbrev pub withMaxtag : Head → ℕ → Head
 withMaxtag h t =
-    record { n = h .n; own = h .own; maxtag = t; request = h .request; kept = h .kept; wait = h .wait }
+    record { n = h .n; f = h .f; own = h .own; maxtag = t; request = h .request; kept = h .kept; wait = h .wait }
 
 abbrev pub withRequest : Head → ℕ → Head
 withRequest h q =
-    record { n = h .n; own = h .own; maxtag = h .maxtag; request = q; kept = h .kept; wait = h .wait }
+    record { n = h .n; f = h .f; own = h .own; maxtag = h .maxtag; request = q; kept = h .kept; wait = h .wait }
 
 abbrev pub withKept : Head → ℕ → Head
 withKept h t =
-    record { n = h .n; own = h .own; maxtag = h .maxtag; request = h .request; kept = t; wait = h .wait }
+    record { n = h .n; f = h .f; own = h .own; maxtag = h .maxtag; request = h .request; kept = t; wait = h .wait }
 
 abbrev pub withWait : Head → Wait → Head
 withWait h w =
-    record { n = h .n; own = h .own; maxtag = h .maxtag; request = h .request; kept = h .kept; wait = w }
+    record { n = h .n; f = h .f; own = h .own; maxtag = h .maxtag; request = h .request; kept = h .kept; wait = w }
 
 -- The bytes of the views, each of all entries; of a record; and view i that bytes are.
 abbrev pub viewsBytes : Node → List ℕ
@@ -190,6 +202,7 @@ unfoldable pub recordOf : List ℕ → Node
 recordOf b =
     record {
       n = word b nPlace;
+      f = word b fPlace;
       own = word b ownPlace;
       maxtag = word b maxtagPlace;
       request = word b requestPlace;

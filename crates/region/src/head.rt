@@ -1,6 +1,7 @@
 // The head of a record in its bytes: its numbers, its wait, and the codes that stand for the wait.
 use crate::places::ANSWERED_PLACE;
 use crate::places::CODE_PLACE;
+use crate::places::F_PLACE;
 use crate::places::HEARD_PLACE;
 use crate::places::KEPT_PLACE;
 use crate::places::KIND_PLACE;
@@ -29,6 +30,7 @@ ghost use Rattle.region.specs.Record.{codesKnown};
 // The numbers and the wait of a record: what stands before its tables.
 pub struct Head {
     pub n: u64,
+    pub f: u64,
     pub own: u64,
     pub maxtag: u64,
     pub request: u64,
@@ -43,6 +45,7 @@ pub fn with_maxtag(h: Head, t: u64) -> Head
     let wait = h.wait;
     Head {
         n: h.n,
+        f: h.f,
         own: h.own,
         maxtag: t,
         request: h.request,
@@ -57,6 +60,7 @@ pub fn with_request(h: Head, q: u64) -> Head
     let wait = h.wait;
     Head {
         n: h.n,
+        f: h.f,
         own: h.own,
         maxtag: h.maxtag,
         request: q,
@@ -71,6 +75,7 @@ pub fn with_kept(h: Head, t: u64) -> Head
     let wait = h.wait;
     Head {
         n: h.n,
+        f: h.f,
         own: h.own,
         maxtag: h.maxtag,
         request: h.request,
@@ -84,6 +89,7 @@ pub fn with_wait(h: Head, w: Wait) -> Head
 {
     Head {
         n: h.n,
+        f: h.f,
         own: h.own,
         maxtag: h.maxtag,
         request: h.request,
@@ -175,6 +181,7 @@ pub fn head_of(b: &[u8]) -> Head
 {
     Head {
         n: get_word(b, N_PLACE),
+        f: get_word(b, F_PLACE),
         own: get_word(b, OWN_PLACE),
         maxtag: get_word(b, MAXTAG_PLACE),
         request: get_word(b, REQUEST_PLACE),
@@ -271,7 +278,7 @@ pub fn save_head(b: &mut [u8], h: Head)
     ensures { λ _. ⌜ now (b .exit) ≡ put (now (b .entry)) nPlace (headBytes h) ⌝ }
 {
     let w = h.wait;
-    let s = [h.n, h.own, h.maxtag, h.request, h.kept];
+    let s = [h.n, h.f, h.own, h.maxtag, h.request, h.kept];
     octets::put_words(b, N_PLACE, &s);
     save_wait(b, w);
 }

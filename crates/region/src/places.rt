@@ -22,7 +22,9 @@ pub const CHANNEL: usize = SLOTS_PLACE + SLOT * CAPACITY;
 // Where the parts of a record stand: the numbers, the words of the wait and its report, and the table of tags heard.
 pub const N_PLACE: usize = 0;
 
-pub const OWN_PLACE: usize = N_PLACE + WORD;
+pub const F_PLACE: usize = N_PLACE + WORD;
+
+pub const OWN_PLACE: usize = F_PLACE + WORD;
 
 pub const MAXTAG_PLACE: usize = OWN_PLACE + WORD;
 

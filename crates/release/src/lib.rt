@@ -34,7 +34,8 @@ pub fn may_cut(b: &[u8], n: usize, cut: bool) -> bool
     ensures { λ r. ⌜ r ≡ pick cut (mayStop n (now (b .entry))) true ⌝ }
 {
     if cut {
-        return stopped_nodes(b, n) < faults_in(b);
+        let f = faults_in(b);
+        return stopped_nodes(b, n) < f;
     }
     true
 }

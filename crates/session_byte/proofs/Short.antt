@@ -12,8 +12,9 @@ use Rattle.events.specs.Event.{fresh}
 use Rattle.events.specs.Outcome.{toldOf}
 use Rattle.answers.specs.Answer.{room}
 use Rattle.answers.proofs.Short.{line-short}
+use Rattle.lines.specs.declared.Opening.{Opening}
 use Rattle.input.specs.Input.{feed}
-use Rattle.input.specs.Carry.{eventIn, nodesIn}
+use Rattle.input.specs.Carry.{eventIn, firstIn}
 use Rattle.input.specs.declared.Carry.{Carry}
 use Rattle.session_reply.specs.Reply.{handler, printedFor}
 use Rattle.session_line.specs.Act.{ran, printed}
@@ -25,11 +26,15 @@ use Rattle.session_progress.proofs.Short.{bad-short}
 use Rattle.session_byte.specs.Memory.{LineEffect, cluster, onCluster, opened, lineEffect}
 use Rattle.session_byte.specs.Byte.{ended, kept, stepped}
 
-opened-short : (n : ℕ) (m : List ℕ) → length (opened n m .text) ≤ room
-opened-short n m = cases (eqb n 0)
+opened-short : (o : Opening) (m : List ℕ) → length (opened o m .text) ≤ room
+opened-short o m = cases (eqb (o .nodes) 0)
   where
     made : LineEffect
-    made = record { stage = Events n 1; memory = onCluster n (λ b. fresh n b .bytes) m; text = [] }
+    made = record {
+      stage = Events (o .nodes) 1;
+      memory = onCluster (o .nodes) (λ b. fresh (o .nodes) (o .faults) b .bytes) m;
+      text = [];
+    }
 
     cases : (b : Bool) → length (pick b (record { stage = Over; memory = m; text = badLine 0 }) made .text) ≤ room
     cases true = bad-short 0
@@ -37,7 +42,7 @@ opened-short n m = cases (eqb n 0)
 
 lineEffect-short : (s : Stage) (c : Carry) (m : List ℕ) → length (lineEffect s c m .text) ≤ room
 unfolding lineEffect printed
-lineEffect-short First c m = opened-short (nodesIn c) m
+lineEffect-short First c m = opened-short (firstIn c) m
 lineEffect-short (Events n e) c m =
     let b : List ℕ = cluster n m in
     let r = toldOf (ran (eventIn c) b) in

@@ -8,8 +8,9 @@ use Rattle.octets.specs.Bytes.{part}
 use Rattle.block.specs.Block.{change}
 use Rattle.layout.specs.Layout.{clusterSize, sizeFor}
 use Rattle.events.specs.Event.{fresh}
+use Rattle.lines.specs.declared.Opening.{Opening}
 use Rattle.lines.specs.declared.Line.{Line}
-use Rattle.input.specs.Carry.{eventIn, nodesIn}
+use Rattle.input.specs.Carry.{eventIn, firstIn}
 use Rattle.input.specs.declared.Carry.{Carry}
 use Rattle.session_line.specs.Act.{ran, printed}
 use Rattle.session_progress.specs.Progress.{next, badLine}
@@ -39,11 +40,15 @@ pub record LineEffect : Type 0 where
   pub memory : List ℕ
   pub text : List ℕ
 
--- the first line, which says n, or 0 where it is bad
-abbrev pub opened : ℕ → List ℕ → LineEffect
-opened n m =
-    pick (eqb n 0) (record { stage = Over; memory = m; text = badLine 0 })
-    (record { stage = Events n 1; memory = onCluster n (λ b. fresh n b .bytes) m; text = [] })
+-- the first line, which says n and f; no nodes where it is bad
+abbrev pub opened : Opening → List ℕ → LineEffect
+opened o m =
+    pick (eqb (o .nodes) 0) (record { stage = Over; memory = m; text = badLine 0 })
+    (record {
+      stage = Events (o .nodes) 1;
+      memory = onCluster (o .nodes) (λ b. fresh (o .nodes) (o .faults) b .bytes) m;
+      text = [];
+    })
 
 -- the line of event e
 abbrev pub acted : (n e : ℕ) → Line → List ℕ → LineEffect
@@ -55,6 +60,6 @@ acted n e l m =
     }
 
 unfoldable pub lineEffect : Stage → Carry → List ℕ → LineEffect
-lineEffect First c m = opened (nodesIn c) m
+lineEffect First c m = opened (firstIn c) m
 lineEffect (Events n e) c m = acted n e (eventIn c) m
 lineEffect Over c m = record { stage = Over; memory = m; text = [] }

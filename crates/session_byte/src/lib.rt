@@ -4,6 +4,7 @@ use block::BLOCK;
 use input::Carry;
 use layout::BLOCKS_PLACE;
 use lines::Line;
+use lines::Opening;
 use octets::least;
 use session_line::run_at;
 use session_progress::Progress;
@@ -52,29 +53,30 @@ fn run_in(m: &mut [u8], e: u64, n: usize, l: Line, out: &mut [u8], at: usize) ->
     run_at(&mut m[0..end], e, l, out, at)
 }
 
-// Makes a fresh cluster of n nodes in the memory.
-fn fresh_in(m: &mut [u8], n: usize)
+// Makes a fresh cluster of n nodes in the memory, f of which may stop.
+fn fresh_in(m: &mut [u8], n: usize, f: usize)
     requires { ⌜ length (now m) ≡ memorySize ⌝ }
-    ensures { λ _. ⌜ now (m .exit) ≡ onCluster n (λ b. fresh n b .bytes) (now (m .entry)) ⌝ }
+    ensures { λ _. ⌜ now (m .exit) ≡ onCluster n (λ b. fresh n f b .bytes) (now (m .entry)) ⌝ }
 {
     let end = lent_for(n);
-    cluster::fresh(n, &mut m[0..end]);
+    cluster::fresh(n, f, &mut m[0..end]);
 }
 
-// The first line, which says n, or 0 where it is bad.
-fn first_line(m: &mut [u8], n: usize, out: &mut [u8], at: usize) -> Passed
+// The first line, which says n and f; no nodes where it is bad.
+fn first_line(m: &mut [u8], o: Opening, out: &mut [u8], at: usize) -> Passed
     requires { ⌜ (length (now m) ≡ memorySize) × (at + room ≤ length (now out)) ⌝ }
-    ensures { λ r. ⌜ (r .stage ≡ opened n (now (m .entry)) .stage) × (now (m .exit) ≡ opened n (now (m .entry)) .memory)
-        × (now (out .exit) ≡ put (now (out .entry)) at (opened n (now (m .entry)) .text))
-        × (r .end ≡ at + length (opened n (now (m .entry)) .text)) ⌝ }
+    ensures { λ r. ⌜ (r .stage ≡ opened o (now (m .entry)) .stage) × (now (m .exit) ≡ opened o (now (m .entry)) .memory)
+        × (now (out .exit) ≡ put (now (out .entry)) at (opened o (now (m .entry)) .text))
+        × (r .end ≡ at + length (opened o (now (m .entry)) .text)) ⌝ }
 {
+    let n = o.nodes;
     if n == 0 {
         return Passed {
             stage: Stage::Over,
             end: put_bad(out, at, 0),
         };
     }
-    fresh_in(m, n);
+    fresh_in(m, n, o.faults);
     Passed {
         stage: Stage::Events { nodes: n, event: 1 },
         end: at,
@@ -90,7 +92,7 @@ fn pass(m: &mut [u8], s: Stage, c: Carry, out: &mut [u8], at: usize) -> Passed
         × (r .end ≡ at + length (lineEffect s c (now (m .entry)) .text)) ⌝ }
 {
     match s {
-        Stage::First => first_line(m, input::nodes(c), out, at),
+        Stage::First => first_line(m, input::first(c), out, at),
         Stage::Events { nodes, event } => Passed {
             end: run_in(m, event, nodes, input::event(c), out, at),
             stage: Stage::Events {

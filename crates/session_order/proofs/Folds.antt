@@ -6,7 +6,6 @@ use mathlib.Core.List.{List, [], _∷_, _++_, map, append-nil, append-assoc}
 use native.Mathlib.Omega.{arith}
 use lib.ListN.{length, replicate, length-replicate}
 use Rattle.view.specs.Size.{nodes}
-use Rattle.table.specs.Quorum.{faults}
 use Rattle.layout.specs.Layout.{clusterSize, stated}
 use Rattle.events.specs.Event.{Result, fresh, freshBytes}
 use Rattle.lines.specs.declared.Line.{Line}
@@ -19,6 +18,7 @@ use Rattle.session_progress.specs.Progress.{next}
 use Rattle.session_line.specs.Act.{ran, printed}
 use Rattle.session.specs.Text.{leftBy, printedBy, freshOf}
 use Rattle.session_order.specs.Lines.{eventsOf}
+use Rattle.session_order.proofs.Opening.{Within}
 
 -- the number of the event after some lines
 unfoldable pub counted : ℕ → List Line → ℕ
@@ -54,28 +54,29 @@ left-events b (Deliver a c x ∷ ls) = left-events (ran (Deliver a c x) b .bytes
 left-events b (Stop c ∷ ls) = left-events (ran (Stop c) b .bytes) ls
 left-events b (Bad ∷ ls) = left-events b ls
 
-module _ (n : ℕ) (low : 1 ≤ n) (high : n ≤ 5) where
+module _ (n f : ℕ) (w : Within n f) where
   small : n ≤ nodes
-  small = omega arith
+  small = omega (arith, w .high)
 
-  pub fresh-is : (b : List ℕ) → length b ≡ clusterSize n → fresh n b .bytes ≡ freshOf n
+  pub fresh-is : (b : List ℕ) → length b ≡ clusterSize n → fresh n f b .bytes ≡ freshOf n f
   fresh-is b long =
-      ap (λ (r : Result). r .bytes) (fresh-taken n low small b long) ∙ ap (λ (k : ℕ). freshBytes n k) long
+      ap (λ (r : Result). r .bytes) (fresh-taken n f (w .low) small (w .half) b long)
+      ∙ ap (λ (k : ℕ). freshBytes n f k) long
 
   -- the bytes after some lines mirror a cluster of the algorithm
   left-mirrors : (ls : List Line)
-      → Mirrors n (leftBy (freshOf n) ls) (K.after n (faults n) channelRoom K.start (map meaning (eventsOf ls)))
+      → Mirrors n f (leftBy (freshOf n f) ls) (K.after n f channelRoom K.start (map meaning (eventsOf ls)))
   left-mirrors ls =
       let b : List ℕ = replicate (clusterSize n) 0 in
       let long : length b ≡ clusterSize n = length-replicate (clusterSize n) 0 in
-      let same : after (fresh n b .bytes) (eventsOf ls) ≡ leftBy (freshOf n) ls =
-      ap (λ (c : List ℕ). after c (eventsOf ls)) (fresh-is b long) ∙ sym (left-events (freshOf n) ls) in
-      subst (λ (c : List ℕ). Mirrors n c (K.after n (faults n) channelRoom K.start (map meaning (eventsOf ls)))) same
-      (run-mirrors n low small b long (eventsOf ls))
+      let same : after (fresh n f b .bytes) (eventsOf ls) ≡ leftBy (freshOf n f) ls =
+      ap (λ (c : List ℕ). after c (eventsOf ls)) (fresh-is b long) ∙ sym (left-events (freshOf n f) ls) in
+      subst (λ (c : List ℕ). Mirrors n f c (K.after n f channelRoom K.start (map meaning (eventsOf ls)))) same
+      (run-mirrors n f (w .low) small (w .half) b long (eventsOf ls))
 
   -- so they stay as many, and state n
-  pub left-long : (ls : List Line) → length (leftBy (freshOf n) ls) ≡ clusterSize n
+  pub left-long : (ls : List Line) → length (leftBy (freshOf n f) ls) ≡ clusterSize n
   left-long ls = left-mirrors ls .shows .long
 
-  pub left-states : (ls : List Line) → stated (leftBy (freshOf n) ls) ≡ n
+  pub left-states : (ls : List Line) → stated (leftBy (freshOf n f) ls) ≡ n
   left-states ls = left-mirrors ls .shows .states

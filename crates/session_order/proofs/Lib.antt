@@ -1,4 +1,5 @@
 pub mod Memory
+pub mod Opening
 pub mod Folds
 pub mod Stands
 pub mod Pieces

@@ -13,11 +13,11 @@ use Rattle.octets.specs.Test.{pick}
 use Rattle.logs.specs.Count.{count}
 use Rattle.logs.specs.Update.{upd, upd2}
 use Rattle.record.specs.declared.Operation.the-variants.{Scan as ScanOf}
-use Rattle.layout.specs.Layout.{clusterSize, node}
+use Rattle.layout.specs.Layout.{clusterSize, faultsIn, node}
 use Rattle.events.specs.Event.{fresh}
 use Rattle.outgoing.specs.declared.Extent.the-variants.{Whole}
 use Rattle.digits.specs.Decimal.{allDigits, value}
-use Rattle.lines.specs.Grammar.{numberOf, placeOf, fieldLength, word, after, tailOf, eventOf, nodesOf}
+use Rattle.lines.specs.Grammar.{numberOf, placeOf, fieldLength, word, after, tailOf, eventOf, firstOf}
 use Rattle.lines.specs.declared.Line.{Line}
 use Rattle.lines.specs.declared.Line.the-variants.{Scan, Bad}
 use Rattle.lines.specs.declared.Extent.{Extent}
@@ -31,21 +31,22 @@ use Rattle.eqaso.specs.Cluster as K
 use Rattle.eqaso.specs.Cluster.{trace}
 use Rattle.mirror.specs.Mirrors.{channelRoom}
 use Rattle.mirror.specs.Run as R
+use Rattle.mirror.specs.Demand2.{Demand2}
 use Rattle.mirror.proofs.Demand2.{demand2}
 use Rattle.session_progress.specs.Progress.{badLine, begun, finished}
 use Rattle.session_progress.specs.declared.Progress.{Progress}
 use Rattle.session_byte.specs.Memory.{memorySize, cluster}
-use Rattle.session.specs.Text.{nodesIn, eventsIn, printedBy, freshOf, clusterAfter, output}
+use Rattle.session.specs.Text.{nodesIn, eventsIn, printedBy, freshOf, freshIn, clusterAfter, output}
 use Rattle.session.specs.Reading.{Reading, begins, takes}
 use Rattle.session_order.specs.Lines.{Lines, bad, event}
 use Rattle.session_order.specs.Session.{eventsFrom, traceIn, Program, code, SessionsOf}
 use Rattle.session_order.proofs.Folds.{fresh-is}
 use Rattle.session_order.proofs.Sessions.{sessions}
 
--- ---- texts: a cluster of one node, and then an empty line, which is bad, or a scan
+-- ---- texts: a cluster of one node, which may not stop, and then an empty line, which is bad, or a scan
 
 abbrev pub text : List (List ℕ) → List ℕ
-text ls = joined ((49 ∷ []) ∷ ls)
+text ls = joined ((49 ∷ 32 ∷ 48 ∷ []) ∷ ls)
 
 abbrev odd : List ℕ
 odd = text ([] ∷ [])
@@ -54,14 +55,14 @@ abbrev pub asks : List ℕ
 asks = text ((115 ∷ 32 ∷ 49 ∷ []) ∷ [])
 
 one-odd : (nodesIn odd ≡ 1) × (eventsIn odd ≡ Bad ∷ [])
-unfolding linesFrom restFrom nodesOf numberOf allDigits value allTo upTo eventOf
+unfolding linesFrom restFrom firstOf numberOf allDigits value allTo upTo eventOf word fieldLength placeOf after
 one-odd = (refl, refl)
 
 abbrev scans : List Line
 scans = Scan 1 Written.Whole ∷ []
 
 one-asks : (nodesIn asks ≡ 1) × (eventsIn asks ≡ scans)
-unfolding linesFrom restFrom nodesOf numberOf allDigits value allTo upTo eventOf word fieldLength placeOf after tailOf
+unfolding linesFrom restFrom firstOf numberOf allDigits value allTo upTo eventOf word fieldLength placeOf after tailOf
 one-asks = (refl, refl)
 
 -- ---- pieces: what is read
@@ -118,7 +119,8 @@ prints-out s = omega (arith, ap length (s .pieces reading .prints), bad-some 0)
 
 -- It is over at once, and reads nothing.
 pub over-out : ¬ SessionsOf (ending (λ p. true) finished)
-unfolding output linesFrom restFrom nodesOf numberOf allDigits value allTo upTo finished begun printedBy
+unfolding output linesFrom restFrom firstOf numberOf allDigits value allTo upTo word fieldLength placeOf after finished
+    begun printedBy
 over-out s = omega (arith, ap length (s .pieces reading .over refl (text [])), bad-some 0)
 
 -- ---- the cluster
@@ -144,44 +146,47 @@ lent = replicate (clusterSize 1) 0
 long : length lent ≡ clusterSize 1
 long = length-replicate {A = ℕ} (clusterSize 1) 0
 
-made : fresh 1 lent .bytes ≡ freshOf 1
-made = fresh-is 1 (omega arith) (omega arith) lent long
+made : fresh 1 0 lent .bytes ≡ freshOf 1 0
+made = fresh-is 1 0 (record { low = omega arith; high = omega arith; half = omega arith }) lent long
+
+demands : Demand2 1 0 lent
+demands = demand2 1 0 (omega arith, omega arith) (omega arith) lent long
 
 module _ (es : List R.Event) where
-  requests : node (R.after (freshOf 1) es) 1 .request
+  requests : node (R.after (freshOf 1 0) es) 1 .request
       ≡ K.after 1 0 channelRoom K.start (map R.meaning es) .nodes 1 .request
   requests = subst (λ b. node (R.after b es) 1 .request
       ≡ K.after 1 0 channelRoom K.start (map R.meaning es) .nodes 1 .request) made
-      (demand2 1 (omega arith, omega arith) lent long .remembers es 1 (omega arith, omega arith) .request)
+      (demands .remembers es 1 (omega arith, omega arith) .request)
 
-  pub traced : R.traceFrom 1 (freshOf 1) es ≡ trace 1 0 channelRoom (map R.meaning es)
-  traced = subst (λ b. R.traceFrom 1 b es ≡ trace 1 0 channelRoom (map R.meaning es)) made
-      (demand2 1 (omega arith, omega arith) lent long .same es)
+  pub traced : R.traceFrom 1 (freshOf 1 0) es ≡ trace 1 0 channelRoom (map R.meaning es)
+  traced = subst (λ b. R.traceFrom 1 b es ≡ trace 1 0 channelRoom (map R.meaning es)) made (demands .same es)
 
 asked : K.after 1 0 channelRoom K.start (map R.meaning scanning) .nodes 1 .request ≡ 1
 unfolding K.after K.event K.roomy H.sentTo K.entries moveOn table limit upd upd2 count ℕ-discrete decLe decLt decide
 asked = refl
 
 -- the scan changes the cluster
-moved : freshOf 1 ≡ R.after (freshOf 1) scanning → ⊥
+moved : freshOf 1 0 ≡ R.after (freshOf 1 0) scanning → ⊥
 unfolding K.after R.after
 moved e =
     let wrong : _≡_ {A = ℕ} 0 1 = sym (requests []) ∙ ap (λ b. node b 1 .request) e ∙ requests scanning ∙ asked in
     omega (arith, wrong)
 
-moved-asks : freshOf (nodesIn asks) ≡ R.after (freshOf (nodesIn asks)) (eventsFrom asks) → ⊥
-unfolding linesFrom restFrom nodesOf numberOf allDigits value allTo upTo eventOf word fieldLength placeOf after tailOf
+moved-asks : freshIn asks ≡ R.after (freshIn asks) (eventsFrom asks) → ⊥
+unfolding linesFrom restFrom firstOf numberOf allDigits value allTo upTo eventOf word fieldLength placeOf after tailOf
 moved-asks = moved
 
 pub some-asks : nodesIn asks ≡ 0 → ⊥
 some-asks e = omega (arith, e, one-asks .0)
 
--- Its memory holds the cluster as it was fresh, and not as the events have left it.
-pub leaves-out : ¬ SessionsOf (keeping (λ n m. freshOf n) clusterAfter)
+-- Its memory holds a fresh cluster of which no node may stop, and not the cluster as the events have left it.
+pub leaves-out : ¬ SessionsOf (keeping (λ n m. freshOf n 0) clusterAfter)
+unfolding linesFrom restFrom firstOf numberOf allDigits value allTo upTo word fieldLength placeOf after
 leaves-out s = moved-asks (s .pieces (takes reading asks) .leaves some-asks ∙ sessions .fold asks)
 
--- It leaves the cluster as it was fresh, whatever the events.
-pub fold-out : ¬ SessionsOf (keeping (λ n m. freshOf n) (λ t. freshOf (nodesIn t)))
+-- It leaves the cluster as it was fresh, whatever the events; in its memory too, with the f that stands there.
+pub fold-out : ¬ SessionsOf (keeping (λ n m. freshOf n (faultsIn (cluster n m))) freshIn)
 fold-out s = moved-asks (s .fold asks)
 
 -- ---- what is printed, beside the trace

@@ -16,7 +16,7 @@ use Rattle.record.specs.declared.Operation.the-variants.{Update}
 use Rattle.outgoing.specs.declared.Extent.the-variants.{Whole}
 use Rattle.digits.specs.Decimal.{allDigits, value}
 use Rattle.digits.specs.Hex.{allHex, hexValue, hexBytes}
-use Rattle.lines.specs.Grammar.{numberOf, reportIn, placeOf, fieldLength, word, after, tailOf, eventOf, nodesOf}
+use Rattle.lines.specs.Grammar.{numberOf, reportIn, placeOf, fieldLength, word, after, tailOf, eventOf, firstOf}
 use Rattle.input.specs.Input.{linesFrom, restFrom}
 use Rattle.history.specs.Event as H
 use Rattle.history.specs.Event.{none, done, shown, spent}
@@ -51,7 +51,7 @@ abbrev updating : List R.Event
 updating = R.begin 1 (Update noReport) Whole ∷ replicate 10 (R.deliver 1 1 Whole)
 
 read : (nodesIn updates ≡ 1) × (eventsFrom updates ≡ updating)
-unfolding linesFrom restFrom nodesOf numberOf allDigits value allTo upTo eventOf word fieldLength placeOf after tailOf
+unfolding linesFrom restFrom firstOf numberOf allDigits value allTo upTo eventOf word fieldLength placeOf after tailOf
     reportIn allHex hexBytes hexValue tab reportOf part
 read = (refl, refl)
 
@@ -62,9 +62,9 @@ unfolding traceFrom K.event K.roomy H.sentTo K.entries moveOn kept table newest 
 unviewed o = let wrong : _≡_ {A = ℕ} 0 1 = o .kinds 0 in omega (arith, wrong)
 
 pub order-out : ¬ SessionsOf (seeing (λ t. map blurred (traceIn t)))
-unfolding linesFrom restFrom nodesOf numberOf allDigits value allTo upTo
+unfolding linesFrom restFrom firstOf numberOf allDigits value allTo upTo word fieldLength placeOf after
 order-out s = unviewed (subst (λ tr. SingleOrder 1 (map blurred tr))
-    (ap (R.traceFrom 1 (freshOf 1)) (read .1) ∙ traced updating)
+    (ap (R.traceFrom 1 (freshOf 1 0)) (read .1) ∙ traced updating)
     (s .order updates λ e. omega (arith, e, read .0)))
 
 -- What a begin lets out is not seen.
@@ -81,5 +81,5 @@ unfolding traceFrom K.event K.roomy H.sentTo K.entries moveOn table limit upd up
 open-still = open-scan-out
 
 pub quiet-out : ¬ SessionsOf (seeing (λ t. map hushed (traceIn t)))
-unfolding linesFrom restFrom nodesOf numberOf allDigits value allTo upTo eventOf word fieldLength placeOf after tailOf
+unfolding linesFrom restFrom firstOf numberOf allDigits value allTo upTo eventOf word fieldLength placeOf after tailOf
 quiet-out s = open-still (subst (λ tr. Quiet 1 (map hushed tr)) (traced scanning) (s .quiet asks some-asks))

@@ -1,6 +1,7 @@
 -- Of every text that the bench program can be given: what it prints and what it leaves of the cluster do not depend on
--- the pieces in which the text comes, the cluster is that after the text's events, and demand 3 holds of them. It is a
--- claim about any program, so that wrong ones can be named: for each clause proofs/RuledOut has one that it rules out.
+-- the pieces in which the text comes, the cluster is that after the text's events, and demand 3 holds of them, for the
+-- n and f of its first line. It is a claim about any program, so that wrong ones can be named: for each clause
+-- proofs/RuledOut has one that it rules out.
 use Prim.Native.Nat.{ℕ}
 use mathlib.Core.Path.{_≡_}
 use mathlib.Core.Bool.{Bool, true}
@@ -11,16 +12,16 @@ use Rattle.mirror.specs.Run.{Event, after, traceFrom}
 use Rattle.session_progress.specs.Progress.{finished, isOver}
 use Rattle.session_progress.specs.declared.Progress.{Progress}
 use Rattle.session_byte.specs.Memory.{cluster}
-use Rattle.session.specs.Text.{nodesIn, eventsIn, freshOf, clusterAfter, output}
+use Rattle.session.specs.Text.{nodesIn, eventsIn, freshIn, clusterAfter, output}
 use Rattle.session.specs.Reading.{Reading}
 use Rattle.session_order.specs.Lines.{eventsOf, Lines}
 
--- The events of a text, and what is seen of their run from a fresh cluster of n nodes.
+-- The events of a text, and what is seen of their run from a fresh cluster of the n and f that its first line says.
 abbrev pub eventsFrom : List ℕ → List Event
 eventsFrom t = eventsOf (eventsIn t)
 
 abbrev pub traceIn : List ℕ → Trace
-traceIn t = traceFrom (nodesIn t) (freshOf (nodesIn t)) (eventsFrom t)
+traceIn t = traceFrom (nodesIn t) (freshIn t) (eventsFrom t)
 
 -- What is seen of a program that plays sessions.
 pub record Program : Type 1 where
@@ -61,7 +62,7 @@ pub record SessionsOf (P : Program) : Type 0 where
   -- Whatever the pieces.
   pub pieces : {t m o : List ℕ} {p : Progress} → P .reads t p m o → Faithful P t p m o
   -- The cluster after a text is that after its events, from a fresh one.
-  pub fold : (t : List ℕ) → P .leaves t ≡ after (freshOf (nodesIn t)) (eventsFrom t)
+  pub fold : (t : List ℕ) → P .leaves t ≡ after (freshIn t) (eventsFrom t)
   -- What is printed for a text are the endings and refusals of that run, and refusal 1 for each bad line.
   pub shows : (t : List ℕ) → (nodesIn t ≡ 0 → ⊥) → Lines 1 (eventsIn t) (P .sees t) (P .prints t)
   -- Of its operations there is one single order, and where no message waits for a standing node, no operation is open.

@@ -32,6 +32,7 @@ use figures::Counted;
 use node_bytes::Called;
 use page::Paged;
 use record::Operation;
+use table::quorum::most_faults;
 use view::REPORT;
 use view::VIEW;
 use view::read_report;
@@ -44,6 +45,7 @@ ghost use mathlib.Core.List.{List};
 ghost use Rattle.view.specs.Report.{reportOf};
 ghost use Rattle.wire.specs.Codec.{front, decode};
 ghost use Rattle.figures.specs.Figures.{figuresOf};
+ghost use Rattle.table.specs.Quorum.{faults};
 ghost use Rattle.record.specs.declared.Operation.the-variants.{Update, Scan};
 ghost use Rattle.region.specs.Record.{recordSize};
 ghost use Rattle.layout.specs.Layout.{sizeFor};
@@ -59,6 +61,14 @@ ghost use Rattle.codes.specs.Code.{extentOf, leaves};
 ghost use Rattle.codes.specs.Code.{numbers as numbersOf, reportIn, messageIn, fourFigures};
 ghost use Rattle.codes.specs.Code.{answerCode, lent, wrote, wrotePage, lentCode, leavesNode, routeOf};
 
+// The largest f that a cluster of n nodes can have, as document 01's rule gives it.
+#[no_mangle]
+pub extern "C" fn snapshot_most_faults(n: usize) -> usize
+    ensures { λ r. ⌜ r ≡ faults n ⌝ }
+{
+    most_faults(n)
+}
+
 // ---- a cluster in one buffer
 
 // The bytes to lend for a cluster of n nodes; 0 where there may be none.
@@ -69,12 +79,12 @@ pub extern "C" fn snapshot_size(n: usize) -> usize
     layout::size(n)
 }
 
-// Makes the lent bytes a fresh cluster of n nodes.
+// Makes the lent bytes a fresh cluster of n nodes, f of which may stop.
 #[no_mangle]
-pub extern "C" fn snapshot_fresh(n: usize, cluster: &mut [u8]) -> u8
-    ensures { λ r. ⌜ leaves r (now (cluster .exit)) (fresh n (now (cluster .entry))) ⌝ }
+pub extern "C" fn snapshot_fresh(n: usize, f: usize, cluster: &mut [u8]) -> u8
+    ensures { λ r. ⌜ leaves r (now (cluster .exit)) (fresh n f (now (cluster .entry))) ⌝ }
 {
-    event_code(cluster::fresh(n, cluster))
+    event_code(cluster::fresh(n, f, cluster))
 }
 
 // Begins an update with this report at a node; in a cut only so many of its first entries go out.
@@ -148,13 +158,13 @@ pub extern "C" fn snapshot_node_size() -> usize
     node_bytes::size()
 }
 
-// Makes the lent bytes the fresh record of node `own` of n.
+// Makes the lent bytes the fresh record of node `own` of n, f of which may stop.
 #[no_mangle]
-pub extern "C" fn snapshot_node_fresh(n: usize, own: usize, state: &mut [u8]) -> u8
-    ensures { λ r. ⌜ (r ≡ lentCode (freshNode n own (now (state .entry))))
-        × (now (state .exit) ≡ freshNode n own (now (state .entry)) .bytes) ⌝ }
+pub extern "C" fn snapshot_node_fresh(n: usize, f: usize, own: usize, state: &mut [u8]) -> u8
+    ensures { λ r. ⌜ (r ≡ lentCode (freshNode n f own (now (state .entry))))
+        × (now (state .exit) ≡ freshNode n f own (now (state .entry)) .bytes) ⌝ }
 {
-    let a = node_bytes::fresh(n, own, state);
+    let a = node_bytes::fresh(n, f, own, state);
     let outcome = a.outcome;
     outcome_code(outcome)
 }

@@ -39,6 +39,7 @@ raised-parts c t p h =
     record {
       n-low = p .n-low;
       n-high = p .n-high;
+      half = p .half;
       own-low = p .own-low;
       own-high = p .own-high;
       max-high = on-pick (λ (x : ℕ). x ≤ limit) (ltb (c .maxtag) t) t (c .maxtag) (λ e. h) (λ e. p .max-high);
@@ -64,6 +65,7 @@ keep-parts c t v p h o =
     record {
       n-low = p .n-low;
       n-high = p .n-high;
+      half = p .half;
       own-low = p .own-low;
       own-high = p .own-high;
       max-high = p .max-high;
@@ -96,6 +98,7 @@ received-parts c s w t r p z a b l h =
     record {
       n-low = p .n-low;
       n-high = p .n-high;
+      half = p .half;
       own-low = p .own-low;
       own-high = p .own-high;
       max-high = p .max-high;

@@ -41,6 +41,7 @@ set-wait-parts c q w v p a b e h =
     record {
       n-low = p .n-low;
       n-high = p .n-high;
+      half = p .half;
       own-low = p .own-low;
       own-high = p .own-high;
       max-high = p .max-high;

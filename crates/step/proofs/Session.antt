@@ -62,7 +62,7 @@ quiet : List Message → Shown
 quiet ms = record { sent = ms; ending = None; view = noView }
 
 update : Step
-update = beginStep 0 (blank 1 1) (Update p)
+update = beginStep 0 (blank 1 0 1) (Update p)
 
 updated : deliver 12 (update .node) (letters update) ≡
     quiet (ReadAnswer 1 0 ∷ []) ∷ quiet (Value 1 1 p ∷ Write 2 0 ∷ []) ∷ quiet (Value 1 1 p ∷ []) ∷ quiet

@@ -2,9 +2,11 @@
 -- Assumes nothing.
 use mathlib.Core.Bool.{Bool}
 use mathlib.Core.List.{List}
-use Prim.Native.Nat.{ℕ, _-_, _/_, _%_, _^_}
-use lib.Dec.{leb, eqb}
+use Prim.Native.Nat.{ℕ, _+_, _-_, _/_, _%_, _^_}
+use lib.Dec.{leb, ltb, eqb}
 use lib.Bits.{bitOr}
+use Rattle.octets.specs.Test.{both}
+use Rattle.view.specs.Size.{nodes, isSize}
 use Rattle.table.specs.Loop.{either, all, count}
 use Rattle.table.specs.Table.{at, heardOf}
 
@@ -27,6 +29,14 @@ membersIn n m = count n (member m)
 -- the largest f with 2f < n, for n at least 1
 abbrev pub faults : ℕ → ℕ
 faults n = (n - 1) / 2
+
+-- n nodes tolerate the stop of f of them: f is 0 to 7, and 2f < n
+abbrev pub tolerates : ℕ → ℕ → Bool
+tolerates n f = both (leb f (faults nodes)) (ltb (f + f) n)
+
+-- there may be a cluster of n nodes, f of which may stop
+abbrev pub isCluster : ℕ → ℕ → Bool
+isCluster n f = both (isSize n) (tolerates n f)
 
 -- k nodes of n are a quorum when at most f are missing
 abbrev pub isQuorum : ℕ → ℕ → ℕ → Bool

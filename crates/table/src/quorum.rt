@@ -10,6 +10,10 @@ ghost use Rattle.view.specs.Size.{nodes};
 ghost use Rattle.table.specs.Loop.{all};
 ghost use Rattle.table.specs.Table.{at, heardOf};
 ghost use Rattle.table.specs.Quorum.{member, with, only, membersIn, faults, isQuorum, agreeing};
+ghost use Rattle.table.specs.Quorum.{isCluster, tolerates as Quorum·tolerates};
+
+// The largest f that any cluster can have.
+const FAULTS: usize = (NODES - 1) / 2;
 
 // Whether node s is in the set m.
 pub fn is_member(m: u64, s: usize) -> bool
@@ -94,6 +98,20 @@ pub fn most_faults(n: usize) -> usize
         return 0;
     }
     (n - 1) / 2
+}
+
+// Whether n nodes tolerate the stop of f of them: f is at most 7, and 2f < n.
+pub fn tolerates(n: usize, f: usize) -> bool
+    ensures { λ r. ⌜ r ≡ Quorum·tolerates n f ⌝ }
+{
+    if f <= FAULTS { f + f < n } else { false }
+}
+
+// Whether there may be a cluster of n nodes, f of which may stop.
+pub fn is_cluster(n: usize, f: usize) -> bool
+    ensures { λ r. ⌜ r ≡ isCluster n f ⌝ }
+{
+    and(and(1 <= n, n <= NODES), tolerates(n, f))
 }
 
 // Whether k of n nodes are a quorum: at most f are missing.

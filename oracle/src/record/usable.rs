@@ -1,15 +1,16 @@
 //! Which records are usable: refusal 2, clause by clause.
 
 use super::{Held, Record, Wait, NODES, UNUSABLE};
-use crate::cluster::{demand, Refusal};
+use crate::cluster::{can_bear, demand, Refusal};
 use crate::message::{NodeId, Tag, LIMIT};
 use crate::node::Operation;
 use std::collections::BTreeSet;
 
-/// Why a record is unusable: the clauses of refusal 2, in document 01's order.
+/// Why a record is unusable: the clauses of refusal 2, in document 01's order, f after n.
 #[derive(Clone, Copy, Debug, PartialEq, Eq, PartialOrd, Ord)]
 pub enum Fault {
     N,
+    F,
     Own,
     Round,
     AboveLimit,
@@ -33,6 +34,7 @@ impl Record {
         let views = [&self.last, &self.at_max, &self.at_round, &self.kept_view];
         let clauses = [
             (Fault::N, !(1..=NODES).contains(&self.n)),
+            (Fault::F, !can_bear(self.n, self.f)),
             (Fault::Own, !(1..=self.n).contains(&self.own)),
             (Fault::Round, self.round().is_some_and(|(round, _)| round > 3)),
             (Fault::AboveLimit, self.has_number_above_limit()),

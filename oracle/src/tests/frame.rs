@@ -1,6 +1,6 @@
 //! What frames are trusted for: the same as their messages one by one, or nothing.
 
-use crate::cluster::Refusal;
+use crate::cluster::{most_faults, Refusal};
 use crate::message::{Message, Tag, Value};
 use crate::node::{Ending, Operation, Rule, Step, To};
 use crate::record::Record;
@@ -10,7 +10,7 @@ use crate::wire;
 const OUTPUT: usize = 8192;
 
 fn fresh(n: usize) -> Record {
-    Record::fresh(n, 1).expect("1 is one of n nodes")
+    Record::fresh(n, most_faults(n), 1).expect("1 is one of n nodes")
 }
 
 fn value(tag: Tag) -> Message {

@@ -114,9 +114,9 @@ fn a_view_is_read_back_from_its_page() {
 fn the_page_of_a_session_is_that_of_its_last_scan() {
     let (scan, update) = ("s 1\n".to_string() + &"d 1 1\n".repeat(5), format!("u 1 {REPORT:016x}\n"));
     let last = |session: String| last_scan(session.as_bytes()).expect("a session in memory can be read");
-    assert_eq!(last(format!("1\n{scan}")), Some(vec![None]));
-    assert_eq!(last(format!("1\n{scan}{update}{}{scan}s 1\n", "d 1 1\n".repeat(11))), Some(vec![Some((1, REPORT))]));
-    for none in ["", "1\n", "6\ns 1\n", "1\ns 1\nd 1 1\n"] {
+    assert_eq!(last(format!("1 0\n{scan}")), Some(vec![None]));
+    assert_eq!(last(format!("1 0\n{scan}{update}{}{scan}s 1\n", "d 1 1\n".repeat(11))), Some(vec![Some((1, REPORT))]));
+    for none in ["", "1 0\n", "6 2\ns 1\n", "1 0\ns 1\nd 1 1\n"] {
         assert_eq!(last(none.to_string()), None);
     }
 }

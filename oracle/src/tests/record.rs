@@ -15,8 +15,8 @@ fn the_record_does_what_the_sets_do() {
     let mut endings = BTreeSet::new();
     for seed in 0..400 {
         let mut network = Network::draw(Dice::new(seed));
-        let n = network.n();
-        let old = |id: NodeId| Node::old(id, n, network.record(1).max_tag, network.record(id.max(1)).request);
+        let (n, f) = (network.n(), network.f());
+        let old = |id: NodeId| Node::old(n, f, id, network.record(1).max_tag, network.record(id.max(1)).request);
         let mut nodes: Vec<Node> = (0..=n).map(old).collect();
         for event in 0..400 + 20 * n {
             let Some(happening) = network.next_event() else { break };
@@ -85,15 +85,17 @@ fn messages_in_bytes() {
 /// Each clause of refusal 2 alone: what is just at its limit is usable, one more is not.
 #[test]
 fn unusable_records() {
-    let fresh = || Record::fresh(3, 2).expect("2 is one of 3 nodes");
+    let fresh = || Record::fresh(3, 1, 2).expect("2 is one of 3 nodes, of which one may stop");
     let usable = |change: &dyn Fn(&mut Record)| {
         let mut record = fresh();
         change(&mut record);
         record.faults()
     };
-    assert_eq!(Record::fresh(17, 1), Err(Refusal(1)));
-    assert_eq!(Record::fresh(3, 4), Err(Refusal(1)));
+    assert_eq!(Record::fresh(17, 1, 1), Err(Refusal(1)));
+    assert_eq!(Record::fresh(3, 2, 1), Err(Refusal(1)));
+    assert_eq!(Record::fresh(3, 1, 4), Err(Refusal(1)));
     assert_eq!(usable(&|record| record.n = 17), [Fault::N]);
+    assert_eq!(usable(&|record| record.f = 2), [Fault::F]);
     assert_eq!(usable(&|record| record.own = 4), [Fault::Own]);
     for (more, faults) in [(0, vec![]), (1, vec![Fault::AboveLimit])] {
         assert_eq!(usable(&|record| record.max_tag = LIMIT + more), faults);
@@ -150,7 +152,7 @@ fn unusable_records() {
 /// The refusals of begin and message, the first that applies.
 #[test]
 fn refusals_of_a_record_in_their_order() {
-    let mut record = Record::fresh(2, 1).expect("1 is one of 2 nodes");
+    let mut record = Record::fresh(2, 0, 1).expect("1 is one of 2 nodes");
     let value = |tag| wire::write(&Message::Value(Value { tag, writer: 2, report: 0 }));
     record.request = LIMIT - 4;
     let fresh = record.clone();

@@ -44,7 +44,7 @@ const C: &str = r#"
 #include <stdbool.h>
 #endif
 #define SNAPSHOT_REPORT 8
-#define SNAPSHOT_CLUSTER(n) (1 + 73345 * (n))
+#define SNAPSHOT_CLUSTER(n) (2 + 73353 * (n))
 enum some { SNAPSHOT_A = 1, /* one */ SNAPSHOT_B = 2 };
 static inline bool some(uint8_t code)
 {

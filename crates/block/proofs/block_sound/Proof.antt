@@ -34,7 +34,7 @@ returns c =
     let c5 = c .before .before .before .before .before in
     c .and .ensures
     ∙ ap₂ both (c .before .before .record-sound .ensures ∙ ap
-    (λ (t : List ℕ). recordSound (c5 .args .n) (c5 .args .c) t)
+    (λ (t : List ℕ). recordSound (c5 .args .n) (c5 .args .f) (c5 .args .c) t)
     (lent (c5 .args .k .now) recordPlace recordSize refl))
     (c .before .channels-sound .ensures)
 

@@ -15,11 +15,11 @@ use Rattle.layout.specs.Layout.{clusterSize, onBlock}
 use Rattle.cluster.proofs.blank_blocks.Tie as tie
 
 abbrev Inv-loop : tie.InvT-loop
-Inv-loop b₀ n i₀ b i = (i ≤ n) × (length b ≡ clusterSize n) × (b
-    ≡ upTo i (λ j. onBlock (j + 1) (keepRecord (blank n (j + 1)))) b₀)
+Inv-loop b₀ n f i₀ b i = (i ≤ n) × (length b ≡ clusterSize n) × (b
+    ≡ upTo i (λ j. onBlock (j + 1) (keepRecord (blank n f (j + 1)))) b₀)
 
 abbrev μ-loop : tie.MeasureT-loop
-μ-loop b₀ n i₀ b i = n - i
+μ-loop b₀ n f i₀ b i = n - i
 
 loop-holds : tie.Need-loop-holds Inv-loop μ-loop
 loop-holds c = (search needs, search needs, sym (upTo-none _ _))
@@ -47,8 +47,8 @@ loop-again c =
       search needs,
       c .before .before .keep-at .ensures
           ∙ ap (λ (d : Node). onBlock (i + 1) (keepRecord d) (c6 .loop .b)) (c3 .blank-node .ensures)
-          ∙ ap (λ (t : List ℕ). onBlock (i + 1) (keepRecord (blank (a .n) (i + 1))) t) (c6 .loop .inv .2)
-          ∙ sym (upTo-more i (λ j. onBlock (j + 1) (keepRecord (blank (a .n) (j + 1)))) (a .b .now)),
+          ∙ ap (λ (t : List ℕ). onBlock (i + 1) (keepRecord (blank (a .n) (a .f) (i + 1))) t) (c6 .loop .inv .2)
+          ∙ sym (upTo-more i (λ j. onBlock (j + 1) (keepRecord (blank (a .n) (a .f) (j + 1)))) (a .b .now)),
     )
 
 same-length : tie.Need-same-length Inv-loop μ-loop

@@ -2,102 +2,110 @@
 use borrow.Author.Needs.{needs}
 use lib.ListN.{length-set}
 use mathlib.Core.Path.{sym, _∙_}
+use native.Mathlib.Omega.{arith}
 use borrow.Author.Tests.{not-true, not-false}
-use Rattle.layout.proofs.Check.{is-size}
-use Rattle.events.proofs.Told.{gives, refuses, fresh-none, fresh-unfit, fresh-is, fresh-bytes}
+use Rattle.layout.specs.Layout.{statedPlace}
+use Rattle.layout.proofs.Check.{is-cluster}
+use Rattle.events.proofs.Told.{gives, refuses, fresh-none, fresh-unfit, fresh-is, fresh-bytes, started-length}
 use Rattle.cluster.proofs.fresh.Statement.{statement}
 use Rattle.cluster.proofs.fresh.Tie as tie
 
-and-requires : tie.Need-and-requires
-and-requires c κs = search needs
-
-refused-requires : tie.Need-refused-requires
-refused-requires c κs = search needs
-
 returns : tie.Need-returns
 returns c =
-    let c1 = c .before .before in let c2 = c1 .before .before in
-    refuses 1 (fresh-none (c2 .args .n) (c2 .args .b .now) (sym (c1 .and .ensures) ∙ not-true _ (c .before .if1
-    .taken))) (c .refused .ensures)
+    let c3 = c .before .before .before in
+    refuses 1 (fresh-none (c3 .before .args .n) (c3 .before .args .f) (c3 .before .args .b .now) (sym
+    (c .before .before .is-cluster .ensures) ∙ not-true _ (c .before .if1 .taken)))
+    (c .refused .ensures)
 
 mul-if2 : tie.Need-mul-if2
 mul-if2 c =
-    let c1 = c .before .before .before in
-    let h = is-size (c1 .args .n) (sym (c .before .and .ensures) ∙ not-false _ (c .if1 .left)) in search needs
+    let h = is-cluster (c .before .before .before .args .n) (c .before .before .before .args .f) (sym
+    (c .before .is-cluster .ensures) ∙ not-false _ (c .if1 .left)) in search needs
 
 add-if2 : tie.Need-add-if2
 add-if2 c =
-    let c1 = c .before .before .before in
-    let h = is-size (c1 .args .n) (sym (c .before .and .ensures) ∙ not-false _ (c .if1 .left)) in search needs
-
-refused-requires-2 : tie.Need-refused-requires-2
-refused-requires-2 c κs = search needs
+    let h = is-cluster (c .before .before .before .args .n) (c .before .before .before .args .f) (sym
+    (c .before .is-cluster .ensures) ∙ not-false _ (c .if1 .left)) in search needs
 
 returns-2 : tie.Need-returns-2
 returns-2 c =
-    let c1 = c .before .before in let c2 = c1 .before in let c3 = c2 .before .before in
-    refuses 12 (fresh-unfit (c3 .args .n) (c3 .args .b .now) (sym (c2 .and .ensures) ∙ not-false _ (c1 .if1 .left)) (c
-    .before .if2 .taken)) (c .refused2 .ensures)
-
-fill-requires : tie.Need-fill-requires
-fill-requires c κs = search needs
+    let c3 = c .before .before .before in
+    refuses 12 (fresh-unfit (c3 .before .before .args .n) (c3 .before .before .args .f)
+    (c3 .before .before .args .b .now) (sym (c3 .is-cluster .ensures) ∙ not-false _ (c .before .before .if1 .left))
+    (c .before .if2 .taken)) (c .refused2 .ensures)
 
 cast-b : tie.Need-cast-b
 cast-b c =
-    let c1 = c .before .before .before .before .before in let c2 = c1 .before in let c3 = c2 .before .before in
-    let h = is-size (c3 .args .n) (sym (c2 .and .ensures) ∙ not-false _ (c1 .if1 .left)) in search needs
+    let h = is-cluster (c .before .before .before .before .before .before .before .before .args .n)
+    (c .before .before .before .before .before .before .before .before .args .f) (sym
+    (c .before .before .before .before .before .before .is-cluster .ensures) ∙ not-false _
+    (c .before .before .before .before .before .if1 .left)) in search needs
 
-slice-write-b : tie.Need-slice-write-b
-slice-write-b c = search needs
+cast-b-2 : tie.Need-cast-b-2
+cast-b-2 c =
+    let c3 = c .before .before .before in
+    let c6 = c3 .before .before .before in
+    let h = is-cluster (c6 .before .before .args .n) (c6 .before .before .args .f) (sym (c6 .is-cluster .ensures)
+    ∙ not-false _ (c3 .before .before .if1 .left)) in
+    omega (arith, h .1, h .2)
+
+slice-write-b-2 : tie.Need-slice-write-b-2
+slice-write-b-2 c =
+    let long = length-set (c .before .before .fill .last .0) statedPlace
+    (c .before .before .before .before .before .before .before .before .args .n) ∙ c .before .before .fill .kept .0
+    ∙ c .before .before .before .before .if2 .left in search needs
 
 blank-blocks-requires : tie.Need-blank-blocks-requires
 blank-blocks-requires c κs =
-    let c1 = c .before .before .before in let c2 = c1 .before .before in let c3 = c2 .before in
-    let c4 = c3 .before in let c5 = c4 .before .before in
-    let h = is-size (c5 .args .n) (sym (c4 .and .ensures) ∙ not-false _ (c3 .if1 .left)) in (
+    let c3 = c .before .before .before in
+    let c6 = c3 .before .before .before in
+    let c9 = c6 .before .before .before in
+    let h = is-cluster (c9 .args .n) (c9 .args .f) (sym (c6 .before .is-cluster .ensures) ∙ not-false _
+    (c6 .if1 .left)) in (
       h .1,
-      length-set (c1
-          .fill .last .0) 0 (c5 .args .n) ∙ c1 .fill .kept .0 ∙ c2 .if2 .left,
+      started-length (c9 .args .n) (c9 .args .f) (c9 .args .b .now) (c3 .fill .last .0) ∙ c3 .fill .kept .0
+          ∙ c3 .before .before .if2 .left,
     )
-
-absent-requires : tie.Need-absent-requires
-absent-requires c κs = search needs
-
-given-requires : tie.Need-given-requires
-given-requires c κs = search needs
 
 same-length : tie.Need-same-length
 same-length c =
-    let c1 = c .before .before .before .before in let c2 = c1 .before .before .before .before in
-    let c3 = c2 .before .before .before .before .before .before in
-    c1 .blank-blocks .kept .0 ∙ length-set (c2 .fill .last .0) 0 (c3 .args .n) ∙ c2 .fill .kept .0
+    let c3 = c .before .before .before in
+    let c6 = c3 .before .before .before in
+    let c12 = c6 .before .before .before .before .before .before in
+    c3 .before .blank-blocks .kept .0 ∙ started-length (c12 .before .before .args .n) (c12 .before .before .args .f)
+    (c12 .before .before .args .b .now) (c6 .before .before .fill .last .0) ∙ c6 .before .before .fill .kept .0
 
 returns-3 : tie.Need-returns-3
 returns-3 c =
-    let c1 = c .before .before .before .before in let c2 = c1 .before .before .before .before in
-    let c3 = c2 .before .before in let c4 = c3 .before in let c5 = c4 .before in let c6 = c5 .before .before in
-    let a = c6 .args in
-    let s = sym (c5 .and .ensures) ∙ not-false _ (c4 .if1 .left) in
-    gives (c .given .result) (c1 .blank-blocks .last .0) (fresh-is (a .n) (a .b .now) s (c3 .if2 .left))
+    let c3 = c .before .before .before in
+    let c6 = c3 .before .before .before in
+    let c9 = c6 .before .before .before in
+    let c12 = c9 .before .before .before in
+    let a = c12 .before .before .args in
+    let s = sym (c12 .is-cluster .ensures) ∙ not-false _ (c9 .before .before .if1 .left) in
+    gives (c .given .result) (c3 .before .blank-blocks .last .0) (fresh-is (a .n) (a .f) (a .b .now) s
+    (c9 .before .if2 .left))
     (c .given .ensures .0) (c .given .ensures .1 ∙ c .before .absent .ensures)
-    (fresh-bytes (a .n) (a .b .now) (c2 .fill .ensures) (c1 .blank-blocks .ensures))
+    (fresh-bytes (a .n) (a .f) (a .b .now) (c6 .before .before .fill .ensures) (c3 .before .blank-blocks .ensures))
 
 pub fresh-spec : {M : Type 1} → statement M
 fresh-spec =
     tie.close
     (tie.spec
-    and-requires
-    refused-requires
+    (λ c κs. search needs)
+    (λ c κs. search needs)
     returns
     mul-if2
     add-if2
-    refused-requires-2
+    (λ c κs. search needs)
     returns-2
-    fill-requires
+    (λ c κs. search needs)
     cast-b
-    slice-write-b
+    (λ c. search needs)
+    cast-b-2
+    slice-write-b-2
     blank-blocks-requires
-    absent-requires
-    given-requires
+    (λ c κs. search needs)
+    (λ c κs. search needs)
     same-length
     returns-3)

@@ -117,7 +117,7 @@ returns-4 c =
     (open-settles (a .n) (a .c) (a .o) (a .x) (a .b .now) d at (sym (c19 .is-open-in .ensures) ∙ c18 .if1 .left)
     (sym (c16 .is-full-in .ensures) ∙ c15 .if2 .left)
     (cut-judged (a .n) (a .x) (a .b .now) (c13 .is-cut .ensures) (c12 .may-cut .ensures) (not-false _ (c11 .if3 .left)))
-    (h .states) (ap (λ (y : Node). y .n) at ∙ h .same) (omega (arith, h .low, h .high)) back)
+    (ap (λ (y : Node). y .n) at ∙ h .same) (h .half) back)
     (settle-told (a .n) (a .c) (a .c) (a .x) (stepOf (recordOf (c9 .begin-in .last .0)) (c9 .begin-in .result))
     (a .b .now) (a .b .now)
     (c .answered .result) (settled .ensures .0) (settled .ensures .1) (c .before .is-cut2 .ensures)

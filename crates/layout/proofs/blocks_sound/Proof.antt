@@ -15,10 +15,10 @@ use Rattle.layout.specs.Layout.{block, blockPlace, blocksPlace}
 use Rattle.layout.proofs.blocks_sound.Tie as tie
 
 abbrev Inv-loop : tie.InvT-loop
-Inv-loop b n ok₀ c₀ ok c = (c ≤ n) × (ok ≡ all c (λ (d : ℕ). blockSound n d (block b d)))
+Inv-loop b n f ok₀ c₀ ok c = (c ≤ n) × (ok ≡ all c (λ (d : ℕ). blockSound n f d (block b d)))
 
 abbrev μ-loop : tie.MeasureT-loop
-μ-loop b n ok₀ c₀ ok c = n - c
+μ-loop b n f ok₀ c₀ ok c = n - c
 
 loop-holds : tie.Need-loop-holds Inv-loop μ-loop
 loop-holds c = (search needs, sym (all-none _))
@@ -57,14 +57,15 @@ loop-again : tie.Need-loop-again Inv-loop μ-loop
 unfolding block
 loop-again c = let b = c .before .before .before .before .before .before .args .b .now in
     let n = c .before .before .before .before .before .before .args .n in
+    let f = c .before .before .before .before .before .before .args .f in
     let d = c .before .before .before .before .loop .c in
     let at : blocksPlace + blockSize * d ≡ blockPlace (d + 1) = omega arith in (
       search needs,
       c .and .ensures
-          ∙ ap₂ both (c .before .block-sound .ensures ∙ ap (λ (t : List ℕ). blockSound n (d + 1) t)
+          ∙ ap₂ both (c .before .block-sound .ensures ∙ ap (λ (t : List ℕ). blockSound n f (d + 1) t)
           (lent b (blocksPlace + blockSize * d) blockSize refl
           ∙ ap (λ (k : ℕ). part b k blockSize) at)) (c .before .before .before .before .loop .inv .1)
-          ∙ sym (all-more d (λ (k : ℕ). blockSound n k (block b k))),
+          ∙ sym (all-more d (λ (k : ℕ). blockSound n f k (block b k))),
     )
 
 returns : tie.Need-returns Inv-loop μ-loop

@@ -1,6 +1,6 @@
 -- `layout::is_sound` meets its contract.
 use borrow.Author.Needs.{needs}
-use mathlib.Core.Path.{sym, ap₂, _∙_}
+use mathlib.Core.Path.{sym, ap, ap₂, _∙_}
 use mathlib.Core.Bool.{Bool}
 use Prim.Native.Nat.{ℕ}
 use lib.Dec.{leb}
@@ -19,48 +19,51 @@ index-requires c κs = search needs
 and-requires : tie.Need-and-requires
 and-requires c κs = search needs
 
+faults-in-requires : tie.Need-faults-in-requires
+faults-in-requires c κs =
+    let c3 = c .before .before .before in
+    let a = c3 .before .before .args in
+    let long = fits-length (a .b .now) (c .before .before .index .result) (c3 .before .before .pre)
+    (c .before .before .index .ensures .0) (sym (c .before .and .ensures) ∙ c .if1 .taken) in
+    omega (arith, long)
+
 blocks-sound-requires : tie.Need-blocks-sound-requires
 blocks-sound-requires c κs =
-    let c5 = c .before .before .before .before .before in (
-      is-size (c .before .before .index .result) (sym (c .before .and .ensures) ∙ c .if1 .taken) .1,
-      fits-length (c5 .args .b .now) (c .before .before .index .result) (c5 .pre) (c .before .before .index .ensures .0)
-          (sym
-          (c .before .and .ensures) ∙ c .if1 .taken),
+    let c3 = c .before .before .before in
+    let c6 = c3 .before .before .before in
+    let sized = sym (c .before .before .and .ensures) ∙ c .before .if1 .taken in (
+      is-size (c3 .index .result) sized .1,
+      fits-length (c6 .args .b .now) (c3 .index .result) (c6 .pre) (c3 .index .ensures .0) sized,
     )
 
 stopped-nodes-requires : tie.Need-stopped-nodes-requires
 stopped-nodes-requires c κs =
     let c3 = c .before .before .before in
-    let c6 = c3 .before .before .before in (
-      is-size (c3 .index .result) (sym (c .before .before .and .ensures) ∙ c .before .if1 .taken) .1,
-      fits-length (c6 .args .b .now) (c3 .index .result) (c6 .pre) (c3 .index .ensures .0) (sym
-          (c .before .before .and .ensures) ∙ c .before .if1 .taken),
+    let c6 = c3 .before .before .before in
+    let sized = sym (c3 .before .and .ensures) ∙ c3 .if1 .taken in (
+      is-size (c3 .before .before .index .result) sized .1,
+      fits-length (c6 .before .before .args .b .now) (c3 .before .before .index .result) (c6 .before .before .pre)
+          (c3 .before .before .index .ensures .0) sized,
     )
-
-faults-in-requires : tie.Need-faults-in-requires
-faults-in-requires c κs =
-    let c7 = c .before .before .before .before .before .before .before in
-    fits-some (c7 .args .b .now) (c7 .pre)
-
-and-requires-2 : tie.Need-and-requires-2
-and-requires-2 c κs = search needs
 
 returns : tie.Need-returns
 returns c =
     let c3 = c .before .before .before in
     let c6 = c3 .before .before .before in
     let c9 = c6 .before .before .before in
-    c .and2 .ensures
-    ∙ ap₂ both (c3 .blocks-sound .ensures) (ap₂ leb (c .before .before .stopped-nodes .ensures)
-    (c .before .faults-in .ensures))
-    ∙ sym (sound-sized (c9 .args .b .now) (c6 .index .result) (c6 .index .ensures .0) (sym
-    (c3 .before .before .and .ensures) ∙ c3 .before .if1 .taken))
+    let n = c6 .before .before .index .result in
+    let f = c3 .before .before .faults-in .result in
+    c .and3 .ensures ∙ ap₂ both (c3 .tolerates .ensures) (c .before .and2 .ensures
+    ∙ ap₂ both (c3 .before .blocks-sound .ensures) (ap (λ (k : ℕ). leb k f)
+    (c .before .before .stopped-nodes .ensures)))
+    ∙ sym (sound-sized (c9 .before .before .args .b .now) n f (c6 .before .before .index .ensures .0)
+    (c3 .before .before .faults-in .ensures) (sym (c6 .before .and .ensures) ∙ c6 .if1 .taken))
 
 returns-2 : tie.Need-returns-2
 returns-2 c =
-    let c5 = c .before .before .before .before .before in
-    sym (sound-unsized (c5 .args .b .now) (c .before .before .index .result) (c .before .before .index .ensures .0) (sym
-    (c .before .and .ensures) ∙ c .if1 .left))
+    let c3 = c .before .before .before in
+    sym (sound-unsized (c3 .before .before .args .b .now) (c .before .before .index .result)
+    (c .before .before .index .ensures .0) (sym (c .before .and .ensures) ∙ c .if1 .left))
 
 pub is-sound-spec : {M : Type 1} → statement M
 is-sound-spec =
@@ -69,9 +72,11 @@ is-sound-spec =
     shared-slice-read-index
     index-requires
     and-requires
-    blocks-sound-requires
-    stopped-nodes-requires
     faults-in-requires
-    and-requires-2
+    blocks-sound-requires
+    (λ c κs. search needs)
+    stopped-nodes-requires
+    (λ c κs. search needs)
+    (λ c κs. search needs)
     returns
     returns-2)

@@ -9,27 +9,17 @@ use Rattle.node.proofs.fresh.Tie as tie
 returns : tie.Need-returns
 unfolding fresh
 returns c =
-    let c4 = c .before .before .before .before in
-    let sized = sym (c4 .before .is-size .ensures) ∙ c4 .if1 .taken in
-    let own = sym (c .before .before .before .and .ensures) ∙ c .before .before .if2 .taken in
-    rw (sized, own) (refl, c .absent .ensures, c .before .blank-node .ensures, refl, refl)
+    let sized = sym (c .before .before .before .sizes-within .ensures) ∙ c .before .before .if1 .taken in
+    rw sized (refl, c .absent .ensures, c .before .blank-node .ensures, refl, refl)
 
 returns-2 : tie.Need-returns-2
 unfolding fresh
 returns-2 c =
-    let c4 = c .before .before .before .before in
-    let sized = sym (c4 .before .is-size .ensures) ∙ c4 .if1 .taken in
-    let own = sym (c .before .before .before .and .ensures) ∙ c .before .before .if2 .left in
-    rw (sized, own, sym (c .before .blank-node2 .ensures)) (c .refused-reply .ensures [])
-
-returns-3 : tie.Need-returns-3
-unfolding fresh
-returns-3 c =
-    let sized = sym (c .before .before .before .is-size .ensures) ∙ c .before .before .if1 .left in
-    rw (sized, sym (c .before .blank-node3 .ensures)) (c .refused-reply2 .ensures [])
+    let sized = sym (c .before .before .before .sizes-within .ensures) ∙ c .before .before .if1 .left in
+    rw (sized, sym (c .before .blank-node2 .ensures)) (c .refused-reply .ensures [])
 
 pub fresh-spec : {M : Type 1} → statement M
 fresh-spec =
     tie.close
-    (tie.spec (λ c κs. search needs) (λ c κs. search needs) (λ c κs. search needs) (λ c κs. search needs) returns
-    (λ c κs. search needs) (λ c κs. search needs) returns-2 (λ c κs. search needs) (λ c κs. search needs) returns-3)
+    (tie.spec (λ c κs. search needs) (λ c κs. search needs) (λ c κs. search needs) returns (λ c κs. search needs)
+    (λ c κs. search needs) returns-2)

@@ -4,7 +4,6 @@ use mathlib.Core.Path.{sym, ap, _∙_, subst}
 use Prim.Native.Nat.{ℕ, _≤_}
 use native.Mathlib.Omega.{arith}
 use Rattle.view.specs.declared.View.{View}
-use Rattle.table.specs.Quorum.{faults}
 use Rattle.record.proofs.Parts.{parts}
 use Rattle.table.proofs.Laws.{length-mapped}
 use Rattle.step.specs.Claims.{Long}
@@ -17,7 +16,6 @@ use Rattle.calls.proofs.Rim.{read-writer, read-lawful}
 use Rattle.calls.proofs.Rooms.{message-fit}
 use Rattle.node.proofs.taken_message.Statement.{statement}
 use Rattle.node.proofs.taken_message.Tie as tie
-use Rattle.record.specs.Record.{faultsOf}
 use Rattle.view.specs.Size.{nodes}
 
 -- the lengths that the type says
@@ -38,49 +36,50 @@ is-stale-message-requires c κs =
 
 returns : tie.Need-returns
 returns c =
-    let c5 = c .before .before .before .before .before in
-    let a = c5 .args in
+    let c3 = c .before .before .before in
+    let a = c3 .before .before .args in
     let stale = sym (c .before .before .is-stale-message .ensures) ∙ c .before .if1 .taken in
     let e = taken-9 (a .c) (a .s) (a .v .now) (a .out .now) (a .m) stale in
     subst (tells (c .refused-reply .result) _) (sym e) (c .refused-reply .ensures _)
 
 view-beside-requires : tie.Need-view-beside-requires
-view-beside-requires c κs = let p = c .before .before .before .before .pre in (parts _ (p .0) .n-high, p .3)
+view-beside-requires c κs =
+    let c3 = c .before .before .before in
+    let p = c3 .before .pre in (parts _ (p .0) .n-high, p .3)
 
 message-step-requires : tie.Need-message-step-requires
 message-step-requires c κs =
-    let c6 = c .before .before .before .before .before .before in
-    let a = c6 .args in
-    let p = c6 .pre in
-    (p .0, p .1, p .2, rw (c .before .view-beside .ensures) (read-lawful (a .c .n) (a .v .now) (a .m) (p .3)))
+    let c3 = c .before .before .before in
+    let a = c3 .before .before .args in
+    let p = c3 .before .before .pre in
+    (p .0, p .1, p .2, rw (c .view-beside .ensures) (read-lawful (a .c .n) (a .v .now) (a .m) (p .3)))
 
 let-out-requires : tie.Need-let-out-requires
 let-out-requires c κs =
-    let c8 = c .before .before .before .before .before .before .before .before in
-    let a = c8 .args in
-    let p = c8 .pre in
-    let faults = c .before .before .most-faults in
-    let view = c .before .before .before .view-beside in
+    let c6 = c .before .before .before .before .before .before in
+    let a = c6 .before .args in
+    let p = c6 .before .pre in
+    let view = c .before .before .view-beside in
     let step = c .before .message-step in
-    message-fit (faults .result) (a .c) (a .s) (a .m) (view .result) (step .result) _ (step .ensures) (faults .ensures)
-    (p .0) (rw (view .ensures) (read-lawful (a .c .n) (a .v .now) (a .m) (p .3))) (long c8) (p .1) (p .2) (p .4)
+    message-fit (a .c) (a .s) (a .m) (view .result) (step .result) _ (step .ensures) (p .0) (rw (view .ensures)
+    (read-lawful (a .c .n) (a .v .now) (a .m) (p .3))) (long (c6 .before)) (p .1) (p .2) (p .4)
 
 returns-2 : tie.Need-returns-2
 returns-2 c =
-    let c5 = c .before .before .before .before .before in
-    let c11 = c5 .before .before .before .before .before .before in
-    let a = c11 .args in
-    let view = c5 .before .view-beside in
-    let new = sym (c5 .before .before .before .is-stale-message .ensures) ∙ c5 .before .before .if1 .left in
+    let c3 = c .before .before .before in
+    let c6 = c3 .before .before .before in
+    let c9 = c6 .before .before .before in
+    let a = c9 .before .args in
+    let view = c3 .before .before .view-beside in
+    let new = sym (c6 .before .is-stale-message .ensures) ∙ c6 .if1 .left in
     let e = taken-goes (a .c) (a .s) (a .v .now) (a .out .now) (a .m) new in
-    let s = c .before .before .before .before .message-step .ensures
-    ∙ ap (λ (f : ℕ). messageStep f (a .c) (a .s) (a .m) (view .result)) (c5 .most-faults .ensures)
-    ∙ ap (λ (v : View). messageStep (faultsOf (a .c)) (a .c) (a .s) (a .m) v) (view .ensures) in
+    let s = c3 .before .message-step .ensures
+    ∙ ap (λ (v : View). messageStep (a .c .f) (a .c) (a .s) (a .m) v) (view .ensures) in
     let out = c .before .before .let-out in
     subst (tells (out .result) _) (ap (λ (x : Step). letOut x (a .out .now)) s ∙ sym e) (out .ensures)
 
 pub taken-message-spec : {M : Type 1} → statement M
 taken-message-spec =
     tie.close
-    (tie.spec is-stale-message-requires (λ c κs. search needs) returns view-beside-requires (λ c κs. search needs)
+    (tie.spec is-stale-message-requires (λ c κs. search needs) returns view-beside-requires
     message-step-requires let-out-requires (λ c. search needs) returns-2)

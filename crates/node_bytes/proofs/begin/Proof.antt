@@ -3,7 +3,6 @@ use borrow.Author.Needs.{needs}
 use mathlib.Core.Path.{refl, sym, ap, _∙_}
 use lib.ListN.{length}
 use borrow.Author.Tests.{le-ltb}
-use Rattle.record.specs.Record.{faultsOf}
 use Rattle.record.proofs.Parts.{parts}
 use Rattle.step.specs.Move.{begun}
 use Rattle.step.specs.declared.Ending.the-variants.{None}
@@ -98,11 +97,11 @@ emit-handler-requires c κs =
     let a = c18 .args in
     let h = admitted N.leastOutput (a .r .now) (a .out .now) (sym (c14 .admission .ensures) ∙ c13 .if1 .left) in
     let d = recordOf (a .r .now) in
-    let f = faultsOf d in
+    let f = d .f in
     let s = begun d (a .o) in
-    let asks = begin-asks f d (a .o) (faults-below (d .n) (parts d (h .can-step) .n-low)) in
+    let asks = begin-asks f d (a .o) (faults-below d (h .can-step)) in
     rest-can-write (c5 .get-word .result) (d .own) (c3 .ask-in .result) s (length (a .out .now))
-    (begin-fit f d (a .o) s (length (a .out .now)) (sym asks) refl (h .can-step)
+    (begin-fit d (a .o) s (length (a .out .now)) (sym asks) (h .can-step)
     (sym (c11 .is-open-in .ensures) ∙ c10 .if2 .left) (sym (c8 .is-full-in .ensures) ∙ c7 .if3 .left) (h .room))
     (c3 .ask-in .ensures) (begun-n d (a .o) ∙ own-n (a .r .now) (c5 .get-word .ensures))
     (read-short d (a .o) (c3 .ask-in .ensures))
@@ -122,9 +121,9 @@ returns-4 c =
     let a = c21 .args in
     let h = admitted N.leastOutput (a .r .now) (a .out .now) (sym (c17 .admission .ensures) ∙ c16 .if1 .left) in
     let d = recordOf (a .r .now) in
-    let f = faultsOf d in
+    let f = d .f in
     let s = begun d (a .o) in
-    let asks = begin-asks f d (a .o) (faults-below (d .n) (parts d (h .can-step) .n-low)) in
+    let asks = begin-asks f d (a .o) (faults-below d (h .can-step)) in
     becomes (called None (c2 .emit-handler .result)) _ _
     (at-admitted (a .r .now) (a .out .now) (λ d. N.begin d (a .o) (a .out .now)) h
     ∙ ap (inBytes (a .r .now)) (begin-goes d (a .o) (a .out .now) (le-ltb _ _ (h .room)) (h .can-step)

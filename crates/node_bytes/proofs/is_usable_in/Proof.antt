@@ -11,12 +11,13 @@ returns c = sym (too-many (c .before .before .before .args .r .now) (c .before .
 returns-2 : tie.Need-returns-2
 returns-2 c =
     let c3 = c .before .before .before in
-    let c3 = c3 in
-    let c3 = c3 in
-    let c5 = c3 .before .before in
-    c .record-sound .ensures ∙ own-sound (c5 .args .r .now) (c3 .get-word .ensures) (c .before .get-word2 .ensures)
+    let c6 = c3 .before .before .before in
+    c .record-sound .ensures
+    ∙ own-sound (c6 .args .r .now) (c3 .before .get-word .ensures) (c .before .before .get-word2 .ensures)
+    (c .before .get-word3 .ensures)
 
 pub is-usable-in-spec : {M : Type 1} → statement M
 is-usable-in-spec =
     tie.close
-    (tie.spec (λ c κs. search needs) returns (λ c κs. search needs) (λ c κs. search needs) returns-2)
+    (tie.spec (λ c κs. search needs) returns (λ c κs. search needs) (λ c κs. search needs) (λ c κs. search needs)
+    returns-2)

@@ -16,7 +16,7 @@ same-length c = search needs
 returns : tie.Need-returns
 returns c =
     let e = c .before .before .put-bad .ensures in
-    rw (eq-eqb (c .before .before .before .before .before .before .before .args .n) 0
+    rw (eq-eqb (c .before .before .before .before .before .before .before .args .o .nodes) 0
     (c .before .before .before .before .if1 .taken)) (refl, refl, e .0, e .1)
 
 fresh-in-requires : tie.Need-fresh-in-requires
@@ -28,7 +28,7 @@ same-length-2 c = search needs
 returns-2 : tie.Need-returns-2
 returns-2 c =
     let x = c .before .before .before .before .before .before .before .args in
-    rw (ne-eqb (x .n) 0 (c .before .before .before .before .if1 .left))
+    rw (ne-eqb (x .o .nodes) 0 (c .before .before .before .before .if1 .left))
     (refl, c .before .before .fresh-in .ensures, sym (put-nil (x .out .now) (x .at)), sym (add-zero (x .at)))
 
 pub first-line-spec : {M : Type 1} → statement M

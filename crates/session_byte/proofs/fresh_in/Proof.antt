@@ -33,8 +33,8 @@ returns c =
     let x = c .before .before .before .before .before .before .args in
     let n = x .n in
     let z = zero-add (lent n) ∙ sym (c .before .before .before .before .lent-for .ensures .0) in
-    lent-back (x .m .now) 0 (lent n) (λ b. fresh n b .bytes) z (omega arith)
-    (c .before .before .fresh .kept .1 .0) (c .before .before .fresh .ensures .3)
+    lent-back (x .m .now) 0 (lent n) (λ b. fresh n (x .f) b .bytes) z (omega arith)
+    (c .before .before .fresh .kept .1 .1 .0) (c .before .before .fresh .ensures .3)
 
 pub fresh-in-spec : {M : Type 1} → statement M
 fresh-in-spec =

@@ -11,8 +11,8 @@ use Rattle.session_byte.proofs.pass.Tie as tie
 enum-told : tie.Need-enum-told
 enum-told c = search needs
 
-nodes-requires : tie.Need-nodes-requires
-nodes-requires c κs = search needs
+first-requires : tie.Need-first-requires
+first-requires c κs = search needs
 
 first-line-requires : tie.Need-first-line-requires
 first-line-requires c κs = search needs
@@ -43,7 +43,7 @@ unfolding lineEffect
 returns c = rw (
   c .before .before .before .before .before .before .before .before .enum-told .given .1,
   sym
-      (c .before .before .before .before .before .before .nodes .ensures),
+      (c .before .before .before .before .before .before .first .ensures),
 )
     (c .before .before .before .before .first-line .ensures)
 
@@ -72,7 +72,7 @@ pass-spec =
     tie.close
     (tie.spec
     enum-told
-    nodes-requires
+    first-requires
     first-line-requires
     enum-known-s
     event-requires

@@ -15,37 +15,39 @@ returns c =
     let c9 = c6 .before .before .before in
     let c12 = c9 .before .before .before in
     let c15 = c12 .before .before .before in
-    let c19 = c15 .before .before .before .before in
-    let a = c19 .args in
-    judged (a .n) (a .c) (a .r .now)
-    (sym (c15 .and .ensures ∙ ap₂ both (ap (λ (x : ℕ). eqb x (a .n)) (c15 .before .before .get-word .ensures)) (ap (λ
-    (x : ℕ). eqb x (a .c)) (c15 .before .get-word2 .ensures)))
-    ∙ c12 .before .before .if1 .taken)
+    let c18 = c15 .before .before .before in
+    let a = c18 .before .args in
+    judged (a .n) (a .f) (a .c) (a .r .now)
+    (sym (c12 .before .and2 .ensures ∙ ap₂ both (c15 .and .ensures
+    ∙ ap₂ both (ap (λ (x : ℕ). eqb x (a .n)) (c15 .before .before .get-word .ensures)) (ap (λ (x : ℕ). eqb x (a .f))
+    (c15 .before .get-word2 .ensures)))
+    (ap (λ (x : ℕ). eqb x (a .c)) (c12 .before .before .get-word3 .ensures)))
+    ∙ c12 .if1 .taken)
     (simp (
-      c .and7 .ensures,
-      c .before .and6 .ensures,
-      c .before .before .and5 .ensures,
+      c .and5 .ensures,
+      c .before .and4 .ensures,
+      c .before .before .and3 .ensures,
       c3 .codes-known .ensures,
       c3 .before .tables-sound .ensures,
       c3 .before .before .round-tag .ensures,
       c6 .numbers-within .ensures,
-      c6 .before .get-word5 .ensures,
-      c6 .before .before .and4 .ensures,
-      c9 .and3 .ensures,
-      c9 .before .and2 .ensures,
-      c9 .before .before .load-wait .ensures,
-      c12 .get-word4 .ensures,
-      c12 .before .get-word3 .ensures,
+      c6 .before .get-word6 .ensures,
+      c6 .before .before .sizes-within .ensures,
+      c9 .load-wait .ensures,
+      c9 .before .get-word5 .ensures,
+      c9 .before .before .get-word4 .ensures,
     ))
 
 returns-2 : tie.Need-returns-2
 returns-2 c =
     let c3 = c .before .before .before in
-    let a = c3 .before .before .args in
-    judged-other (a .n) (a .c) (a .r .now)
-    (sym (c .before .and .ensures ∙ ap₂ both (ap (λ (x : ℕ). eqb x (a .n)) (c3 .get-word .ensures))
-    (ap (λ (x : ℕ). eqb x
-    (a .c)) (c .before .before .get-word2 .ensures)))
+    let c6 = c3 .before .before .before in
+    let a = c6 .before .args in
+    judged-other (a .n) (a .f) (a .c) (a .r .now)
+    (sym (c .before .and2 .ensures ∙ ap₂ both (c3 .and .ensures
+    ∙ ap₂ both (ap (λ (x : ℕ). eqb x (a .n)) (c3 .before .before .get-word .ensures)) (ap (λ (x : ℕ). eqb x (a .f))
+    (c3 .before .get-word2 .ensures)))
+    (ap (λ (x : ℕ). eqb x (a .c)) (c .before .before .get-word3 .ensures)))
     ∙ c .if1 .left)
 
 pub record-sound-spec : {M : Type 1} → statement M

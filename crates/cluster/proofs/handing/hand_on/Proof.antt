@@ -89,7 +89,7 @@ faults-in-requires : tie.Need-faults-in-requires
 faults-in-requires c κs =
     let c10 = c .before .before .before .before .before .before .before .before .before .before in
     let c21 = c10 .before .before .before .before .before .before .before .before .before .before .before in
-    let h = c21 .pre .0 .long in omega arith
+    let h = c21 .pre .0 in omega (arith, h .long, h .low, h .high)
 
 plan-in-requires : tie.Need-plan-in-requires
 plan-in-requires c κs =
@@ -107,7 +107,7 @@ plan-in-requires c κs =
     let long = f .kept .1 .1 .1 .1 .1 .0 ∙ k .kept .1 .1 .0 ∙ c22 .pre .2 in
     can-plan r r′ (a .n) (a .a) (a .m) (viewOf (a .n) s) (sized-view (a .n) s (h .small)) (f .ensures .1)
     (ap (λ (y : Node). y .n) at ∙ h .same) (ap usable at ∙ h .can-step) (h .from-low) (h .from-high) (c22 .pre .1)
-    long (h .small) _ (omega (arith, h .low, h .high, h .states, c .faults-in .ensures))
+    long (h .small) _ (omega (arith, h .half, c .faults-in .ensures))
 
 follow-in-requires : tie.Need-follow-in-requires
 follow-in-requires c κs =

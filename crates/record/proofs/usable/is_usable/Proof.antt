@@ -7,14 +7,15 @@ use Rattle.record.proofs.usable.is_usable.Statement.{statement}
 use Rattle.record.proofs.usable.is_usable.Tie as tie
 
 numbers-ok-requires : tie.Need-numbers-ok-requires
-numbers-ok-requires c κs = sizes-most (c .before .before .args .c) (sym (c .before .sizes-ok .ensures) ∙ c .if1 .taken)
+numbers-ok-requires c κs =
+    sizes-most (c .before .before .args .c) (sym (c .before .sizes-within .ensures) ∙ c .if1 .taken)
 
 returns : tie.Need-returns
 unfolding usable
 returns c =
     let c3 = c .before .before .before in
     simp (
-      sym (c3 .before .sizes-ok .ensures)
+      sym (c3 .before .sizes-within .ensures)
           ∙ c3 .if1 .taken,
       c .and .ensures,
       c .before .before .numbers-ok .ensures,
@@ -23,7 +24,7 @@ returns c =
 
 returns-2 : tie.Need-returns-2
 unfolding usable
-returns-2 c = simp (sym (c .before .sizes-ok .ensures) ∙ c .if1 .left)
+returns-2 c = simp (sym (c .before .sizes-within .ensures) ∙ c .if1 .left)
 
 pub is-usable-spec : {M : Type 1} → statement M
 is-usable-spec =

@@ -1,31 +1,29 @@
 -- `region::stored::save` meets its contract.
 use borrow.Author.Needs.{needs}
 use native.Mathlib.Omega.{arith}
-use Prim.Native.Nat.{_+_}
-use mathlib.Core.List.{_++_}
-use mathlib.Core.Path.{_≡_}
-use lib.ListN.{length}
+use mathlib.Core.List.{_++_, append-assoc}
+use mathlib.Core.Path.{sym, ap, _∙_}
+use Rattle.octets.specs.Bytes.{put}
 use Rattle.octets.specs.Word.{wordBytes}
 use Rattle.octets.proofs.Put.{put-then}
-use Rattle.table.specs.Table.{cells}
-use Rattle.region.specs.Record.{viewPlace, viewsBytes, recordBytes, nPlace, heardPlace, lastIn, headIn, headBytes}
-use Rattle.region.proofs.Saved.{head-end, heard-end}
+use Rattle.region.specs.Record.{viewsBytes, recordBytes, nPlace, heardPlace, headIn, headBytes}
+use Rattle.region.specs.declared.head.Head.{Head}
+use Rattle.region.proofs.Saved.{head-end}
 use Rattle.region.proofs.stored.save.Statement.{statement}
 use Rattle.region.proofs.stored.save.Tie as tie
 
 returns : tie.Need-returns
 unfolding recordBytes
 returns c =
-    let c10 = c .before .before .before .before .before .before .before .before .before .before in
-    let b = c10 .before .before .before .before .before .args .b .now in
-    let x = c10 .before .before .before .before .before .args .c in
-    let long : length (x .heard) ≡ cells = search needs in
-    put-then b nPlace (headBytes (headIn x) ++ wordBytes (x .heard)) (viewsBytes x) (viewPlace lastIn) (omega arith)
-    (heard-end x long)
-    (put-then b nPlace (headBytes (headIn x)) (wordBytes (x .heard)) heardPlace (omega arith) (head-end (headIn x))
-    (c10 .before .before .save-head .ensures)
-    (c .before .before .before .before .before .before .put-table256 .ensures))
-    (c .before .before .save-views .ensures)
+    let c6 = c .before .before .before .before .before .before in
+    let c9 = c6 .before .before .before in
+    let a = c9 .before .args in
+    let F = headBytes (headIn (a .c)) in
+    let H = wordBytes (a .c .heard) in
+    put-then (a .b .now) nPlace F (H ++ viewsBytes (a .c)) heardPlace (omega arith) (head-end (headIn (a .c)))
+    (c6 .save-head .ensures ∙ ap (λ (h : Head). put (a .b .now) nPlace (headBytes h)) (c6 .before .head-in .ensures))
+    (c .before .before .save-tables .ensures)
+    ∙ ap (put (a .b .now) nPlace) (sym (append-assoc F H (viewsBytes (a .c))))
 
 pub save-spec : {M : Type 1} → statement M
 save-spec =
