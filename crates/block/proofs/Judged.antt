@@ -96,12 +96,11 @@ tablesWithin maxtag round kept r =
     (both (both (viewWithin maxtag (viewIn r atmaxIn)) (viewWithin round (viewIn r atroundIn)))
     (viewWithin kept (viewIn r keptIn)))
 
-abbrev judgedAs : (n f own : ℕ) → List ℕ → Bool
-judgedAs n f own r =
-    both (codesKnown r)
-    (both (sizesWithin n f own)
-    (both (numbersWithin n (word r maxtagPlace) (word r requestPlace) (word r keptPlace) (waitIn r))
-    (tablesWithin (word r maxtagPlace) (roundTag (waitIn r)) (word r keptPlace) r)))
+-- the numbers and the tables, of n nodes
+abbrev judgedAs : ℕ → List ℕ → Bool
+judgedAs n r =
+    both (numbersWithin n (word r maxtagPlace) (word r requestPlace) (word r keptPlace) (waitIn r))
+    (tablesWithin (word r maxtagPlace) (roundTag (waitIn r)) (word r keptPlace) r)
 
 module _ (n f c : ℕ) (r : List ℕ) where
   abbrev cluster : Bool
@@ -120,16 +119,21 @@ module _ (n f c : ℕ) (r : List ℕ) where
       never true = refl
       never false = refl
 
-  -- where it states these
-  pub judged : {t : Bool} → stated ≡ true → t ≡ judgedAs n f c r → t ≡ recordSound n f c r
+  abbrev whole : (x y z : ℕ) → Bool
+  whole x y z = both (codesKnown r) (both (sizesWithin x y z) (judgedAs x r))
+
+  -- where it states these, and they may be
+  pub judged : {t : Bool} → sizesWithin n f c ≡ true → stated ≡ true → t ≡ both (codesKnown r) (judgedAs n r)
+      → t ≡ recordSound n f c r
   unfolding usable numbersOk tablesOk recordOf
-  judged h e =
+  judged s h e =
       let same = both-left cluster (eqb (word r ownPlace) c) h in
       let n-is = eqb-true (word r nPlace) n (both-left (eqb (word r nPlace) n) (eqb (word r fPlace) f) same) in
       let f-is = eqb-true (word r fPlace) f (both-right (eqb (word r nPlace) n) (eqb (word r fPlace) f) same) in
       let own-is = eqb-true (word r ownPlace) c (both-right cluster (eqb (word r ownPlace) c) h) in
-      e ∙ ap₂ (λ (x y : ℕ). judgedAs x y c r) (sym n-is) (sym f-is)
-      ∙ ap (λ (z : ℕ). judgedAs (word r nPlace) (word r fPlace) z r) (sym own-is)
+      e ∙ sym (ap (λ (t : Bool). both (codesKnown r) (both t (judgedAs n r))) s)
+      ∙ ap₂ (λ (x y : ℕ). whole x y c) (sym n-is) (sym f-is)
+      ∙ ap (λ (z : ℕ). whole (word r nPlace) (word r fPlace) z) (sym own-is)
       ∙ sym (ap (both (both (codesKnown r) (usable (recordOf r)))) h ∙ only (both (codesKnown r) (usable (recordOf r))))
     where
       only : (t : Bool) → both t true ≡ t

@@ -4,7 +4,6 @@ use octets::and;
 use octets::get_word;
 use record::usable::numbers_within;
 use record::usable::round_tag;
-use record::usable::sizes_within;
 use region::head::codes_known;
 use region::head::load_wait;
 use region::places::ATMAX_IN;
@@ -25,13 +24,15 @@ use view::NODES;
 use view::VIEW;
 use view::view_ok;
 ghost use mathlib.Core.Path.{_≡_};
+ghost use mathlib.Core.Bool.{true};
 ghost use Prim.Native.Nat.{_+_, _<_, _≤_};
 ghost use lib.ListN.{length};
 ghost use Rattle.octets.specs.Loop.{allTo};
 ghost use Rattle.octets.specs.Test.{both};
 ghost use Rattle.octets.specs.Word.{words};
-ghost use Rattle.view.specs.Size.{limit, nodes};
+ghost use Rattle.view.specs.Size.{limit};
 ghost use Rattle.table.specs.Table.{viewWithin, heardWithin, cells};
+ghost use Rattle.record.specs.Usable.{sizesWithin};
 ghost use Rattle.region.specs.Record.{recordSize, heardPlace, viewIn, lastIn, atmaxIn, atroundIn, keptIn, views};
 ghost use Rattle.block.specs.Block.{recordSound};
 ghost use Rattle.block.specs.Judge.{group, cellWithin};
@@ -104,9 +105,10 @@ fn tables_sound(r: &[u8], maxtag: u64, round: u64, kept: u64) -> bool
     )
 }
 
-// Whether these bytes are a usable record of node c of n, f of which may stop.
+// Whether these bytes are a usable record of node c of n, f of which may stop, where there may be such a node: n, f and c
+// are judged by the caller, once for all records of a cluster.
 pub fn record_sound(r: &[u8], n: usize, f: usize, c: usize) -> bool
-    requires { ⌜ (length (now r) ≡ recordSize) × (n ≤ nodes) ⌝ }
+    requires { ⌜ (length (now r) ≡ recordSize) × (sizesWithin n f c ≡ true) ⌝ }
     ensures { λ t. ⌜ t ≡ recordSound n f c (now (r .entry)) ⌝ }
 {
     if and(
@@ -119,10 +121,9 @@ pub fn record_sound(r: &[u8], n: usize, f: usize, c: usize) -> bool
         let maxtag = get_word(r, MAXTAG_PLACE);
         let kept = get_word(r, KEPT_PLACE);
         let wait = load_wait(r);
-        let sizes = sizes_within(n, f, c);
         let numbers = numbers_within(n, maxtag, get_word(r, REQUEST_PLACE), kept, wait);
         let tables = tables_sound(r, maxtag, round_tag(wait), kept);
-        return and(codes_known(r), and(sizes, and(numbers, tables)));
+        return and(codes_known(r), and(numbers, tables));
     }
     false
 }

@@ -9,9 +9,11 @@ use region::places::CHANNEL;
 use region::places::RECORD;
 use view::NODES;
 ghost use mathlib.Core.Path.{_≡_};
+ghost use mathlib.Core.Bool.{true};
 ghost use Prim.Native.Nat.{_≤_};
 ghost use lib.ListN.{length};
 ghost use Rattle.view.specs.Size.{nodes};
+ghost use Rattle.record.specs.Usable.{sizesWithin};
 ghost use Rattle.region.specs.Channel.{slotSize, first};
 ghost use Rattle.region.specs.Record.{recordSize, recordOf, recordBytes};
 ghost use Rattle.block.specs.Block.{blockSize, hasStopped, recordIn, channelIn, waitingIn, keepRecord, takeOff};
@@ -130,9 +132,9 @@ fn channels_sound(k: &[u8], n: usize) -> bool
     ok
 }
 
-// Whether refusal 2 has nothing against the block of node c of n, f of which may stop.
+// Whether refusal 2 has nothing against the block of node c of n, f of which may stop, where there may be such a node.
 pub fn block_sound(k: &[u8], n: usize, f: usize, c: usize) -> bool
-    requires { ⌜ (length (now k) ≡ blockSize) × (n ≤ nodes) ⌝ }
+    requires { ⌜ (length (now k) ≡ blockSize) × (sizesWithin n f c ≡ true) ⌝ }
     ensures { λ r. ⌜ r ≡ blockSound n f c (now (k .entry)) ⌝ }
 {
     and(

@@ -78,9 +78,14 @@ unfolding fits
 fits-unsized b n h e s = rw (ne-eqb (length b) 0 h, sym e, s) refl
 
 pub sound-sized : (b : List ℕ) (n f : ℕ) → n ≡ stated b → f ≡ faultsIn b → isSize n ≡ true
-    → sound b ≡ both (tolerates n f) (both (all n (λ c. blockSound n f c (block b c))) (leb (count n (stopped b)) f))
+    → tolerates n f ≡ true → sound b ≡ both (all n (λ c. blockSound n f c (block b c))) (leb (count n (stopped b)) f)
 unfolding sound
-sound-sized b n f e g s = rw (sym e, sym g, s) refl
+sound-sized b n f e g s t = rw (sym e, sym g, s, t) refl
+
+pub sound-intolerant : (b : List ℕ) (n f : ℕ) → n ≡ stated b → f ≡ faultsIn b → isSize n ≡ true → tolerates n f ≡ false
+    → sound b ≡ false
+unfolding sound
+sound-intolerant b n f e g s t = rw (sym e, sym g, s, t) refl
 
 pub sound-unsized : (b : List ℕ) (n : ℕ) → n ≡ stated b → isSize n ≡ false → sound b ≡ false
 unfolding sound

@@ -11,6 +11,7 @@ ghost use Prim.Native.Nat.{_≤_};
 ghost use lib.ListN.{length};
 ghost use Rattle.view.specs.Size.{nodes};
 ghost use Rattle.table.specs.Loop.{all, count};
+ghost use Rattle.table.specs.Quorum.{isCluster};
 ghost use Rattle.region.specs.Channel.{slotSize, countOf, first};
 ghost use Rattle.region.specs.Record.{recordSize, recordOf, recordBytes};
 ghost use Rattle.block.specs.Block.{recordIn, keepRecord, takeOff, receive, halt, blockSound};
@@ -159,7 +160,7 @@ pub fn stopped_nodes(b: &[u8], n: usize) -> usize
 
 // Whether every block is sound.
 fn blocks_sound(b: &[u8], n: usize, f: usize) -> bool
-    requires { ⌜ (n ≤ nodes) × (length (now b) ≡ clusterSize n) ⌝ }
+    requires { ⌜ (isCluster n f ≡ true) × (length (now b) ≡ clusterSize n) ⌝ }
     ensures { λ r. ⌜ r ≡ all n (λ c. blockSound n f c (block (now (b .entry)) c)) ⌝ }
 {
     let mut ok = true;
@@ -195,8 +196,10 @@ pub fn is_sound(b: &[u8]) -> bool
     let n = index(b[STATED_PLACE]);
     if and(1 <= n, n <= NODES) {
         let f = faults_in(b);
-        let blocks = blocks_sound(b, n, f);
-        return and(tolerates(n, f), and(blocks, stopped_nodes(b, n) <= f));
+        if tolerates(n, f) {
+            let blocks = blocks_sound(b, n, f);
+            return and(blocks, stopped_nodes(b, n) <= f);
+        }
     }
     false
 }

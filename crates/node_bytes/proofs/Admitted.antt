@@ -1,5 +1,5 @@
 -- What is known of the bytes where a call on them is admitted, and what it answers where it is not. Assumes nothing.
-use Prim.Native.Nat.{ℕ, _≤_, _<_}
+use Prim.Native.Nat.{ℕ, _≤_}
 use mathlib.Core.Path.{_≡_, refl, sym, ap, _∙_, subst}
 use mathlib.Core.Bool.{Bool, true, false}
 use mathlib.Core.List.{List}
@@ -9,9 +9,9 @@ use lib.ListN.{length}
 use borrow.Author.Tests.{eqb-true, eq-eqb, leb-true, le-leb}
 use Rattle.octets.specs.Test.{pick, both}
 use Rattle.octets.specs.Word.{word}
-use Rattle.octets.proofs.Test.{both-left, both-right, both-true, not-true-false}
+use Rattle.octets.proofs.Test.{both-left, both-right, both-true, true-false, not-true-false}
 use Rattle.view.specs.Size.{nodes}
-use Rattle.record.specs.Usable.{usable}
+use Rattle.record.specs.Usable.{sizesWithin, sizesOk, numbersOk, tablesOk, usable}
 use Rattle.record.specs.declared.Node.{Node}
 use Rattle.record.proofs.Parts.{parts}
 use Rattle.calls.specs.CallResult.{CallResult}
@@ -24,11 +24,14 @@ use Rattle.node_bytes.specs.Admission.{admission}
 
 -- ---- a record is judged with its own n, f and number
 
-pub too-many : (r : List ℕ) {n : ℕ} → n ≡ word r nPlace → nodes < n → usableIn r ≡ false
-unfolding recordOf
-too-many r e h = not-true-false (usableIn r) (λ u.
-    let p : word r nPlace ≤ nodes = parts (recordOf r) (both-right (codesKnown r) (usable (recordOf r)) u) .n-high in
-    omega (arith, e, h, p))
+-- they are not those of a node that may be
+pub not-within : (r : List ℕ) {n f own : ℕ} → n ≡ word r nPlace → f ≡ word r fPlace → own ≡ word r ownPlace
+    → sizesWithin n f own ≡ false → false ≡ usableIn r
+unfolding recordOf usable
+not-within r {n} {f} {own} e g h s = sym (not-true-false (usableIn r) (λ u.
+    let c = recordOf r in
+    let within = both-left (sizesOk c) (both (numbersOk c) (tablesOk c)) (both-right (codesKnown r) (usable c) u) in
+    true-false (sizesWithin n f own) (rw (e, g, h) within) s))
 
 with-true : (b : Bool) {x y z : Bool} → x ≡ true → y ≡ true → z ≡ true → both b (both (both x y) z) ≡ b
 with-true true p q h = rw (p, q, h) refl

@@ -28,7 +28,6 @@ use step_bytes::is_full_in;
 use step_bytes::is_open_in;
 use step_bytes::is_rest;
 use step_bytes::plan_in;
-use view::NODES;
 use view::VIEW;
 use wire::Message;
 use wire::Parsed;
@@ -106,15 +105,12 @@ fn is_usable_in(r: &[u8]) -> bool
     ensures { λ t. ⌜ t ≡ usableIn (now (r .entry)) ⌝ }
 {
     let n = get_word(r, N_PLACE) as usize;
-    if NODES < n {
-        return false;
+    let f = get_word(r, F_PLACE) as usize;
+    let own = get_word(r, OWN_PLACE) as usize;
+    if sizes_within(n, f, own) {
+        return record_sound(r, n, f, own);
     }
-    record_sound(
-        r,
-        n,
-        get_word(r, F_PLACE) as usize,
-        get_word(r, OWN_PLACE) as usize,
-    )
+    false
 }
 
 // The first of 12 and 2 that refuses a call on these bytes with so much room for output, of which it asks for at least

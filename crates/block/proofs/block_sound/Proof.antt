@@ -5,6 +5,7 @@ use mathlib.Core.Path.{refl, ap, ap₂, _∙_}
 use mathlib.Core.List.{List}
 use Rattle.octets.specs.Test.{both}
 use Rattle.octets.proofs.Lent.{lent}
+use Rattle.record.proofs.Parts.{sizes-most}
 use Rattle.region.specs.Record.{recordSize}
 use Rattle.block.specs.Block.{recordIn, recordSound, blockSound, recordPlace}
 use Rattle.block.proofs.block_sound.Statement.{statement}
@@ -20,10 +21,12 @@ part-record-sound-end : tie.Need-part-record-sound-end
 part-record-sound-end c = search needs
 
 record-sound-requires : tie.Need-record-sound-requires
-record-sound-requires c κs = search needs
+record-sound-requires c κs = (search needs, c .before .before .pre .1)
 
 channels-sound-requires : tie.Need-channels-sound-requires
-channels-sound-requires c κs = search needs
+channels-sound-requires c κs =
+    let a = c .before .before .before .args in
+    (c .before .before .before .pre .0, sizes-most (a .n) (a .f) (a .c) (c .before .before .before .pre .1))
 
 and-requires : tie.Need-and-requires
 and-requires c κs = search needs
@@ -31,7 +34,8 @@ and-requires c κs = search needs
 returns : tie.Need-returns
 unfolding blockSound recordIn
 returns c =
-    let c5 = c .before .before .before .before .before in
+    let c3 = c .before .before .before in
+    let c5 = c3 .before .before in
     c .and .ensures
     ∙ ap₂ both (c .before .before .record-sound .ensures ∙ ap
     (λ (t : List ℕ). recordSound (c5 .args .n) (c5 .args .f) (c5 .args .c) t)

@@ -5,7 +5,9 @@ use mathlib.Core.Path.{_≡_, refl, sym, ap, ap₂, _∙_}
 use mathlib.Core.List.{List}
 use Prim.Native.Nat.{ℕ, _+_, _-_, _*_, _≤_}
 use native.Mathlib.Omega.{arith}
+use borrow.Author.Tests.{le-leb}
 use Rattle.octets.specs.Test.{both}
+use Rattle.octets.proofs.Test.{both-true}
 use Rattle.octets.proofs.Lent.{lent}
 use Rattle.table.specs.Loop.{all}
 use Rattle.table.proofs.Laws.{all-none, all-more}
@@ -45,7 +47,14 @@ part-block-sound-end : tie.Need-part-block-sound-end Inv-loop μ-loop
 part-block-sound-end c = search needs
 
 block-sound-requires : tie.Need-block-sound-requires Inv-loop μ-loop
-block-sound-requires c κs = search needs
+block-sound-requires c κs =
+    let a = c .before .before .before .before .args in
+    let d = c .before .before .loop .c in
+    let least : d + 1 ≤ a .n = search needs in (
+      search needs,
+      both-true (c .before .before .before .before .pre .0)
+          (both-true (le-leb 1 (d + 1) (omega arith)) (le-leb (d + 1) (a .n) least)),
+    )
 
 and-requires : tie.Need-and-requires Inv-loop μ-loop
 and-requires c κs = search needs

@@ -1,6 +1,6 @@
 -- `node_bytes::begin` meets its contract.
 use borrow.Author.Needs.{needs}
-use mathlib.Core.Path.{refl, sym, ap, _∙_}
+use mathlib.Core.Path.{sym, ap, _∙_}
 use lib.ListN.{length}
 use borrow.Author.Tests.{le-ltb}
 use Rattle.record.proofs.Parts.{parts}

@@ -1,11 +1,9 @@
 -- `node_bytes::take_message` meets its contract.
 use borrow.Author.Needs.{needs}
 use mathlib.Core.Path.{refl, sym, ap, _∙_, subst}
-use Prim.Native.Nat.{ℕ, _≤_, _<_}
 use native.Mathlib.Omega.{arith}
 use lib.ListN.{length}
 use Rattle.view.specs.View.{viewOf}
-use Rattle.record.proofs.Parts.{parts}
 use Rattle.step.specs.declared.Step.{Step}
 use Rattle.step.specs.declared.Ending.the-variants.{None}
 use Rattle.step.proofs.Allowed.{allowed-lawful}

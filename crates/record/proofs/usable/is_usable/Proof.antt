@@ -8,7 +8,8 @@ use Rattle.record.proofs.usable.is_usable.Tie as tie
 
 numbers-ok-requires : tie.Need-numbers-ok-requires
 numbers-ok-requires c κs =
-    sizes-most (c .before .before .args .c) (sym (c .before .sizes-within .ensures) ∙ c .if1 .taken)
+    let d = c .before .before .args .c in
+    sizes-most (d .n) (d .f) (d .own) (sym (c .before .sizes-within .ensures) ∙ c .if1 .taken)
 
 returns : tie.Need-returns
 unfolding usable
