@@ -52,9 +52,9 @@ pub const TO_ALL: u8 = 0;
 /// The route of a message that goes to the sender of the message, or of the frame, that was handled.
 pub const TO_SENDER: u8 = 1;
 
-/// The most of n nodes that may stop: the largest f with 2f < n, and 0 where n is 0. It is document 01's f; a node or a
-/// cluster may be made with any from 0 to this. With a smaller one fewer nodes may stop, and an operation waits for a
-/// larger quorum, which is n − f nodes.
+/// The most of n nodes that may stop: the largest f with 2f < n, and 0 where n is 0. It is document 01's f; of n from 1
+/// to 16 a node or a cluster may be made with any from 0 to this. With a smaller one fewer nodes may stop, and an
+/// operation waits for a larger quorum, which is n − f nodes.
 ///
 /// ```
 /// use snapshot::most_faults;

@@ -105,8 +105,8 @@ fn tables_sound(r: &[u8], maxtag: u64, round: u64, kept: u64) -> bool
     )
 }
 
-// Whether these bytes are a usable record of node c of n, f of which may stop, where there may be such a node: n, f and c
-// are judged by the caller, once for all records of a cluster.
+// Whether these bytes are a usable record of node c of n, f of which may stop. That there may be such a node is judged
+// by the caller, in a cluster once for all records.
 pub fn record_sound(r: &[u8], n: usize, f: usize, c: usize) -> bool
     requires { ⌜ (length (now r) ≡ recordSize) × (sizesWithin n f c ≡ true) ⌝ }
     ensures { λ t. ⌜ t ≡ recordSound n f c (now (r .entry)) ⌝ }

@@ -34,7 +34,7 @@ use step::Ending;
 use step_bytes::begin_in;
 use step_bytes::is_full_in;
 use step_bytes::is_open_in;
-use table::quorum::is_cluster;
+use table::quorum::can_be;
 use wire::Found;
 use wire_parse::parse_prefix;
 ghost use mathlib.Core.Path.{_≡_};
@@ -68,7 +68,7 @@ fn blank_blocks(b: &mut [u8], n: usize, f: usize)
 pub fn fresh(n: usize, f: usize, b: &mut [u8]) -> Reply
     ensures { λ r. ⌜ tells r (now (b .exit)) (freshEvent n f (now (b .entry))) ⌝ }
 {
-    if !is_cluster(n, f) {
+    if !can_be(n, f) {
         return refused(1);
     }
     if b.len() != BLOCKS_PLACE + BLOCK * n {

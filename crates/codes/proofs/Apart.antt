@@ -17,7 +17,7 @@ use Rattle.wire.specs.Codec.{said, viewAt, begins, front, whole, decode, answer
 use Rattle.wire.specs.declared.Message.{Message}
 use Rattle.figures.specs.Figures.{figuresOf}
 use Rattle.page.specs.Page.{mapResult, contents, contentsOf, pageText, pageOf, inRoom, pageIn}
-use Rattle.table.specs.Quorum.{isCluster}
+use Rattle.table.specs.Quorum.{canBe}
 use Rattle.record.specs.Usable.{isOpen, full}
 use Rattle.record.specs.declared.Operation.{Operation}
 use Rattle.step.specs.declared.Rule.{Rule}
@@ -148,7 +148,7 @@ of-deliver a c x b =
 of-fresh : (n f : ℕ) (b : List ℕ) → Proper (fresh n f b)
 unfolding fresh
 of-fresh n f b =
-    demanded b (isCluster n f) 1 refl
+    demanded b (canBe n f) 1 refl
     (demanded b (eqb (length b) (clusterSize n)) 12 refl (record { numbered = accepted }))
 
 of-stop : (c : ℕ) (b : List ℕ) → Proper (stop c b)

@@ -8,7 +8,7 @@ use borrow.Author.Tests.{eq-eqb, ne-eqb}
 use Rattle.octets.specs.Answer.{result}
 use Rattle.octets.specs.Loop.{upTo}
 use Rattle.view.specs.View.{noView}
-use Rattle.table.specs.Quorum.{isCluster}
+use Rattle.table.specs.Quorum.{canBe}
 use Rattle.record.specs.Record.{blank}
 use Rattle.step.specs.Told.{told}
 use Rattle.step.specs.declared.Ending.the-variants.{None}
@@ -38,11 +38,11 @@ pub refuses : (k : ℕ) {r : Reply} {b : List ℕ} {e : Result} → e ≡ refuse
 refuses k p q = leaves k p refl q
 
 module _ (n f : ℕ) (b : List ℕ) where
-  pub fresh-none : isCluster n f ≡ false → fresh n f b ≡ refuse 1 b
+  pub fresh-none : canBe n f ≡ false → fresh n f b ≡ refuse 1 b
   unfolding fresh
   fresh-none h = rw h refl
 
-  module _ (h : isCluster n f ≡ true) where
+  module _ (h : canBe n f ≡ true) where
     pub fresh-unfit : (length b ≡ clusterSize n → ⊥) → fresh n f b ≡ refuse 12 b
     unfolding fresh
     fresh-unfit l = rw (h, ne-eqb (length b) (clusterSize n) l) refl

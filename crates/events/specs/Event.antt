@@ -12,7 +12,7 @@ use Rattle.view.specs.View.{noView, viewOf}
 use Rattle.view.specs.declared.View.{View}
 use Rattle.wire.specs.Codec.{front, viewAt}
 use Rattle.wire.specs.declared.Message.{Message}
-use Rattle.table.specs.Quorum.{isCluster}
+use Rattle.table.specs.Quorum.{canBe}
 use Rattle.record.specs.Record.{blank}
 use Rattle.record.specs.Usable.{isOpen, full}
 use Rattle.record.specs.declared.Operation.{Operation}
@@ -115,6 +115,6 @@ freshBytes n f length =
 
 unfoldable pub fresh : (n f : ℕ) → List ℕ → Result
 fresh n f b =
-    demand (isCluster n f) 1 b
+    demand (canBe n f) 1 b
     (demand (eqb (length b) (clusterSize n)) 12 b
     (record { bytes = freshBytes n f (length b); answer = result None; view = noView; sent = [] }))

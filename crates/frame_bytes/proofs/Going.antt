@@ -17,7 +17,7 @@ use Rattle.wire.specs.Layout.{encode, allowed}
 use Rattle.wire.specs.declared.Message.the-variants.{Read}
 use Rattle.wire.proofs.RoundTrip.{read-back}
 use Rattle.table.specs.Loop.{either}
-use Rattle.table.specs.Quorum.{tolerates, isCluster}
+use Rattle.table.specs.Quorum.{tolerates, canBe}
 use Rattle.record.specs.Usable.{sizesWithin}
 use Rattle.record.specs.declared.Node.{Node}
 use Rattle.step.specs.React.{react}
@@ -81,7 +81,7 @@ module _ (n f own s : ℕ) (r out : List ℕ) (sizes : sizesWithin n f own ≡ t
   made = fresh n f own r .bytes
 
   size : isSize n ≡ true
-  size = both-left (isSize n) (tolerates n f) (both-left (isCluster n f) (both (leb 1 own) (leb own n)) sizes)
+  size = both-left (isSize n) (tolerates n f) (both-left (canBe n f) (both (leb 1 own) (leb own n)) sizes)
 
   reads : AllRead n (read ∷ read ∷ [])
   unfolding allowed

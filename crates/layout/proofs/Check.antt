@@ -11,7 +11,7 @@ use borrow.Author.Tests.{eqb-true, eq-eqb, ne-eqb, leb-true}
 use Rattle.octets.specs.Test.{pick, both}
 use Rattle.octets.proofs.Test.{both-left, both-right}
 use Rattle.table.specs.Loop.{all, count}
-use Rattle.table.specs.Quorum.{tolerates, isCluster}
+use Rattle.table.specs.Quorum.{tolerates, canBe}
 use Rattle.table.proofs.Sets.{tolerates-half}
 use Rattle.table.proofs.Laws.{all-at}
 use Rattle.view.specs.Size.{isSize, nodes}
@@ -20,6 +20,7 @@ use Rattle.region.specs.Channel.{countOf, capacity}
 use Rattle.region.specs.Record.{recordOf, codesKnown}
 use Rattle.block.specs.Block.{recordIn, recordSound, channelsSound, blockSound}
 use Rattle.layout.specs.Layout.{clusterSize, stated, faultsIn, block, stopped, node, channel, fits, sound, isNode}
+use Rattle.layout.specs.Layout.{OneF}
 
 pub is-size : (n : ℕ) → isSize n ≡ true → (1 ≤ n) × (n ≤ nodes)
 is-size n h = (
@@ -28,8 +29,8 @@ is-size n h = (
       (both-right (leb 1 n) (leb n nodes) h),
 )
 
-pub is-cluster : (n f : ℕ) → isCluster n f ≡ true → (1 ≤ n) × (n ≤ nodes) × (f + f < n)
-is-cluster n f h =
+pub can-be : (n f : ℕ) → canBe n f ≡ true → (1 ≤ n) × (n ≤ nodes) × (f + f < n)
+can-be n f h =
     let size = is-size n (both-left (isSize n) (tolerates n f) h) in (
       size .0,
       size .1,
@@ -107,21 +108,21 @@ module _ (b : List ℕ) (h : sound b ≡ true) where
 
   pub sound-size : isSize (stated b) ≡ true
   unfolding sound
-  sound-size = both-left (isSize n) (tolerates n f) (both-left (isCluster n f) (both blocks few) h)
+  sound-size = both-left (isSize n) (tolerates n f) (both-left (canBe n f) (both blocks few) h)
 
   pub sound-half : faultsIn b + faultsIn b < stated b
   unfolding sound
-  sound-half = is-cluster n f (both-left (isCluster n f) (both blocks few) h) .2
+  sound-half = can-be n f (both-left (canBe n f) (both blocks few) h) .2
 
   pub sound-few : count (stated b) (stopped b) ≤ faultsIn b
   unfolding sound
-  sound-few = leb-true (count n (stopped b)) f (both-right blocks few (both-right (isCluster n f) (both blocks few) h))
+  sound-few = leb-true (count n (stopped b)) f (both-right blocks few (both-right (canBe n f) (both blocks few) h))
 
   pub sound-block : (c : ℕ) → isNode (stated b) c ≡ true → blockSound (stated b) (faultsIn b) c (block b c) ≡ true
   unfolding sound
   sound-block c k =
       all-at n (λ d. blockSound n f d (block b d)) c
-      (both-left blocks few (both-right (isCluster n f) (both blocks few) h))
+      (both-left blocks few (both-right (canBe n f) (both blocks few) h))
       (is-node n c k .0) (is-node n c k .1)
 
   module _ (c : ℕ) (k : isNode (stated b) c ≡ true) where
@@ -150,7 +151,7 @@ module _ (b : List ℕ) (h : sound b ≡ true) where
     pub sound-n : node b c .n ≡ stated b
     sound-n = eqb-true (recordOf r .n) n (both-left (eqb (recordOf r .n) n) (eqb (recordOf r .f) f) same-cluster)
 
-    pub sound-f : node b c .f ≡ faultsIn b
+    sound-f : node b c .f ≡ faultsIn b
     sound-f = eqb-true (recordOf r .f) f (both-right (eqb (recordOf r .n) n) (eqb (recordOf r .f) f) same-cluster)
 
   pub sound-channel : (a c : ℕ) → isNode (stated b) a ≡ true → isNode (stated b) c ≡ true
@@ -161,3 +162,6 @@ module _ (b : List ℕ) (h : sound b ≡ true) where
       (all-at n (λ d. leb (countOf (channel b d c)) capacity) a
       (both-right (recordSound n f c (recordIn (block b c))) (channelsSound n (block b c)) (sound-block c k))
       (is-node n a i .0) (is-node n a i .1))
+
+pub one-f : OneF
+one-f = sound-f

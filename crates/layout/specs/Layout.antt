@@ -2,6 +2,7 @@
 -- nodes 1 to n.
 use Prim.Native.Nat.{ℕ, _+_, _-_, _*_}
 use mathlib.Core.Bool.{Bool, true, false}
+use mathlib.Core.Path.{_≡_}
 use mathlib.Core.List.{List}
 use lib.ListN.{length, getD}
 use lib.Dec.{leb, eqb}
@@ -9,7 +10,7 @@ use Rattle.octets.specs.Test.{pick, both}
 use Rattle.octets.specs.Bytes.{part}
 use Rattle.view.specs.Size.{isSize}
 use Rattle.table.specs.Loop.{all, count}
-use Rattle.table.specs.Quorum.{isCluster}
+use Rattle.table.specs.Quorum.{canBe}
 use Rattle.record.specs.declared.Node.{Node}
 use Rattle.region.specs.Channel.{countOf}
 use Rattle.block.specs.Block.{blockSize, hasStopped, nodeIn, channelIn, change, blockSound}
@@ -66,10 +67,14 @@ fits b = pick (eqb (length b) 0) false (pick (isSize (stated b)) (eqb (length b)
 -- stopped.
 unfoldable pub sound : List ℕ → Bool
 sound b =
-    both (isCluster (stated b) (faultsIn b))
+    both (canBe (stated b) (faultsIn b))
     (both (all (stated b) (λ c. blockSound (stated b) (faultsIn b) c (block b c)))
     (leb (count (stated b) (stopped b)) (faultsIn b)))
 
 -- What refusal 3 asks of a number.
 abbrev pub isNode : ℕ → ℕ → Bool
 isNode n c = both (leb 1 c) (leb c n)
+
+-- One f: every record of a cluster that can be used has the f that the cluster states.
+abbrev pub OneF : Type 0
+OneF = (b : List ℕ) → sound b ≡ true → (c : ℕ) → isNode (stated b) c ≡ true → node b c .f ≡ faultsIn b

@@ -11,7 +11,7 @@ ghost use Prim.Native.Nat.{_≤_};
 ghost use lib.ListN.{length};
 ghost use Rattle.view.specs.Size.{nodes};
 ghost use Rattle.table.specs.Loop.{all, count};
-ghost use Rattle.table.specs.Quorum.{isCluster};
+ghost use Rattle.table.specs.Quorum.{canBe};
 ghost use Rattle.region.specs.Channel.{slotSize, countOf, first};
 ghost use Rattle.region.specs.Record.{recordSize, recordOf, recordBytes};
 ghost use Rattle.block.specs.Block.{recordIn, keepRecord, takeOff, receive, halt, blockSound};
@@ -160,7 +160,7 @@ pub fn stopped_nodes(b: &[u8], n: usize) -> usize
 
 // Whether every block is sound.
 fn blocks_sound(b: &[u8], n: usize, f: usize) -> bool
-    requires { ⌜ (isCluster n f ≡ true) × (length (now b) ≡ clusterSize n) ⌝ }
+    requires { ⌜ (canBe n f ≡ true) × (length (now b) ≡ clusterSize n) ⌝ }
     ensures { λ r. ⌜ r ≡ all n (λ c. blockSound n f c (block (now (b .entry)) c)) ⌝ }
 {
     let mut ok = true;

@@ -36,6 +36,7 @@ demand2 n f (low, small) half b long = record {
   same = run-trace n f low small half b long;
   refusals = run-refusals n f low small half b long;
   absent-past = λ es e. event-absent n small e (bytesAfter n f b es) (shown es .states);
+  states = λ es. (shown es .states, shown es .faults);
   stops = λ es c p. flag es c p ∙ sym (gone es c);
   holds = held;
   empty = none-left;

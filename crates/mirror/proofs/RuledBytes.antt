@@ -23,7 +23,7 @@ use Rattle.region.proofs.Back.{record-back}
 use Rattle.region.proofs.Waiting.{waiting-clear, length-clear, length-waiting}
 use Rattle.block.specs.Block.{blockSize, hasStopped, recordIn, channelIn, onChannel, keepRecord}
 use Rattle.block.proofs.Changes.{channel-length, channel-same, keepRecord-length, keepRecord-record}
-use Rattle.layout.specs.Layout.{clusterSize, block, node, onBlock}
+use Rattle.layout.specs.Layout.{clusterSize, faultsPlace, block, node, onBlock}
 use Rattle.layout.proofs.Blocks.{block-same}
 use Rattle.outgoing.specs.declared.Extent.the-variants.{Whole}
 use Rattle.history.specs.Message as M
@@ -174,6 +174,16 @@ module _ (b : List ℕ) (long : length b ≡ clusterSize 3) where
           (keepRecord (blank 3 0 1)) (keepRecord-length (block (bytesAfter 3 1 b []) 1) start-size (blank 3 0 1) heard))
           ∙ ap recordOf (keepRecord-record (block (bytesAfter 3 1 b []) 1) start-size (blank 3 0 1) heard)
           ∙ record-back (blank 3 0 1) (sized-node (follows-fresh 3 0 1))
+
+  -- The house's own bytes say so, and its records do not.
+  abbrev forgetful : List ℕ → List ℕ
+  forgetful t = set t faultsPlace 0
+
+  pub states-out : ¬ Demand2Of 3 1 (showing forgetful (houseOf 3 1 b))
+  states-out d =
+      let wrong : _≡_ {A = ℕ} 0 1 = sym (getD-set-same (bytesAfter 3 1 b []) faultsPlace 0 0
+      (omega (arith, run-mirrors 3 1 (omega arith) (omega arith) (omega arith) b long [] .shows .long)))
+      ∙ d .states [] .1 in omega (arith, wrong)
 
 -- Something is left in the channel from node 1 to node 2 of three where node 2 has stopped.
 abbrev counted : List ℕ → List ℕ

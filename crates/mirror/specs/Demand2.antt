@@ -10,7 +10,7 @@ use Rattle.view.specs.View.{AbsentPast}
 use Rattle.step.specs.declared.Ending.{Ending}
 use Rattle.step.specs.declared.Ending.the-variants.{None}
 use Rattle.region.specs.Channel.{waiting}
-use Rattle.layout.specs.Layout.{channel, stopped, node}
+use Rattle.layout.specs.Layout.{stated, faultsIn, channel, stopped, node}
 use Rattle.events.specs.Event.{Result, fresh}
 use Rattle.history.specs.Trace as T
 use Rattle.history.specs.Trace.{Trace, waits}
@@ -54,6 +54,8 @@ pub record Demand2Of (n f : ℕ) (h : House) : Type 0 where
   pub refusals : (es : List Event) (e : Event) → ComesUp (h .next es e .answer)
   -- A view that is given out has nothing past n.
   pub absent-past : (es : List Event) (e : Event) → AbsentPast n (h .next es e .view)
+  -- The bytes state n and f.
+  pub states : (es : List Event) → (stated (h .bytes es) ≡ n) × (faultsIn (h .bytes es) ≡ f)
   -- The bytes say of each node whether it has stopped, as the trace does.
   pub stops : (es : List Event) (c : ℕ) → OneTo n c → stopped (h .bytes es) c ≡ T.stopped (h .seen es) c
   -- What a channel to a standing node holds is, in order, the encoding of what was let out to it and not yet handed
@@ -65,7 +67,7 @@ pub record Demand2Of (n f : ℕ) (h : House) : Type 0 where
       → slots (h .bytes es) a c ≡ []
   -- The record of each node, stopped ones included, remembers of the sets of the algorithm what document 01 has it
   -- remember: of each writer the last report, the newest up to maxtag and, while a round is open, the newest up to its
-  -- tag; the tags heard; the good view that is kept; and the wait with its numbers.
+  -- tag; the tags heard; the good view that is kept; the wait with its numbers; and its n, f and own number.
   pub remembers : (es : List Event) (c : ℕ) → OneTo n c
       → Follows n f c (K.after n f channelRoom K.start (map meaning es) .nodes c) (node (h .bytes es) c)
 

@@ -11,7 +11,7 @@ use Rattle.octets.specs.Test.{pick, both}
 use Rattle.octets.specs.Word.{word}
 use Rattle.octets.proofs.Test.{both-left, both-right, both-true, true-false, not-true-false}
 use Rattle.view.specs.Size.{nodes}
-use Rattle.record.specs.Usable.{sizesWithin, sizesOk, numbersOk, tablesOk, usable}
+use Rattle.record.specs.Usable.{sizesWithin, numbersOk, tablesOk, usable}
 use Rattle.record.specs.declared.Node.{Node}
 use Rattle.record.proofs.Parts.{parts}
 use Rattle.calls.specs.CallResult.{CallResult}
@@ -30,7 +30,8 @@ pub not-within : (r : List ℕ) {n f own : ℕ} → n ≡ word r nPlace → f �
 unfolding recordOf usable
 not-within r {n} {f} {own} e g h s = sym (not-true-false (usableIn r) (λ u.
     let c = recordOf r in
-    let within = both-left (sizesOk c) (both (numbersOk c) (tablesOk c)) (both-right (codesKnown r) (usable c) u) in
+    let within = both-left (sizesWithin (c .n) (c .f) (c .own)) (both (numbersOk c) (tablesOk c))
+    (both-right (codesKnown r) (usable c) u) in
     true-false (sizesWithin n f own) (rw (e, g, h) within) s))
 
 with-true : (b : Bool) {x y z : Bool} → x ≡ true → y ≡ true → z ≡ true → both b (both (both x y) z) ≡ b

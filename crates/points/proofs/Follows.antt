@@ -44,7 +44,7 @@ use Rattle.points.specs.Calls.{Calls, traceFrom, traceOf}
 use Rattle.points.specs.Channels.{MayBegin, MayDeliver, StandsAfter, Room, waits, stillWaits, begun, handled}
 use Rattle.points.specs.Channels.{Filled}
 use Rattle.points.specs.LastTag.{LastAnswer, used, spentBy}
-use Rattle.points.specs.Faults.{Made, NotMade}
+use Rattle.points.specs.Faults.{Made}
 use Rattle.points.specs.Messages.{zeros, readOne}
 use Rattle.points.proofs.Absences.{stands}
 use Rattle.points.proofs.Begins.{still-stands, one-each, no-room}
@@ -63,8 +63,8 @@ module _ (calls : Calls) where
   unfolding viewOk upTo allTo totals reportOf part
   absent-sixteen figures = figures (replicate 256 0) refl refl
 
-  values : ((n : ℕ) → 1 ≤ n → (2 * calls .faults n < n) × (n ≤ 2 * (calls .faults n + 1)))
-      → map (calls .faults) (1 ∷ 2 ∷ 3 ∷ 4 ∷ 5 ∷ 16 ∷ []) ≡ 0 ∷ 0 ∷ 1 ∷ 1 ∷ 2 ∷ 7 ∷ []
+  values : ((n : ℕ) → 1 ≤ n → (2 * calls .mostFaults n < n) × (n ≤ 2 * (calls .mostFaults n + 1)))
+      → map (calls .mostFaults) (1 ∷ 2 ∷ 3 ∷ 4 ∷ 5 ∷ 16 ∷ []) ≡ 0 ∷ 0 ∷ 1 ∷ 1 ∷ 2 ∷ 7 ∷ []
   values largest = rw (
     is 1 0 (omega arith) (omega arith),
     is 2 0 (omega arith) (omega arith),
@@ -74,15 +74,10 @@ module _ (calls : Calls) where
     is 16 7 (omega arith) (omega arith),
   ) refl
     where
-      is : (n f : ℕ) → 2 * f < n → n ≤ 2 * (f + 1) → calls .faults n ≡ f
+      is : (n f : ℕ) → 2 * f < n → n ≤ 2 * (f + 1) → calls .mostFaults n ≡ f
       is n f lo hi = omega (arith, largest n (omega arith) .0, largest n (omega arith) .1)
 
-  -- The cases of the f that are taken and that are not.
-  not-made : ((n f own : ℕ) → (f + f < n → ⊥) → calls .fresh-node n f own ≡ N.refuse 1 (blank 0 0 0) [])
-      → ((n f : ℕ) (b : List ℕ) → (f + f < n → ⊥) → calls .fresh n f b ≡ refuse 1 b)
-      → (n f : ℕ) → (f + f < n → ⊥) → NotMade calls n f
-  not-made node cluster n f h = record { node = λ own. node n f own h; cluster = λ b. cluster n f b h }
-
+  -- The cases of the f that are taken; those of the others are cases of one clause.
   made : (n : ℕ) → ((f own : ℕ) → f + f < n → OneTo n own → calls .fresh-node n f own
       ≡ record { answer = nothing; ending = result None; node = blank n f own; length = 0; out = [] })
       → ((f : ℕ) (b : List ℕ) → f + f < n → length b ≡ calls .size n → calls .fresh n f b

@@ -22,7 +22,7 @@ use Rattle.wire.proofs.Entries.{answered}
 use Rattle.wire.proofs.Numbers.{length-encode}
 use Rattle.wire.proofs.RoundTrip.{read-back, read-only, refuses-seven, refuses-one}
 use Rattle.figures.specs.Figures.{totals, figuresOf}
-use Rattle.table.specs.Quorum.{tolerates, isCluster}
+use Rattle.table.specs.Quorum.{tolerates, canBe}
 use Rattle.table.proofs.Sets.{faults-largest, tolerates-half, half-tolerates}
 use Rattle.calls.specs.CallResult.{CallResult}
 use Rattle.calls.specs.Entry as N
@@ -78,8 +78,8 @@ module _ (n f : ℕ) (h : f + f < n → ⊥) where
   not-half : tolerates n f ≡ false
   not-half = not-true-false (tolerates n f) (λ e. h (tolerates-half n f e))
 
-  none-made : isCluster n f ≡ false
-  none-made = not-true-false (isCluster n f) (λ e. true-false (tolerates n f)
+  none-made : canBe n f ≡ false
+  none-made = not-true-false (canBe n f) (λ e. true-false (tolerates n f)
       (both-right (isSize n) (tolerates n f) e) not-half)
 
   pub not-made : NotMade code n f
@@ -96,8 +96,7 @@ pub faults-hold : Faults code
 faults-hold = record {
   values = refl;
   largest = faults-largest;
-  node-refused = λ n f own h. not-made n f h .node own;
-  cluster-refused = λ n f b h. not-made n f h .cluster b;
+  refused = not-made;
   seven-of-15 = is-made 15 7 (omega arith, omega arith) (omega arith);
   seven-of-16 = is-made 16 7 (omega arith, omega arith) (omega arith);
   seven-of-14 = not-made 14 7 (λ h. omega arith);

@@ -2,7 +2,7 @@
 -- call is the code's but where a test says so, and no other clause rules it out; this is not proved. Two kinds of
 -- clause rule out no call alone: one that follows from others (`Follows`), which has a wrong call where it has the
 -- words of a document; and one that says of the code that there is such a case. Here for n, f and messages: `absent-1`
--- and `absent-16`, `values`, the cases of f, `written`, `read` and `long` follow.
+-- and `absent-16`, `values`, the cases of f, 1 of fresh for n = 0, `written`, `read` and `long` follow.
 use Prim.Native.Nat.{ℕ, _+_, _-_, _*_, _≤_, _<_, min, max}
 use native.Mathlib.Omega.{arith}
 use mathlib.Core.Path.{_≡_, refl, sym, ap, _∙_}
@@ -23,7 +23,7 @@ use Rattle.wire.specs.declared.Message.{Message}
 use Rattle.wire.specs.declared.Message.the-variants.{Read, Echo, Good}
 use Rattle.figures.specs.Figures.{totals, figuresOf}
 use Rattle.figures.specs.declared.Totals.{Totals}
-use Rattle.table.specs.Quorum.{faults, isCluster}
+use Rattle.table.specs.Quorum.{mostFaults, canBe}
 use Rattle.step.specs.Told as K
 use Rattle.step.specs.declared.Ending.{Ending}
 use Rattle.calls.specs.Entry as N
@@ -170,11 +170,11 @@ abbrev untold : ℕ → ℕ → List ℕ → E.Result
 untold n f b = record { bytes = E.fresh n f b .bytes; answer = refused 12; view = noView; sent = [] }
 
 untold-at : (b : List ℕ) → length b ≡ code .size 16
-    → RuledOut (starts (λ n f b. pick (isCluster n f) (untold n f b) (E.fresh n f b)))
+    → RuledOut (starts (λ n f b. pick (both (canBe n f) (eqb f 1)) (untold n f b) (E.fresh n f b)))
 untold-at b long P = apart (ap (λ (r : E.Result). r .answer)
-    (P .sizes .taken 16 (omega arith, omega arith) .fresh-cluster 0 b (omega arith) long)) refl
+    (P .sizes .taken 16 (omega arith, omega arith) .fresh-cluster 1 b (omega arith) long)) refl
 
-start-untold : RuledOut (starts (λ n f b. pick (isCluster n f) (untold n f b) (E.fresh n f b)))
+start-untold : RuledOut (starts (λ n f b. pick (both (canBe n f) (eqb f 1)) (untold n f b) (E.fresh n f b)))
 start-untold P = untold-at (lent 16) (long-lent 16) P
 
 no-size : RuledOut (lends (λ n. 0))
@@ -202,13 +202,13 @@ n-first P = let e : _≡_ {A = ℕ} 1 12 = number (P .sizes .length-first 17 [] 
 
 -- ---- f: one too many of sixteen; one too many of seven, and none
 
-eight-of-sixteen : RuledOut (fails (λ n. pick (eqb n 16) 8 (faults n)))
+eight-of-sixteen : RuledOut (fails (λ n. pick (eqb n 16) 8 (mostFaults n)))
 eight-of-sixteen P = let e : _≡_ {A = ℕ} 8 7 = ap (λ (l : List ℕ). getD l 5 0) (P .faults .values) in omega arith
 
-four-of-seven : RuledOut (fails (λ n. pick (eqb n 7) 4 (faults n)))
+four-of-seven : RuledOut (fails (λ n. pick (eqb n 7) 4 (mostFaults n)))
 four-of-seven P = let e : 2 * 4 < 7 = P .faults .largest 7 (omega arith) .0 in omega arith
 
-none-of-seven : RuledOut (fails (λ n. pick (eqb n 7) 0 (faults n)))
+none-of-seven : RuledOut (fails (λ n. pick (eqb n 7) 0 (mostFaults n)))
 none-of-seven P = let e : 7 ≤ 2 * (0 + 1) = P .faults .largest 7 (omega arith) .1 in omega arith
 
 -- Half of the nodes may stop: where 2f = n, f is taken for one less.
@@ -218,15 +218,15 @@ halfTaken n f = pick (eqb (f + f) n) (f - 1) f
 half-node : RuledOut (makes (λ n f own. N.fresh n (halfTaken n f) own))
 half-node P = not-refused (ap (λ (x : CallResult). x .answer)
     (sym (points .sizes .taken 14 (omega arith, omega arith) .fresh-node 6 1 (omega arith) (omega arith, omega arith))
-    ∙ P .faults .node-refused 14 7 1 (λ h. omega arith)))
+    ∙ P .faults .refused 14 7 (λ h. omega arith) .node 1))
 
 half-cluster : RuledOut (starts (λ n f b. E.fresh n (halfTaken n f) b))
 half-cluster P = answers (ap (λ (r : E.Result). r .answer)
     (points .sizes .taken 14 (omega arith, omega arith) .fresh-cluster 6 (lent 14) (omega arith) (long-lent 14)))
-    (P .faults .cluster-refused 14 7 (lent 14) (λ h. omega arith))
+    (P .faults .refused 14 7 (λ h. omega arith) .cluster (lent 14))
 
 -- A node is made in whose record f is 0, whatever it is made with.
-none-recorded : RuledOut (makes (λ n f own. N.fresh n (pick (isCluster n f) 0 f) own))
+none-recorded : RuledOut (makes (λ n f own. N.fresh n (pick (canBe n f) 0 f) own))
 none-recorded P =
     let size : OneTo nodes 3 = (omega arith, omega arith) in
     let e : _≡_ {A = ℕ} 0 1 = ap (λ (x : CallResult). x .node .f)

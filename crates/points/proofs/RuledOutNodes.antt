@@ -1,11 +1,12 @@
 -- For every clause of the points on the largest tag and stops a wrong call that it rules out: the code's call, but
 -- where a test says so. `by-answer` and `by-own` follow from `spent`.
 use Prim.Native.Nat.{ℕ, _+_, _-_, _<_, max}
+use native.Mathlib.Decide.{ℕ-discrete}
 use native.Mathlib.Omega.{arith}
 use mathlib.Core.Path.{_≡_, refl, sym, ap, _∙_}
-use mathlib.Core.Bool.{Bool, true, false, not}
+use mathlib.Core.Bool.{Bool, true, false, not, decide}
 use mathlib.Core.List.{List, []}
-use lib.Dec.{eqb}
+use lib.Dec.{eqb, ltb}
 use borrow.Author.Tests.{eq-eqb}
 use Rattle.octets.specs.Answer.{Answer, result, refused}
 use Rattle.octets.specs.Test.{pick, both}
@@ -16,6 +17,8 @@ use Rattle.view.specs.View.{noView}
 use Rattle.wire.specs.Codec.{decode}
 use Rattle.wire.specs.declared.Message.{Message}
 use Rattle.wire.specs.declared.Message.the-variants.{Read, ReadAnswer, Write, WriteAnswer, Echo, Value, Good}
+use Rattle.logs.specs.Count as L
+use Rattle.logs.specs.Update.{upd}
 use Rattle.logs.proofs.Count.{count-none}
 use Rattle.table.specs.Loop.{count}
 use Rattle.record.specs.declared.Node.{Node}
@@ -29,10 +32,12 @@ use Rattle.step.specs.declared.Ending.the-variants.{None}
 use Rattle.calls.specs.Entry as N
 use Rattle.calls.specs.CallResult.{CallResult}
 use Rattle.block.specs.Block.{halt}
-use Rattle.layout.specs.Layout.{stated, stopped, onBlock}
+use Rattle.layout.specs.Layout.{stated, faultsIn, stopped, onBlock}
 use Rattle.events.specs.Event as E
 use Rattle.events.specs.Stop.{stop}
 use Rattle.history.specs.Order.{OneTo}
+use Rattle.history.specs.Event as H
+use Rattle.algorithm.specs.Algorithm as A
 use Rattle.eqaso.specs.Cluster as C
 use Rattle.mirror.specs.Mirrors.{Mirrors}
 use Rattle.mirror.proofs.Checks.{same-stopped}
@@ -40,7 +45,7 @@ use Rattle.points.specs.LastTag.{LastAnswer, spentBy}
 use Rattle.points.specs.Stops.{OneStopped, Standing}
 use Rattle.points.proofs.Proved.{points}
 use Rattle.points.proofs.RuledOut.{RuledOut, apart, answers, number, space, long-space}
-use Rattle.points.proofs.Stops.{start-mirrors, is-cluster}
+use Rattle.points.proofs.Stops.{start-mirrors, is-cluster, one-stopped}
 use Rattle.points.proofs.Wrong.{hands, stops}
 
 -- ---- the largest tag: an answer changes nothing, or spends what it should not
@@ -210,12 +215,33 @@ module _ (f : ℕ) (half : f + f < 5) where
   none-yet : count 5 (stopped (five f)) ≡ 0
   none-yet = same-stopped (omega arith) (omega arith) start ∙ count-none 5
 
--- 10 goes by the largest f: of five nodes two may stop, whatever is recorded.
-by-largest : RuledOut (stops (but (λ c b. eqb (stated b) 5) halts))
+-- 10 goes by the largest f: of five nodes with f = 1 a second one stops.
+abbrev largestOfFive : ℕ → List ℕ → Bool
+largestOfFive c b = both (eqb (stated b) 5) (both (eqb (faultsIn b) 1) (ltb (count 5 (stopped b)) 2))
+
+abbrev fourLeft : List ℕ
+fourLeft = stop 1 (five 1) .bytes
+
+four-left : Mirrors 5 1 fourLeft (C.commit 1 (H.cut 0) (A.still A.fresh) [] (λ c d. []) C.start .cluster)
+four-left = one-stopped 5 1 (omega arith, omega arith) (omega arith) (omega arith) (space 5) (long-space 5) 1
+    (omega arith, omega arith)
+
+counted-one : count 5 (stopped fourLeft) ≡ 1
+unfolding L.count upd ℕ-discrete decide
+counted-one = same-stopped (omega arith) (omega arith) four-left
+
+two-of-five : Standing 5 2 fourLeft
+unfolding upd ℕ-discrete decide
+two-of-five = record {
+  cluster = is-cluster (omega arith, omega arith) four-left;
+  node = (omega arith, omega arith);
+  stands = four-left .shows .says 2 (omega arith, omega arith) .stop;
+}
+
+by-largest : RuledOut (stops (but largestOfFive halts))
 by-largest P = answers
-    (instead (λ c b. eqb (stated b) 5) halts 1 (five 0) (rw (start 0 (omega arith) .shows .states) refl))
-    (P .stops .full 5 1 (five 0) (one-stands 0 (omega arith))
-    (none-yet 0 (omega arith) ∙ sym (start 0 (omega arith) .shows .faults)))
+    (instead largestOfFive halts 2 fourLeft (rw (four-left .shows .states, four-left .shows .faults, counted-one) refl))
+    (P .stops .full 5 2 fourLeft two-of-five (counted-one ∙ sym (four-left .shows .faults)))
 
 -- Of five nodes none may stop, whatever is recorded.
 none-of-five : RuledOut (stops (but (λ c b. eqb (stated b) 5) (λ c b. E.refuse 10 b)))

@@ -137,38 +137,45 @@ module _ (calls : Calls) (full : (n c : ℕ) (b : List ℕ) → Standing n c b �
 all-stopped : (n c : ℕ) (b : List ℕ) → Standing n c b → count n (stopped b) ≡ faultsIn b → stop c b ≡ refuse 10 b
 all-stopped n c b S = many-stopped (S .cluster) c (S .node) (S .stands)
 
--- A fresh cluster of three nodes with f = 1, of which a stops.
-module _ (b : List ℕ) (long : length b ≡ clusterSize 3) (a : ℕ) (at : OneTo 3 a) where
-  abbrev three : List ℕ
-  three = fresh 3 1 b .bytes
+-- A fresh cluster of which a node may stop, and a does.
+module _ (n f : ℕ) (size : OneTo nodes n) (half : f + f < n) (some : 1 ≤ f) (b : List ℕ)
+    (long : length b ≡ clusterSize n) (a : ℕ) (at : OneTo n a) where
+  abbrev made : List ℕ
+  made = fresh n f b .bytes
 
-  size : OneTo nodes 3
-  size = (omega arith, omega arith)
+  start : Mirrors n f made K.start
+  start = start-mirrors n f size half b long
 
-  start : Mirrors 3 1 three K.start
-  start = start-mirrors 3 1 size (omega arith) b long
+  none-stopped : count n (stopped made) ≡ 0
+  none-stopped = same-stopped (size .0) (size .1) start ∙ count-none n
 
-  none-stopped : count 3 (stopped three) ≡ 0
-  none-stopped = same-stopped (size .0) (size .1) start ∙ count-none 3
-
-  first-stop : stop a three
-      ≡ record { bytes = onBlock a (halt 3) three; answer = result None; view = noView; sent = [] }
+  pub first-stop : stop a made
+      ≡ record { bytes = onBlock a (halt n) made; answer = result None; view = noView; sent = [] }
   first-stop = stops-now (is-cluster size start) a at (start .shows .says a at .stop)
       (omega (arith, none-stopped, start .shows .faults))
 
   abbrev left : List ℕ
-  left = stop a three .bytes
+  left = stop a made .bytes
 
-  one-stopped : Mirrors 3 1 left (K.commit a (H.cut 0) (A.still A.fresh) [] (λ c d. []) K.start .cluster)
-  one-stopped = subst (λ (r : Result). Mirrors 3 1 (r .bytes)
+  pub one-stopped : Mirrors n f left (K.commit a (H.cut 0) (A.still A.fresh) [] (λ c d. []) K.start .cluster)
+  one-stopped = subst (λ (r : Result). Mirrors n f (r .bytes)
       (K.commit a (H.cut 0) (A.still A.fresh) [] (λ c d. []) K.start .cluster)) (sym first-stop)
-      (stop-mirrors (size .1) start a at (omega (arith, count-none 3)))
+      (stop-mirrors (size .1) start a at (omega (arith, count-none n)))
 
-  leaves-one : OneStopped left a
+  pub has-stopped : stopped left a ≡ true
+  has-stopped = one-stopped .shows .says a at .stop ∙ upd-same (λ k. false) a true
+
+-- Of three, with f = 1.
+module _ (b : List ℕ) (long : length b ≡ clusterSize 3) (a : ℕ) (at : OneTo 3 a) where
+  of-three : Mirrors 3 1 (stop a (fresh 3 1 b .bytes) .bytes)
+      (K.commit a (H.cut 0) (A.still A.fresh) [] (λ c d. []) K.start .cluster)
+  of-three = one-stopped 3 1 (omega arith, omega arith) (omega arith) (omega arith) b long a at
+
+  leaves-one : OneStopped (stop a (fresh 3 1 b .bytes) .bytes) a
   leaves-one = record {
-    three = is-cluster size one-stopped;
+    three = is-cluster (omega arith, omega arith) of-three;
     node = at;
-    stop = one-stopped .shows .says a at .stop ∙ upd-same (λ k. false) a true;
+    stop = has-stopped 3 1 (omega arith, omega arith) (omega arith) (omega arith) b long a at;
   }
 
 pub stops-hold : Stops code
@@ -182,7 +189,8 @@ stops-hold = record {
   second = second-stop code all-stopped;
   again = λ b a S. stopped-before (S .three) a (S .node) (S .stop);
   first = λ b long a at. record {
-    answer = ap (λ (r : Result). r .answer) (first-stop b long a at);
+    answer = ap (λ (r : Result). r .answer)
+        (first-stop 3 1 (omega arith, omega arith) (omega arith) (omega arith) b long a at);
     leaves = leaves-one b long a at;
   };
 }

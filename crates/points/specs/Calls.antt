@@ -9,7 +9,7 @@ use Rattle.wire.specs.Codec.{decode, answer, after}
 use Rattle.wire.specs.declared.Message.{Message}
 use Rattle.figures.specs.Figures.{figuresOf}
 use Rattle.figures.specs.declared.Totals.{Totals}
-use Rattle.table.specs.Quorum.{faults}
+use Rattle.table.specs.Quorum.{mostFaults}
 use Rattle.record.specs.declared.Node.{Node}
 use Rattle.record.specs.declared.Operation.{Operation}
 use Rattle.calls.specs.CallResult.{CallResult}
@@ -27,7 +27,7 @@ pub record Calls : Type 0 where
   pub write : (n : ℕ) → Message → (view out : List ℕ) → Answer ℕ × List ℕ
   pub figures : (n : ℕ) → List ℕ → Answer Totals
   -- The largest f, and the length to lend for a cluster.
-  pub faults : ℕ → ℕ
+  pub mostFaults : ℕ → ℕ
   pub size : ℕ → ℕ
   -- One node.
   pub fresh-node : (n f own : ℕ) → CallResult
@@ -43,7 +43,7 @@ code = record {
   read = decode;
   write = λ n m v out. (answer n m v (length out), after (answer n m v (length out)) (encode m v) out);
   figures = figuresOf;
-  faults = faults;
+  mostFaults = mostFaults;
   size = sizeFor;
   fresh-node = N.fresh;
   message = N.message;

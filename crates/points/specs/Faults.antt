@@ -25,13 +25,12 @@ pub record NotMade (calls : Calls) (n f : ℕ) : Type 0 where
 
 pub record Faults (calls : Calls) : Type 0 where
   -- These follow from `largest`, and rule out no call that it does not.
-  pub values : map (calls .faults) (1 ∷ 2 ∷ 3 ∷ 4 ∷ 5 ∷ 16 ∷ []) ≡ 0 ∷ 0 ∷ 1 ∷ 1 ∷ 2 ∷ 7 ∷ []
+  pub values : map (calls .mostFaults) (1 ∷ 2 ∷ 3 ∷ 4 ∷ 5 ∷ 16 ∷ []) ≡ 0 ∷ 0 ∷ 1 ∷ 1 ∷ 2 ∷ 7 ∷ []
   -- It is the largest number f with 2 f < n.
-  pub largest : (n : ℕ) → 1 ≤ n → (2 * calls .faults n < n) × (n ≤ 2 * (calls .faults n + 1))
+  pub largest : (n : ℕ) → 1 ≤ n → (2 * calls .mostFaults n < n) × (n ≤ 2 * (calls .mostFaults n + 1))
   -- An f with 2f not below n is refused, however large it is, by a node and by a cluster.
-  pub node-refused : (n f own : ℕ) → (f + f < n → ⊥) → calls .fresh-node n f own ≡ N.refuse 1 (blank 0 0 0) []
-  pub cluster-refused : (n f : ℕ) (b : List ℕ) → (f + f < n → ⊥) → calls .fresh n f b ≡ refuse 1 b
-  -- Cases of these and of the point on n. They follow, and rule out no call that those do not.
+  pub refused : (n f : ℕ) → (f + f < n → ⊥) → NotMade calls n f
+  -- Cases of this and of the point on n. They follow, and rule out no call that those do not.
   pub seven-of-15 : Made calls 15 7
   pub seven-of-16 : Made calls 16 7
   pub seven-of-14 : NotMade calls 14 7

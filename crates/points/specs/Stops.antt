@@ -40,15 +40,14 @@ pub record Stops (calls : Calls) : Type 0 where
   pub full : (n c : ℕ) (b : List ℕ) → Standing n c b → count n (stopped b) ≡ faultsIn b → calls .stop c b ≡ refuse 10 b
   pub fewer : (n c : ℕ) (b : List ℕ) → Standing n c b → count n (stopped b) < faultsIn b
       → calls .stop c b .answer ≡ result None
-  -- Cases of `full`. They follow from it, and rule out no call that it does not.
-  -- With f = 0 no stop is taken.
+  -- The three after this are cases of `full`: they follow from it, and rule out no call that it does not. With f = 0 no
+  -- stop is taken; nor in any cluster of one node; of any three nodes of which one has stopped the two others stand.
   pub none : (n c : ℕ) (b : List ℕ) → IsCluster n b → faultsIn b ≡ 0 → OneTo n c → calls .stop c b ≡ refuse 10 b
-  -- of any cluster of one node
   pub single : (b : List ℕ) → IsCluster 1 b → calls .stop 1 b ≡ refuse 10 b
-  -- There is such a cluster: the code's fresh one.
-  pub fresh-single : (b : List ℕ) → length b ≡ clusterSize 1 → IsCluster 1 (code .fresh 1 0 b .bytes)
-  -- Of any three nodes of which one has stopped it is 10 for the two others, and 4 for the same one.
   pub second : (b : List ℕ) (a c : ℕ) → OneStopped b a → OneTo 3 c → (c ≡ a → ⊥) → calls .stop c b ≡ refuse 10 b
+  -- There is such a cluster of one node: the code's fresh one.
+  pub fresh-single : (b : List ℕ) → length b ≡ clusterSize 1 → IsCluster 1 (code .fresh 1 0 b .bytes)
+  -- Of three nodes the one that has stopped is 4.
   pub again : (b : List ℕ) (a : ℕ) → OneStopped b a → calls .stop a b ≡ refuse 4 b
-  -- The first stop of three fresh nodes is accepted, and leaves such a cluster.
+  -- The first stop of three fresh nodes is accepted, which follows from `fewer`, and leaves such a cluster.
   pub first : (b : List ℕ) → length b ≡ clusterSize 3 → (a : ℕ) → OneTo 3 a → Stopped calls b a

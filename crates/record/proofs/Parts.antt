@@ -11,14 +11,14 @@ use Rattle.octets.proofs.Test.{both-left, both-right, both-true}
 use Rattle.octets.specs.Test.{both}
 use Rattle.view.specs.Size.{limit, nodes, isSize}
 use Rattle.table.specs.Loop.{either}
-use Rattle.table.specs.Quorum.{only, tolerates, isCluster}
+use Rattle.table.specs.Quorum.{only, tolerates, canBe}
 use Rattle.table.specs.Table.{viewWithin, heardWithin}
 use Rattle.table.proofs.Sets.{tolerates-half, half-tolerates}
 use Rattle.record.specs.declared.Node.{Node}
 use Rattle.record.specs.declared.Operation.{Operation}
 use Rattle.record.specs.declared.Kind.{Kind}
 use Rattle.record.specs.declared.Wait.the-variants.{Reading, Writing}
-use Rattle.record.specs.Usable.{stillUses, roundTag, roundOk, waitOk, sizesWithin, sizesOk, numbersOk}
+use Rattle.record.specs.Usable.{stillUses, roundTag, roundOk, waitOk, sizesWithin, numbersOk}
 use Rattle.record.specs.Usable.{tablesOk, usable}
 
 pub record Parts (c : Node) : Type 0 where
@@ -71,13 +71,13 @@ module _ (c : Node) where
 -- n of a record that can be keeps its limit
 pub sizes-most : (n f own : ℕ) → sizesWithin n f own ≡ true → n ≤ nodes
 sizes-most n f own h =
-    halves (isCluster n f) (both (leb 1 own) (leb own n)) h (λ p q. halves (isSize n) (tolerates n f) p
+    halves (canBe n f) (both (leb 1 own) (leb own n)) h (λ p q. halves (isSize n) (tolerates n f) p
     (λ s t. leb-true n nodes (both-right (leb 1 n) (leb n nodes) s)))
 
 pub parts : (c : Node) → usable c ≡ true → Parts c
 unfolding usable numbersOk tablesOk
 parts c h =
-    halves (sizesOk c) (both (both (maxT c) (leftT c)) (both (firstT c) (restT c))) h (λ s r.
+    halves (sizesWithin (c .n) (c .f) (c .own)) (both (both (maxT c) (leftT c)) (both (firstT c) (restT c))) h (λ s r.
     halves (both (maxT c) (leftT c)) (both (firstT c) (restT c)) r (λ p t.
     halves (nT c) (ownT c) s (λ s₁ s₂.
     halves (isSize (c .n)) (tolerates (c .n) (c .f)) s₁ (λ s₃ s₄.

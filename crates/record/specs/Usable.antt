@@ -8,7 +8,7 @@ use Rattle.octets.specs.Test.{both}
 use Rattle.view.specs.Size.{limit}
 use Rattle.table.specs.Loop.{either}
 use Rattle.table.specs.Table.{tagOf, viewWithin, heardOf, heardWithin}
-use Rattle.table.specs.Quorum.{only, isCluster}
+use Rattle.table.specs.Quorum.{only, canBe}
 use Rattle.record.specs.declared.Node.{Node}
 use Rattle.record.specs.declared.Operation.the-variants.{Update, Scan}
 use Rattle.record.specs.declared.Wait.{Wait}
@@ -45,10 +45,7 @@ waitOk n (Borrowing k r) = leb r limit
 
 -- n, f and the own number: what a fresh record may be made of
 abbrev pub sizesWithin : (n f own : ℕ) → Bool
-sizesWithin n f own = both (isCluster n f) (both (leb 1 own) (leb own n))
-
-abbrev pub sizesOk : Node → Bool
-sizesOk c = sizesWithin (c .n) (c .f) (c .own)
+sizesWithin n f own = both (canBe n f) (both (leb 1 own) (leb own n))
 
 -- the numbers and the wait keep their limits, and enough request numbers are left
 abbrev pub numbersWithin : (n maxtag request kept : ℕ) → Wait → Bool
@@ -67,7 +64,7 @@ tablesOk c =
     (viewWithin (c .kept) (c .keptview)))
 
 unfoldable pub usable : Node → Bool
-usable c = both (sizesOk c) (both (numbersOk c) (tablesOk c))
+usable c = both (sizesWithin (c .n) (c .f) (c .own)) (both (numbersOk c) (tablesOk c))
 
 -- 5: an operation is open
 abbrev pub isOpen : Wait → Bool

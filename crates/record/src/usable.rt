@@ -5,7 +5,7 @@ use crate::Wait;
 use octets::and;
 use octets::less;
 use table::or;
-use table::quorum::is_cluster;
+use table::quorum::can_be;
 use table::quorum::is_only;
 use table::views::heard_within;
 use table::views::tag_of;
@@ -109,7 +109,7 @@ fn wait_ok(n: usize, wait: Wait) -> bool
 pub fn sizes_within(n: usize, f: usize, own: usize) -> bool
     ensures { λ r. ⌜ r ≡ sizesWithin n f own ⌝ }
 {
-    and(is_cluster(n, f), and(1 <= own, own <= n))
+    and(can_be(n, f), and(1 <= own, own <= n))
 }
 
 // Whether the numbers of a record keep their limits.

@@ -45,7 +45,7 @@ ghost use mathlib.Core.List.{List};
 ghost use Rattle.view.specs.Report.{reportOf};
 ghost use Rattle.wire.specs.Codec.{front, decode};
 ghost use Rattle.figures.specs.Figures.{figuresOf};
-ghost use Rattle.table.specs.Quorum.{faults};
+ghost use Rattle.table.specs.Quorum.{mostFaults};
 ghost use Rattle.record.specs.declared.Operation.the-variants.{Update, Scan};
 ghost use Rattle.region.specs.Record.{recordSize};
 ghost use Rattle.layout.specs.Layout.{sizeFor};
@@ -64,7 +64,7 @@ ghost use Rattle.codes.specs.Code.{answerCode, lent, wrote, wrotePage, lentCode
 // The largest f that a cluster of n nodes can have, as document 01's rule gives it.
 #[no_mangle]
 pub extern "C" fn snapshot_most_faults(n: usize) -> usize
-    ensures { λ r. ⌜ r ≡ faults n ⌝ }
+    ensures { λ r. ⌜ r ≡ mostFaults n ⌝ }
 {
     most_faults(n)
 }

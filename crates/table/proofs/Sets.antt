@@ -13,7 +13,7 @@ use Rattle.octets.specs.Test.{pick}
 use Rattle.octets.proofs.Test.{both-right, both-true}
 use Rattle.view.specs.Size.{nodes}
 use Rattle.table.specs.Loop.{count}
-use Rattle.table.specs.Quorum.{member, with, only, membersIn, faults, tolerates}
+use Rattle.table.specs.Quorum.{member, with, only, membersIn, mostFaults, tolerates}
 
 -- a 1 that is shifted by s stays in its word
 pub shifted : (s : ℕ) → s < 64 → 1 * 2 ^ s % 2 ^ 64 ≡ 2 ^ s
@@ -130,13 +130,13 @@ membersIn-with n m s a b e =
 -- ---- f
 
 -- f is the largest number with 2f < n
-pub faults-largest : (n : ℕ) → 1 ≤ n → (2 * faults n < n) × (n ≤ 2 * (faults n + 1))
+pub faults-largest : (n : ℕ) → 1 ≤ n → (2 * mostFaults n < n) × (n ≤ 2 * (mostFaults n + 1))
 faults-largest n h = (omega arith, omega arith)
 
 -- n nodes tolerate each f with 2f < n, and no other
 pub tolerates-half : (n f : ℕ) → tolerates n f ≡ true → f + f < n
-tolerates-half n f h = ltb-true (f + f) n (both-right (leb f (faults nodes)) (ltb (f + f) n) h)
+tolerates-half n f h = ltb-true (f + f) n (both-right (leb f (mostFaults nodes)) (ltb (f + f) n) h)
 
 pub half-tolerates : (n f : ℕ) → n ≤ nodes → f + f < n → tolerates n f ≡ true
 half-tolerates n f small half =
-    both-true (le-leb f (faults nodes) (omega arith)) (lt-ltb (f + f) n half)
+    both-true (le-leb f (mostFaults nodes) (omega arith)) (lt-ltb (f + f) n half)

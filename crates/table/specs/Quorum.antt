@@ -27,16 +27,16 @@ unfoldable pub membersIn : ℕ → ℕ → ℕ
 membersIn n m = count n (member m)
 
 -- the largest f with 2f < n, for n at least 1
-abbrev pub faults : ℕ → ℕ
-faults n = (n - 1) / 2
+abbrev pub mostFaults : ℕ → ℕ
+mostFaults n = (n - 1) / 2
 
 -- n nodes tolerate the stop of f of them: f is 0 to 7, and 2f < n
 abbrev pub tolerates : ℕ → ℕ → Bool
-tolerates n f = both (leb f (faults nodes)) (ltb (f + f) n)
+tolerates n f = both (leb f (mostFaults nodes)) (ltb (f + f) n)
 
 -- there may be a cluster of n nodes, f of which may stop
-abbrev pub isCluster : ℕ → ℕ → Bool
-isCluster n f = both (isSize n) (tolerates n f)
+abbrev pub canBe : ℕ → ℕ → Bool
+canBe n f = both (isSize n) (tolerates n f)
 
 -- k nodes of n are a quorum when at most f are missing
 abbrev pub isQuorum : ℕ → ℕ → ℕ → Bool

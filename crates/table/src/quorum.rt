@@ -9,8 +9,8 @@ ghost use lib.Dec.{leb};
 ghost use Rattle.view.specs.Size.{nodes};
 ghost use Rattle.table.specs.Loop.{all};
 ghost use Rattle.table.specs.Table.{at, heardOf};
-ghost use Rattle.table.specs.Quorum.{member, with, only, membersIn, faults, isQuorum, agreeing};
-ghost use Rattle.table.specs.Quorum.{isCluster, tolerates as Quorum·tolerates};
+ghost use Rattle.table.specs.Quorum.{member, with, only, membersIn, mostFaults, isQuorum, agreeing};
+ghost use Rattle.table.specs.Quorum.{canBe, tolerates as Quorum·tolerates};
 
 // The largest f that any cluster can have.
 const FAULTS: usize = (NODES - 1) / 2;
@@ -92,7 +92,7 @@ pub fn agreeing_nodes<'a>(
 
 // The largest f with 2f < n, for n at least 1.
 pub fn most_faults(n: usize) -> usize
-    ensures { λ r. ⌜ r ≡ faults n ⌝ }
+    ensures { λ r. ⌜ r ≡ mostFaults n ⌝ }
 {
     if n < 1 {
         return 0;
@@ -108,8 +108,8 @@ pub fn tolerates(n: usize, f: usize) -> bool
 }
 
 // Whether there may be a cluster of n nodes, f of which may stop.
-pub fn is_cluster(n: usize, f: usize) -> bool
-    ensures { λ r. ⌜ r ≡ isCluster n f ⌝ }
+pub fn can_be(n: usize, f: usize) -> bool
+    ensures { λ r. ⌜ r ≡ canBe n f ⌝ }
 {
     and(and(1 <= n, n <= NODES), tolerates(n, f))
 }

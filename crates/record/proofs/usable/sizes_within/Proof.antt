@@ -4,7 +4,7 @@ use Rattle.record.proofs.usable.sizes_within.Statement.{statement}
 use Rattle.record.proofs.usable.sizes_within.Tie as tie
 
 returns : tie.Need-returns
-returns c = simp (c .and2 .ensures, c .before .and .ensures, c .before .before .is-cluster .ensures)
+returns c = simp (c .and2 .ensures, c .before .and .ensures, c .before .before .can-be .ensures)
 
 pub sizes-within-spec : {M : Type 1} → statement M
 sizes-within-spec =
