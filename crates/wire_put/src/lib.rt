@@ -1,24 +1,31 @@
-// Writing the fields of a message at the front of a buffer: its length, or 12 where there is no room.
+// Writing the fields of a message at the front of a buffer: its length, or 12 where there is no room. A message that is
+// known to be allowed and to have room is written by `short`, which judges nothing.
 use view::Report;
+use wire::ECHO;
 use wire::FIRST;
 use wire::GOOD_HEAD;
+use wire::Message;
 use wire::READ;
 use wire::READ_ANSWER;
 use wire::SECOND;
 use wire::SECOND_HEAD;
 use wire::THIRD;
 use wire::VALUE;
+use wire::WRITE;
+use wire::WRITE_ANSWER;
 use wire::Written;
 ghost use mathlib.Core.Path.{_≡_};
+ghost use mathlib.Core.Bool.{true};
 ghost use mathlib.Core.List.{[], _∷_, _++_};
-ghost use Prim.Native.Nat.{_+_, _≤_};
+ghost use Prim.Native.Nat.{_≤_};
 ghost use lib.ListN.{length};
 ghost use lib.Dec.{leb};
 ghost use Rattle.octets.specs.Answer.{result, refused};
 ghost use Rattle.octets.specs.Test.{pick};
 ghost use Rattle.octets.specs.Bytes.{be, put};
 ghost use Rattle.view.specs.Size.{nodes, viewSize};
-ghost use Rattle.wire.specs.Layout.{field, kind, tag, request, writer, report, view, numberSize, firstAt};
+ghost use Rattle.wire.specs.Layout.{field, kind, tag, request, writer, report, view, numberSize};
+ghost use Rattle.wire.specs.Layout.{oneSize, twoSize, valueSize, encode, allowed};
 ghost use Rattle.wire.specs.Codec.{after};
 ghost use Rattle.wire.specs.Outcome.{written};
 
@@ -38,11 +45,32 @@ fn head_word(first: u8, x: u8, mark: u8) -> u64
 
 // Writes a message of two fields: its kind and a number.
 fn put_one(out: &mut [u8], k: u8, mark: u8, x: u64)
-    requires { ⌜ firstAt + numberSize ≤ length (now out) ⌝ }
+    requires { ⌜ oneSize ≤ length (now out) ⌝ }
     ensures { λ _. ⌜ now (out .exit) ≡ put (now (out .entry)) 0 (kind k ++ field mark (be numberSize x)) ⌝ }
 {
     octets::put_word(out, 0, head_word(1, k, mark));
     octets::put_word(out, FIRST, x);
+}
+
+// Writes a message of three fields: its kind, a request number and a tag.
+fn put_two(out: &mut [u8], k: u8, r: u64, t: u64)
+    requires { ⌜ twoSize ≤ length (now out) ⌝ }
+    ensures { λ _. ⌜ now (out .exit) ≡ put (now (out .entry)) 0 (kind k ++ request r ++ tag t) ⌝ }
+{
+    put_one(out, k, 2, r);
+    octets::put_word(out, SECOND_HEAD, TAG_HEAD);
+    octets::put_word(out, SECOND, t);
+}
+
+// Writes a value: its tag, its writer and its report.
+fn put_value(out: &mut [u8], t: u64, w: u8, p: Report)
+    requires { ⌜ valueSize ≤ length (now out) ⌝ }
+    ensures { λ _. ⌜ now (out .exit) ≡ put (now (out .entry)) 0 (kind 6 ++ tag t ++ writer w ++ report p) ⌝ }
+{
+    put_one(out, 6, 3, t);
+    octets::put_word(out, SECOND_HEAD, head_word(4, w, 5));
+    let d = view::report_bytes(p);
+    octets::put_bytes(out, THIRD, &d);
 }
 
 pub fn one(out: &mut [u8], k: u8, mark: u8, x: u64) -> Written
@@ -64,9 +92,7 @@ pub fn two(out: &mut [u8], k: u8, r: u64, t: u64) -> Written
         × (now (out .exit) ≡ after (written w) (kind k ++ request r ++ tag t) (now (out .entry))) ⌝ }
 {
     if READ_ANSWER <= out.len() {
-        put_one(out, k, 2, r);
-        octets::put_word(out, SECOND_HEAD, TAG_HEAD);
-        octets::put_word(out, SECOND, t);
+        put_two(out, k, r, t);
         Written::Length(READ_ANSWER)
     } else {
         Written::Refused(12)
@@ -80,10 +106,7 @@ pub fn value(out: &mut [u8], t: u64, w: u8, p: Report) -> Written
         × (now (out .exit) ≡ after (written r) (kind 6 ++ tag t ++ writer w ++ report p) (now (out .entry))) ⌝ }
 {
     if VALUE <= out.len() {
-        put_one(out, 6, 3, t);
-        octets::put_word(out, SECOND_HEAD, head_word(4, w, 5));
-        let d = view::report_bytes(p);
-        octets::put_bytes(out, THIRD, &d);
+        put_value(out, t, w, p);
         Written::Length(VALUE)
     } else {
         Written::Refused(12)
@@ -106,5 +129,45 @@ pub fn good(out: &mut [u8], t: u64, v: &[u8]) -> Written
         Written::Length(GOOD_HEAD + len)
     } else {
         Written::Refused(12)
+    }
+}
+
+// Writes a message that carries no view and is known to be allowed, where there is room for it, and answers its length.
+// It judges nothing. A good one lacks its view here, so it is not allowed.
+pub fn short(m: Message, out: &mut [u8]) -> usize
+    requires { ⌜ (allowed nodes m [] ≡ true) × (length (encode m []) ≤ length (now out)) ⌝ }
+    ensures { λ r. ⌜ (r ≡ length (encode m []))
+        × (now (out .exit) ≡ put (now (out .entry)) 0 (encode m [])) ⌝ }
+{
+    match m {
+        Message::Read { request } => {
+            put_one(out, 1, 2, request);
+            READ
+        }
+        Message::ReadAnswer { request, tag } => {
+            put_two(out, 2, request, tag);
+            READ_ANSWER
+        }
+        Message::Write { request, tag } => {
+            put_two(out, 3, request, tag);
+            WRITE
+        }
+        Message::WriteAnswer { request, tag } => {
+            put_two(out, 4, request, tag);
+            WRITE_ANSWER
+        }
+        Message::Echo { tag } => {
+            put_one(out, 5, 3, tag);
+            ECHO
+        }
+        Message::Value {
+            tag,
+            writer,
+            report,
+        } => {
+            put_value(out, tag, writer as u8, report);
+            VALUE
+        }
+        Message::Good { tag: _ } => 0,
     }
 }
