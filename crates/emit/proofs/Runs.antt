@@ -6,13 +6,13 @@ use Prim.Native.Nat.{ℕ, _+_, _-_, _*_, _≤_}
 use native.Mathlib.Nat.{add-zero, add-assoc}
 use native.Mathlib.Omega.{arith}
 use lib.ListN.{length, take, drop, length-append, length-take, length-drop}
-use lib.Seq.{length-take-le, take-at}
+use lib.Seq.{length-take-le, take-all, take-at}
 use borrow.Author.Tests.{le-leb}
 use Rattle.octets.specs.Answer.{Answer, result, refused}
 use Rattle.octets.specs.Bytes.{put}
 use Rattle.octets.proofs.Lent.{lent-back}
 use Rattle.octets.proofs.Put.{length-put, put-inside, put-nil, put-over, put-then}
-use Rattle.octets.proofs.Test.{both-true}
+use Rattle.octets.proofs.Test.{both-true, true-false}
 use Rattle.view.specs.Size.{nodes, isSize}
 use Rattle.view.specs.View.{viewBytes}
 use Rattle.view.specs.declared.View.{View}
@@ -22,7 +22,7 @@ use Rattle.wire.specs.Codec.{answer, after, isGood}
 use Rattle.wire.specs.Outcome.{written}
 use Rattle.wire.specs.declared.Written.{Written}
 use Rattle.wire.specs.declared.Written.the-variants.{Length, Refused as NotWritten}
-use Rattle.wire.specs.Layout.{encode, allowed}
+use Rattle.wire.specs.Layout.{encode, allowed, valueSize}
 use Rattle.wire.specs.declared.Message.{Message}
 use Rattle.wire.specs.declared.Message.the-variants.{Read, ReadAnswer, Write, WriteAnswer, Echo, Value, Good}
 use Rattle.wire.proofs.Numbers.{length-encode}
@@ -33,6 +33,7 @@ use Rattle.step.specs.declared.Sent.{Sent}
 use Rattle.step.specs.declared.Sent.the-variants.{Nothing, One, Two}
 use Rattle.step.proofs.Allowed.{lawful-allowed}
 use Rattle.calls.specs.Bytes.{run}
+use Rattle.emit.specs.Forward.{isForward, Received}
 use Rattle.emit.specs.Good.{anyGood}
 use Rattle.emit.specs.Room.{AllAllowed, Room}
 
@@ -70,10 +71,9 @@ pub allowed-right : (n : ℕ) (v : List ℕ) (a b : List Message) → AllAllowed
 allowed-right n v [] b h = h
 allowed-right n v (m ∷ a) b h = allowed-right n v a b (h .1)
 
--- ---- one message written into the buffer from a place on
+-- ---- bytes e written into the buffer o from a place on
 
-module _ (n : ℕ) (m : Message) (v o : List ℕ) (at : ℕ) (s : isSize n ≡ true) (h : allowed n m v ≡ true)
-    (k : at + length (encode m v) ≤ length o) where
+module _ (o e : List ℕ) (at : ℕ) (k : at + length e ≤ length o) where
   -- the part that is lent
   abbrev rest : List ℕ
   rest = take (length o - at) (drop at o)
@@ -81,23 +81,35 @@ module _ (n : ℕ) (m : Message) (v o : List ℕ) (at : ℕ) (s : isSize n ≡ t
   rest-length : length rest ≡ length o - at
   rest-length = simp (length-take, length-drop) (omega arith)
 
-  written-is : answer n m v (length rest) ≡ result (length (encode m v))
-  unfolding answer
-  written-is = rw (s, h, rest-length, le-leb (length (encode m v)) (length o - at) (omega arith))
+  pub rest-room : length e ≤ length rest
+  rest-room = rw rest-length (omega arith)
 
-  pub emitted : (r : Written) (t : List ℕ) → written r ≡ answer n m v (length rest) → t
-      ≡ after (written r) (encode m v) rest
+  pub rest-put : (t : List ℕ) → t ≡ put rest 0 e → take at o ++ (t ++ drop (length o - at) (drop at o)) ≡ put o at e
+  rest-put t p =
+      let l : length t ≡ length rest = ap (λ (x : List ℕ). length x) p ∙ length-put rest 0 e (omega (arith, rest-room)) in
+      lent-back o at (length o - at) (λ (x : List ℕ). put x 0 e) (omega arith) (omega arith) l p
+      ∙ sym (put-inside o at (length o - at) 0 e (omega arith) (omega arith))
+      ∙ ap (λ (x : ℕ). put o x e) (add-zero at)
+
+-- one message
+module _ (n : ℕ) (m : Message) (v o : List ℕ) (at : ℕ) (s : isSize n ≡ true) (h : allowed n m v ≡ true)
+    (k : at + length (encode m v) ≤ length o) where
+  abbrev room : ℕ
+  room = length (take (length o - at) (drop at o))
+
+  written-is : answer n m v room ≡ result (length (encode m v))
+  unfolding answer
+  written-is = rw (s, h, le-leb (length (encode m v)) room (rest-room o (encode m v) at k))
+
+  pub emitted : (r : Written) (t : List ℕ) → written r ≡ answer n m v room
+      → t ≡ after (written r) (encode m v) (take (length o - at) (drop at o))
       → (written r ≡ result (length (encode m v)))
       × (take at o ++ (t ++ drop (length o - at) (drop at o)) ≡ put o at (encode m v))
   emitted r t e q =
-      let w : written r ≡ result (length (encode m v)) = e ∙ written-is in
-      let p : t ≡ put rest 0 (encode m v) = q ∙ ap (λ (x : Answer ℕ). after x (encode m v) rest) w in
-      let l : length t ≡ length rest =
-      ap (λ (x : List ℕ). length x) p ∙ length-put rest 0 (encode m v) (rw rest-length (omega arith)) in (
+      let w : written r ≡ result (length (encode m v)) = e ∙ written-is in (
         w,
-        lent-back o at (length o - at) (λ (x : List ℕ). put x 0 (encode m v)) (omega arith) (omega arith) l p
-            ∙ sym (put-inside o at (length o - at) 0 (encode m v) (omega arith) (omega arith))
-            ∙ ap (λ (x : ℕ). put o x (encode m v)) (add-zero at),
+        rest-put o (encode m v) at k t
+            (q ∙ ap (λ (x : Answer ℕ). after x (encode m v) (take (length o - at) (drop at o))) w),
       )
 
 -- the length that is answered, where one is
@@ -176,7 +188,7 @@ module _ (n : ℕ) (v : List ℕ) (a b d : List Message) (room : ℕ) (h : Room 
         enough = omega (arith, all-long);
       }
 
-  module _ (i : ℕ) (p : i ≡ 0 + length (run v a)) where
+  module _ (i : ℕ) (p : i ≡ length (run v a)) where
     pub room-second : Room n v b i room
     room-second =
         record {
@@ -203,7 +215,8 @@ module _ (n : ℕ) (v : List ℕ) (a b d : List Message) (room : ℕ) (h : Room 
       three-put o t u w e f g =
           put-then o 0 (run v a ++ run v b) (run v d) j (omega arith)
           (let z : 0 + length (run v a ++ run v b) ≡ j = omega (arith, length-append (run v a) (run v b)) in z)
-          (put-then o 0 (run v a) (run v b) i (omega arith) (sym p) e f) g
+          (put-then o 0 (run v a) (run v b) i (omega arith)
+          (let z : 0 + length (run v a) ≡ i = omega arith in z) e f) g
           ∙ ap (λ (x : List ℕ). put o 0 x) (sym all-run)
 
 -- ---- the view's bytes at the front of an array z of 256, whose first 16n were lent and came back as t
@@ -309,3 +322,32 @@ module _ (n : ℕ) (v w : List ℕ) where
 pub handler-alone : (o : Outbox) → o .reading ≡ Nothing → o .comparing ≡ Nothing → messages o ≡ listed (o .handler)
 handler-alone o p q =
     rw (p, q) (append-nil (listed (o .handler) ++ []) ∙ append-nil (listed (o .handler)))
+
+-- ---- a value that is forwarded
+
+-- its bytes, beside any view, and their length
+forward-bytes : (m : Sent) (v : List ℕ) → isForward m ≡ true
+    → (run [] (listed m) ≡ run v (listed m)) × (length (run [] (listed m)) ≡ valueSize)
+unfolding run encode
+forward-bytes Nothing v h = true-false false h refl
+forward-bytes (One (Read q)) v h = true-false false h refl
+forward-bytes (One (ReadAnswer q t)) v h = true-false false h refl
+forward-bytes (One (Write q t)) v h = true-false false h refl
+forward-bytes (One (WriteAnswer q t)) v h = true-false false h refl
+forward-bytes (One (Echo t)) v h = true-false false h refl
+forward-bytes (One (Value t w p)) v h = (refl, refl)
+forward-bytes (One (Good t)) v h = true-false false h refl
+forward-bytes (Two a b) v h = true-false false h refl
+
+module _ (m : Sent) (b v : List ℕ) (h : isForward m ≡ true) (r : Received m b) where
+  pub forward-long : length (run v (listed m)) ≡ valueSize
+  forward-long = ap (λ (x : List ℕ). length x) (sym (forward-bytes m v h .0)) ∙ forward-bytes m v h .1
+
+  pub forward-length : length b ≡ valueSize
+  forward-length = ap (λ (x : List ℕ). length x) (r h) ∙ forward-bytes m v h .1
+
+  pub forward-run : take valueSize b ≡ run v (listed m)
+  forward-run = take-all valueSize b (omega (arith, forward-length)) ∙ r h ∙ forward-bytes m v h .0
+
+  pub forward-room : (n room : ℕ) → Room n v (listed m) 0 room → valueSize ≤ room
+  forward-room n room k = omega (arith, forward-long, k .enough)

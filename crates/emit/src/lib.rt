@@ -1,4 +1,6 @@
-// Writing what a step sends into an output buffer: each message once, in order, from the buffer's start.
+// Writing what a step sends into an output buffer: each message once, in order, from the buffer's start. A value that a
+// handler forwards is the one that came, and its bytes are copied as they came.
+use octets::put_bytes;
 use step::Outbox;
 use step::Sent;
 use table::or;
@@ -6,10 +8,11 @@ use view::ENTRY;
 use view::VIEW;
 use view::write_view;
 use wire::Message;
+use wire::VALUE;
 use wire::Written;
 use wire_parse::views::is_good;
+use wire_put::short;
 use wire_write::write_good;
-use wire_write::write_short;
 ghost use mathlib.Core.Path.{_≡_};
 ghost use mathlib.Core.Bool.{true, false};
 ghost use mathlib.Core.List.{[], _++_};
@@ -25,17 +28,16 @@ ghost use Rattle.step.specs.Step.{listed, messages};
 ghost use Rattle.calls.specs.Bytes.{run, outBytes};
 ghost use Rattle.emit.specs.Room.{Room};
 ghost use Rattle.emit.specs.Good.{anyGood};
+ghost use Rattle.emit.specs.Forward.{isValue, isForward, Received};
 
 // Writes a message that is not good at a place, and answers the place after it.
-fn emit_short(n: usize, m: Message, out: &mut [u8], at: usize) -> usize
-    requires { ⌜ (isSize n ≡ true) × (allowed n m [] ≡ true) × (at + length (encode m []) ≤ length (now out)) ⌝ }
+fn emit_short(m: Message, out: &mut [u8], at: usize) -> usize
+    requires { ⌜ (allowed nodes m [] ≡ true) × (at + length (encode m []) ≤ length (now out)) ⌝ }
     ensures { λ r. ⌜ (r ≡ at + length (encode m []))
         × (now (out .exit) ≡ put (now (out .entry)) at (encode m [])) ⌝ }
 {
-    match write_short(n, m, &mut out[at..]) {
-        Written::Length(k) => at + k,
-        Written::Refused(_) => at,
-    }
+    let k = short(m, &mut out[at..]);
+    at + k
 }
 
 // Writes a good message with its view, likewise.
@@ -60,7 +62,7 @@ fn emit_one(n: usize, m: Message, v: &[u8], out: &mut [u8], at: usize) -> usize
 {
     match m {
         Message::Good { tag } => emit_good(n, tag, v, out, at),
-        _ => emit_short(n, m, out, at),
+        _ => emit_short(m, out, at),
     }
 }
 
@@ -80,28 +82,72 @@ fn emit_sent(n: usize, m: Sent, v: &[u8], out: &mut [u8], at: usize) -> usize
     }
 }
 
-// Writes the three parts of a step, one after the other, and answers how many bytes they have; v is the bytes of its
-// view.
+fn is_value(m: Message) -> bool
+    ensures { λ r. ⌜ r ≡ isValue m ⌝ }
+{
+    match m {
+        Message::Read { request: _ } => false,
+        Message::ReadAnswer { request: _, tag: _ } => false,
+        Message::Write { request: _, tag: _ } => false,
+        Message::WriteAnswer { request: _, tag: _ } => false,
+        Message::Echo { tag: _ } => false,
+        Message::Value {
+            tag: _,
+            writer: _,
+            report: _,
+        } => true,
+        Message::Good { tag: _ } => false,
+    }
+}
+
+// Whether a part of a step is one value alone.
+fn is_forward(m: Sent) -> bool
+    ensures { λ r. ⌜ r ≡ isForward m ⌝ }
+{
+    match m {
+        Sent::Nothing => false,
+        Sent::One(a) => is_value(a),
+        Sent::Two(_, _) => false,
+    }
+}
+
+// Writes what a handler sends, at the start. b is the bytes of the message that it handled: a value is copied from them.
+fn emit_first(n: usize, m: Sent, b: &[u8], v: &[u8], out: &mut [u8]) -> usize
+    requires { ⌜ Received m (now b) × Room n (now v) (listed m) 0 (length (now out)) ⌝ }
+    ensures { λ r. ⌜ (r ≡ length (run (now (v .entry)) (listed m)))
+        × (now (out .exit) ≡ put (now (out .entry)) 0 (run (now (v .entry)) (listed m))) ⌝ }
+{
+    if is_forward(m) {
+        put_bytes(out, 0, &b[..VALUE]);
+        return VALUE;
+    }
+    emit_sent(n, m, v, out, 0)
+}
+
+// Writes the three parts of a step, one after the other, and answers how many bytes they have; b is the bytes of the
+// message that was handled, v those of the step's view.
 fn emit_parts(
     n: usize,
     handler: Sent,
     reading: Sent,
     comparing: Sent,
+    b: &[u8],
     v: &[u8],
     out: &mut [u8],
 ) -> usize
-    requires { ⌜ Room n (now v) (listed handler ++ listed reading ++ listed comparing) 0 (length (now out)) ⌝ }
+    requires { ⌜ Received handler (now b)
+        × Room n (now v) (listed handler ++ listed reading ++ listed comparing) 0 (length (now out)) ⌝ }
     ensures { λ r. ⌜ (r ≡ length (run (now (v .entry)) (listed handler ++ listed reading ++ listed comparing)))
         × (now (out .exit)
         ≡ put (now (out .entry)) 0 (run (now (v .entry)) (listed handler ++ listed reading ++ listed comparing))) ⌝ }
 {
-    let first = emit_sent(n, handler, v, out, 0);
+    let first = emit_first(n, handler, b, v, out);
     let second = emit_sent(n, reading, v, out, first);
     emit_sent(n, comparing, v, out, second)
 }
 
-// Writes the messages of a begin, or of a handler after which nothing is sent. None is good, so there is no view.
-pub fn emit_handler(n: usize, m: Sent, out: &mut [u8]) -> usize
+// Writes the messages of a begin. None is good, so there is no view.
+pub fn emit_begin(n: usize, m: Sent, out: &mut [u8]) -> usize
     requires { ⌜ (1 ≤ n) × (n ≤ nodes) × (anyGood (listed m) ≡ false) × AllLawful n noView (listed m)
         × (sizes n (listed m) ≤ length (now out)) ⌝ }
     ensures { λ r. ⌜ (r ≡ length (run (viewBytes n noView) (listed m)))
@@ -109,6 +155,17 @@ pub fn emit_handler(n: usize, m: Sent, out: &mut [u8]) -> usize
 {
     let none = [0u8; 1];
     emit_sent(n, m, &none[..0], out, 0)
+}
+
+// Writes the messages of a handler after which nothing is sent, likewise; b is the bytes of the message that it handled.
+pub fn emit_handler(n: usize, m: Sent, b: &[u8], out: &mut [u8]) -> usize
+    requires { ⌜ Received m (now b) × (1 ≤ n) × (n ≤ nodes) × (anyGood (listed m) ≡ false)
+        × AllLawful n noView (listed m) × (sizes n (listed m) ≤ length (now out)) ⌝ }
+    ensures { λ r. ⌜ (r ≡ length (run (viewBytes n noView) (listed m)))
+        × (now (out .exit) ≡ put (now (out .entry)) 0 (run (viewBytes n noView) (listed m))) ⌝ }
+{
+    let none = [0u8; 1];
+    emit_first(n, m, b, &none[..0], out)
 }
 
 // Whether a part of a step holds a good message.
@@ -123,8 +180,8 @@ fn holds_good(m: Sent) -> bool
 }
 
 // Writes what a step sends, with the bytes of its view.
-fn emit_held(n: usize, o: Outbox, out: &mut [u8]) -> usize
-    requires { ⌜ (1 ≤ n) × (n ≤ nodes) × AllLawful n (o .view) (messages o)
+fn emit_held(n: usize, o: Outbox, b: &[u8], out: &mut [u8]) -> usize
+    requires { ⌜ Received (o .handler) (now b) × (1 ≤ n) × (n ≤ nodes) × AllLawful n (o .view) (messages o)
         × (sizes n (messages o) ≤ length (now out)) ⌝ }
     ensures { λ r. ⌜ (r ≡ length (outBytes n o)) × (now (out .exit) ≡ put (now (out .entry)) 0 (outBytes n o)) ⌝ }
 {
@@ -134,13 +191,13 @@ fn emit_held(n: usize, o: Outbox, out: &mut [u8]) -> usize
     let handler = o.handler;
     let reading = o.reading;
     let comparing = o.comparing;
-    emit_parts(n, handler, reading, comparing, &view[..size], out)
+    emit_parts(n, handler, reading, comparing, b, &view[..size], out)
 }
 
-// Writes what a whole step sends, and answers how many bytes it has. The bytes of the view are made for a good message
-// alone.
-pub fn emit_all(n: usize, o: Outbox, out: &mut [u8]) -> usize
-    requires { ⌜ (1 ≤ n) × (n ≤ nodes) × AllLawful n (o .view) (messages o)
+// Writes what a whole step sends, and answers how many bytes it has; b is the bytes of the message that was handled. The
+// bytes of the view are made for a good message alone.
+pub fn emit_all(n: usize, o: Outbox, b: &[u8], out: &mut [u8]) -> usize
+    requires { ⌜ Received (o .handler) (now b) × (1 ≤ n) × (n ≤ nodes) × AllLawful n (o .view) (messages o)
         × (sizes n (messages o) ≤ length (now out)) ⌝ }
     ensures { λ r. ⌜ (r ≡ length (outBytes n o)) × (now (out .exit) ≡ put (now (out .entry)) 0 (outBytes n o)) ⌝ }
 {
@@ -151,8 +208,8 @@ pub fn emit_all(n: usize, o: Outbox, out: &mut [u8]) -> usize
         or(holds_good(handler), holds_good(reading)),
         holds_good(comparing),
     ) {
-        return emit_held(n, o, out);
+        return emit_held(n, o, b, out);
     }
     let none = [0u8; 1];
-    emit_parts(n, handler, reading, comparing, &none[..0], out)
+    emit_parts(n, handler, reading, comparing, b, &none[..0], out)
 }

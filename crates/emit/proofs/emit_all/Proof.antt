@@ -20,13 +20,15 @@ emit-parts-requires c κs =
     let c5 = c4 .before in
     let c6 = c5 .before in
     let c7 = c6 .before in
-    let c9 = c7 .before .before in
-    let a = c9 .args in
-    let p = c9 .pre in
+    let c10 = c7 .before .before .before in
+    let a = c10 .args in
+    let p = c10 .pre in
     let none = no-good (a .o) (sym (c3 .or2 .ensures ∙ ap₂ either (c5 .or .ensures ∙ ap₂ either
-    (c7 .holds-good .ensures) (c6 .holds-good2 .ensures)) (c4 .holds-good3 .ensures)) ∙ c2 .if1 .left) in
-    room-alike (a .n) (viewBytes (a .n) (a .o .view)) [] (messages (a .o)) 0 _ none
-    (room-of (a .n) (a .o .view) _ (messages (a .o)) _ refl (p .0) (p .1) (p .2) (p .3))
+    (c7 .holds-good .ensures) (c6 .holds-good2 .ensures)) (c4 .holds-good3 .ensures)) ∙ c2 .if1 .left) in (
+      p .0,
+      room-alike (a .n) (viewBytes (a .n) (a .o .view)) [] (messages (a .o)) 0 _ none
+          (room-of (a .n) (a .o .view) _ (messages (a .o)) _ refl (p .1) (p .2) (p .3) (p .4)),
+    )
 
 returns-2 : tie.Need-returns-2
 returns-2 c =
@@ -37,8 +39,8 @@ returns-2 c =
     let c8 = c7 .before in
     let c9 = c8 .before in
     let c10 = c9 .before in
-    let c12 = c10 .before .before in
-    let a = c12 .args in
+    let c13 = c10 .before .before .before in
+    let a = c13 .args in
     let none = no-good (a .o) (sym (c6 .or2 .ensures ∙ ap₂ either (c8 .or .ensures ∙ ap₂ either
     (c10 .holds-good .ensures) (c9 .holds-good2 .ensures)) (c7 .holds-good3 .ensures)) ∙ c5 .if1 .left) in
     let alike = runs-alike (a .n) [] (viewBytes (a .n) (a .o .view)) (messages (a .o)) none in (

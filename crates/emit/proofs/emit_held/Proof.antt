@@ -13,42 +13,48 @@ use Rattle.emit.proofs.emit_held.Statement.{statement}
 use Rattle.emit.proofs.emit_held.Tie as tie
 
 slice-aggregate-write-view : tie.Need-slice-aggregate-write-view
-slice-aggregate-write-view c = front-length (c .before .before .args .n) _ refl (c .before .before .pre .1)
+slice-aggregate-write-view c =
+    let c3 = c .before .before .before in
+    front-length (c3 .args .n) _ refl (c3 .pre .2)
 
 write-view-requires : tie.Need-write-view-requires
 write-view-requires c κs =
-    let p = c .before .before .pre in
-    (p .1, le-of-eq (front-length (c .before .before .args .n) _ refl (p .1)))
+    let c3 = c .before .before .before in
+    let p = c3 .pre in
+    (p .2, le-of-eq (front-length (c3 .args .n) _ refl (p .2)))
 
 array-share-prefix-view : tie.Need-array-share-prefix-view
 array-share-prefix-view c =
+    let c5 = c .before .before .before .before .before in
     let w = c .before .write-view in
-    front-most (c .before .before .before .before .args .n) _ refl (c .before .before .before .before .pre .1)
-    (w .last .1 .1 .0) (w .kept .1 .1 .0)
+    front-most (c5 .args .n) _ refl (c5 .pre .2) (w .last .1 .1 .0) (w .kept .1 .1 .0)
 
 slice-aggregate-emit-parts : tie.Need-slice-aggregate-emit-parts
 slice-aggregate-emit-parts c =
-    let c5 = c .before .before .before .before .before in
+    let c6 = c .before .before .before .before .before .before in
     let w = c .before .before .write-view in
-    again-length (c5 .args .n) _ refl (c5 .pre .1) (w .last .1 .1 .0) (w .kept .1 .1 .0)
+    again-length (c6 .args .n) _ refl (c6 .pre .2) (w .last .1 .1 .0) (w .kept .1 .1 .0)
 
 emit-parts-requires : tie.Need-emit-parts-requires
 emit-parts-requires c κs =
-    let c6 = c .before .before .before .before .before .before in
-    let a = c6 .args in
-    let p = c6 .pre in
-    let w = c .before .before .before .write-view in
-    room-of (a .n) (a .o .view) _ (messages (a .o)) _
-    (front-is (a .n) _ refl (p .1) (w .last .1 .1 .0) (w .kept .1 .1 .0) (a .o .view) (w .ensures))
-    (p .0) (p .1) (p .2) (p .3)
+    let c7 = c .before .before .before .before .before .before .before in
+    let a = c7 .args in
+    let p = c7 .pre in
+    let w = c .before .before .before .write-view in (
+      p .0,
+      room-of (a .n) (a .o .view) _ (messages (a .o)) _
+          (front-is (a .n) _ refl (p .2) (w .last .1 .1 .0) (w .kept .1 .1 .0) (a .o .view) (w .ensures))
+          (p .1) (p .2) (p .3) (p .4),
+    )
 
 returns : tie.Need-returns
 returns c =
     let c6 = c .before .before .before .before .before .before in
-    let a = c6 .before .before .before .args in
-    let p = c6 .before .before .before .pre in
+    let c10 = c6 .before .before .before .before in
+    let a = c10 .args in
+    let p = c10 .pre in
     let w = c6 .write-view in
-    let view = front-is (a .n) _ refl (p .1) (w .last .1 .1 .0) (w .kept .1 .1 .0) (a .o .view) (w .ensures) in (
+    let view = front-is (a .n) _ refl (p .2) (w .last .1 .1 .0) (w .kept .1 .1 .0) (a .o .view) (w .ensures) in (
       c .before .before .emit-parts .ensures .0 ∙ ap (λ (v : List ℕ). length (run v (messages (a .o)))) view,
       c .before .before .emit-parts .ensures .1 ∙ ap (λ (v : List ℕ). put (a .out .now) 0 (run v (messages (a .o))))
           view,

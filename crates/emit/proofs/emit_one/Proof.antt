@@ -6,6 +6,7 @@ use Prim.Native.Nat.{ℕ, _+_, _≤_}
 use lib.ListN.{length}
 use Rattle.octets.specs.Bytes.{put}
 use Rattle.wire.proofs.Short.{not-good}
+use Rattle.wire_put.proofs.Allowed.{allowed-short}
 use Rattle.emit.proofs.Runs.{any-view}
 use Rattle.emit.proofs.emit_one.Statement.{statement}
 use Rattle.emit.proofs.emit_one.Tie as tie
@@ -21,7 +22,7 @@ emit-short-requires c κs =
     let a = c .before .before .before .before .args in
     let p = c .before .before .before .before .pre in
     let x = any-view (a .n) (a .m) (a .v .now) [] (not-good (a .m) (c .before .match .keys2)) in
-    (p .0, sym (x .1) ∙ p .1, subst (λ (e : List ℕ). a .at + length e ≤ length (a .out .now)) (x .0) (p .2))
+    (allowed-short (a .n) (a .m) (p .0) (sym (x .1) ∙ p .1), subst (λ (e : List ℕ). a .at + length e ≤ length (a .out .now)) (x .0) (p .2))
 
 returns : tie.Need-returns
 returns c = rw (c .before .before .before .before .before .m .given .1) (c .before .before .emit-good .ensures)

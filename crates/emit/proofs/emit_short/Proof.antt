@@ -1,45 +1,24 @@
 -- `emit::emit_short` meets its contract. Assumes nothing.
 use borrow.Author.Needs.{needs}
 use mathlib.Core.Path.{ap}
-use Prim.Native.Nat.{ℕ, _+_}
 use mathlib.Core.List.{[]}
-use native.Mathlib.Omega.{arith}
-use Rattle.emit.proofs.Runs.{emitted, answered-length, not-refused}
+use Prim.Native.Nat.{ℕ, _+_}
+use Rattle.wire.specs.Layout.{encode}
+use Rattle.emit.proofs.Runs.{rest-put}
 use Rattle.emit.proofs.emit_short.Statement.{statement}
 use Rattle.emit.proofs.emit_short.Tie as tie
-
-add-result : tie.Need-add-result
-add-result c =
-    let c5 = c .before .before .before .before .before in
-    let a = c5 .before .before .before .args in
-    let p = c5 .before .before .before .pre in
-    let w = c5 .write-short in
-    let law = emitted (a .n) (a .m) [] (a .out .now) (a .at) (p .0) (p .1) (p .2) (w .result)
-    (w .last .1 .1 .0) (w .ensures .0) (w .ensures .1) in
-    omega (arith, answered-length (w .result) _ _ (c .before .k .given .1) (law .0), p .2)
 
 returns : tie.Need-returns
 returns c =
     let c5 = c .before .before .before .before .before in
-    let a = c5 .before .before .before .args in
-    let p = c5 .before .before .before .pre in
-    let w = c5 .write-short in
-    let law = emitted (a .n) (a .m) [] (a .out .now) (a .at) (p .0) (p .1) (p .2) (w .result)
-    (w .last .1 .1 .0) (w .ensures .0) (w .ensures .1) in
-    (ap (λ (k : ℕ). a .at + k) (answered-length (w .result) _ _ (c .before .k .given .1) (law .0)), law .1)
-
-returns-2 : tie.Need-returns-2
-returns-2 c =
-    let c7 = c .before .before .before .before .before .before .before in
-    let a = c7 .args in
-    let p = c7 .pre in
-    let w = c .before .before .before .before .write-short in
-    let law = emitted (a .n) (a .m) [] (a .out .now) (a .at) (p .0) (p .1) (p .2) (w .result)
-    (w .last .1 .1 .0) (w .ensures .0) (w .ensures .1) in
-    not-refused (w .result) _ _ (c .enum-told .given .1) (law .0)
+    let a = c5 .args in
+    let w = c .before .before .short in (
+      ap (λ (k : ℕ). a .at + k) (w .ensures .0),
+      rest-put (a .out .now) (encode (a .m) []) (a .at) (c5 .pre .1) (w .last .1 .0) (w .ensures .1),
+    )
 
 pub emit-short-spec : {M : Type 1} → statement M
 emit-short-spec =
     tie.close
     (tie.spec (λ c. search needs) (λ c. search needs) (λ c. search needs) (λ c κs. search needs) (λ c. search needs)
-    add-result (λ c. search needs) (λ c. search needs) returns (λ c. search needs) returns-2)
+    (λ c. search needs) returns)
