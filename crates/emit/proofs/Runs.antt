@@ -86,7 +86,8 @@ module _ (o e : List ℕ) (at : ℕ) (k : at + length e ≤ length o) where
 
   pub rest-put : (t : List ℕ) → t ≡ put rest 0 e → take at o ++ (t ++ drop (length o - at) (drop at o)) ≡ put o at e
   rest-put t p =
-      let l : length t ≡ length rest = ap (λ (x : List ℕ). length x) p ∙ length-put rest 0 e (omega (arith, rest-room)) in
+      let l : length t ≡ length rest =
+      ap (λ (x : List ℕ). length x) p ∙ length-put rest 0 e (omega (arith, rest-room)) in
       lent-back o at (length o - at) (λ (x : List ℕ). put x 0 e) (omega arith) (omega arith) l p
       ∙ sym (put-inside o at (length o - at) 0 e (omega arith) (omega arith))
       ∙ ap (λ (x : ℕ). put o x e) (add-zero at)

@@ -111,7 +111,7 @@ fn is_forward(m: Sent) -> bool
     }
 }
 
-// Writes what a handler sends, at the start. b is the bytes of the message that it handled: a value is copied from them.
+// Writes what a handler sends, at the start. b is the bytes of the message that it handled; a value is copied from it.
 fn emit_first(n: usize, m: Sent, b: &[u8], v: &[u8], out: &mut [u8]) -> usize
     requires { ⌜ Received m (now b) × Room n (now v) (listed m) 0 (length (now out)) ⌝ }
     ensures { λ r. ⌜ (r ≡ length (run (now (v .entry)) (listed m)))
@@ -157,7 +157,7 @@ pub fn emit_begin(n: usize, m: Sent, out: &mut [u8]) -> usize
     emit_sent(n, m, &none[..0], out, 0)
 }
 
-// Writes the messages of a handler after which nothing is sent, likewise; b is the bytes of the message that it handled.
+// Writes the messages of a handler after which nothing is sent, likewise; b is the bytes of the message it handled.
 pub fn emit_handler(n: usize, m: Sent, b: &[u8], out: &mut [u8]) -> usize
     requires { ⌜ Received m (now b) × (1 ≤ n) × (n ≤ nodes) × (anyGood (listed m) ≡ false)
         × AllLawful n noView (listed m) × (sizes n (listed m) ≤ length (now out)) ⌝ }
@@ -194,8 +194,8 @@ fn emit_held(n: usize, o: Outbox, b: &[u8], out: &mut [u8]) -> usize
     emit_parts(n, handler, reading, comparing, b, &view[..size], out)
 }
 
-// Writes what a whole step sends, and answers how many bytes it has; b is the bytes of the message that was handled. The
-// bytes of the view are made for a good message alone.
+// Writes what a whole step sends, and answers how many bytes it has; b is the bytes of the message that was handled.
+// The bytes of the view are made for a good message alone.
 pub fn emit_all(n: usize, o: Outbox, b: &[u8], out: &mut [u8]) -> usize
     requires { ⌜ Received (o .handler) (now b) × (1 ≤ n) × (n ≤ nodes) × AllLawful n (o .view) (messages o)
         × (sizes n (messages o) ≤ length (now out)) ⌝ }

@@ -16,6 +16,7 @@ ghost use Rattle.step.specs.Claims.{AllLawful, sizes};
 ghost use Rattle.step.specs.Step.{messages};
 ghost use Rattle.step.specs.Told.{told, toldView};
 ghost use Rattle.calls.specs.Entry.{refuse, letOut};
+ghost use Rattle.emit.specs.Forward.{Received};
 ghost use Rattle.reply.specs.Tells.{toldBy, tells};
 
 // What a call says: a refusal's number, that nothing has ended, or how the operation ended (document 01: done, scan,
@@ -70,16 +71,16 @@ fn view_shown(e: Ending, v: View) -> View
     }
 }
 
-// Writes what a step sends and answers with the rest of it.
-pub fn let_out(s: Step, out: &mut [u8]) -> Reply
-    requires { ⌜ (1 ≤ s .node .n) × (s .node .n ≤ nodes)
+// Writes what a step sends and answers with the rest of it; b is the bytes of the message that was handled.
+pub fn let_out(s: Step, b: &[u8], out: &mut [u8]) -> Reply
+    requires { ⌜ Received (s .outbox .handler) (now b) × (1 ≤ s .node .n) × (s .node .n ≤ nodes)
         × AllLawful (s .node .n) (s .outbox .view) (messages (s .outbox))
         × (sizes (s .node .n) (messages (s .outbox)) ≤ length (now out)) ⌝ }
     ensures { λ r. ⌜ tells r (now (out .exit)) (letOut s (now (out .entry))) ⌝ }
 {
     let c = s.node;
     let o = s.outbox;
-    let written = emit_all(c.n, o, out);
+    let written = emit_all(c.n, o, b, out);
     let e = s.ending;
     Reply {
         said: said_of(e),

@@ -21,8 +21,10 @@ emit-short-requires : tie.Need-emit-short-requires
 emit-short-requires c κs =
     let a = c .before .before .before .before .args in
     let p = c .before .before .before .before .pre in
-    let x = any-view (a .n) (a .m) (a .v .now) [] (not-good (a .m) (c .before .match .keys2)) in
-    (allowed-short (a .n) (a .m) (p .0) (sym (x .1) ∙ p .1), subst (λ (e : List ℕ). a .at + length e ≤ length (a .out .now)) (x .0) (p .2))
+    let x = any-view (a .n) (a .m) (a .v .now) [] (not-good (a .m) (c .before .match .keys2)) in (
+      allowed-short (a .n) (a .m) (p .0) (sym (x .1) ∙ p .1),
+      subst (λ (e : List ℕ). a .at + length e ≤ length (a .out .now)) (x .0) (p .2),
+    )
 
 returns : tie.Need-returns
 returns c = rw (c .before .before .before .before .before .m .given .1) (c .before .before .emit-good .ensures)

@@ -7,12 +7,12 @@ use Rattle.reply.proofs.let_out.Statement.{statement}
 use Rattle.reply.proofs.let_out.Tie as tie
 
 emit-all-requires : tie.Need-emit-all-requires
-emit-all-requires c κs = c .before .before .before .before .pre
+emit-all-requires c κs = c .before .before .before .before .before .pre
 
 returns : tie.Need-returns
 unfolding letOut
 returns c =
-    let step = c .before .before .before .before .before .before .before .before .before .args .s in
+    let step = c .before .before .before .before .before .before .before .before .before .before .args .s in
     let said = c .before .said-of in
     let view = c .view-shown in
     let sent = c .before .before .before .before .emit-all .ensures in (
