@@ -30,7 +30,7 @@ ghost use lib.ListN.{length};
 ghost use Rattle.octets.specs.Answer.{result};
 ghost use Rattle.view.specs.Size.{nodes};
 ghost use Rattle.record.specs.Usable.{usable};
-ghost use Rattle.wire.specs.Layout.{allowed};
+ghost use Rattle.wire.specs.Layout.{encode, allowed};
 ghost use Rattle.calls.specs.Entry.{leastOutput, fresh, begin, beside, taken, message};
 ghost use Rattle.reply.specs.Tells.{tells};
 
@@ -64,7 +64,8 @@ pub fn begin(c: Node, o: Operation, out: &mut [u8]) -> Reply
         if is_full(c) {
             return refused_reply(6, c);
         }
-        return let_out(begin_step(c.f, c, o), out);
+        let none = [0u8; 1];
+        return let_out(begin_step(c.f, c, o), &none[..0], out);
     }
     refused_reply(2, c)
 }
@@ -89,17 +90,17 @@ fn view_beside(n: usize, v: &[u8], m: Message) -> View
     }
 }
 
-// A message that was read, with the bytes of its view.
-fn taken_message(c: Node, s: usize, v: &[u8], m: Message, out: &mut [u8]) -> Reply
-    requires { ⌜ (usable c ≡ true) × (1 ≤ s) × (s ≤ c .n)
-        × (allowed (c .n) m (now v) ≡ true) × (leastOutput ≤ length (now out)) ⌝ }
+// A message that was read: b is its bytes, v those of its view.
+fn taken_message(c: Node, s: usize, b: &[u8], v: &[u8], m: Message, out: &mut [u8]) -> Reply
+    requires { ⌜ (usable c ≡ true) × (1 ≤ s) × (s ≤ c .n) × (allowed (c .n) m (now v) ≡ true)
+        × (leastOutput ≤ length (now out)) × (now b ≡ encode m (now v)) ⌝ }
     ensures { λ r. ⌜ tells r (now (out .exit)) (taken c s (now (v .entry)) (now (out .entry)) (result m)) ⌝ }
 {
     if is_stale_message(c, s, m) {
         return refused_reply(9, c);
     }
     let view = view_beside(c.n, v, m);
-    let_out(message_step(c.f, c, s, m, view), out)
+    let_out(message_step(c.f, c, s, m, view), b, out)
 }
 
 // Handles a message from node s; the messages that it gives rise to go to `out`.
@@ -113,7 +114,7 @@ pub fn message(c: Node, s: usize, b: &[u8], out: &mut [u8]) -> Reply
         if and(1 <= s, s <= c.n) {
             let p = wire_parse::parse(c.n, b);
             return match p {
-                Parsed::Got(m) => taken_message(c, s, parsed_view(b, p), m, out),
+                Parsed::Got(m) => taken_message(c, s, b, parsed_view(b, p), m, out),
                 Parsed::Refused(_) => refused_reply(7, c),
             };
         }

@@ -1,6 +1,6 @@
 -- A value that a handler forwards is the message that it handled. Assumes nothing.
 use Prim.Native.Nat.{ℕ}
-use mathlib.Core.Path.{_≡_, refl, sym, _∙_, subst}
+use mathlib.Core.Path.{_≡_, refl, sym, ap, _∙_, subst}
 use mathlib.Core.Bool.{Bool, true, false}
 use mathlib.Core.List.{List, []}
 use lib.Dec.{ltb}
@@ -14,6 +14,7 @@ use Rattle.record.specs.declared.Operation.{Operation}
 use Rattle.step.specs.Move.{messageStep, begun, beginStep}
 use Rattle.step.specs.React.{react, isNew}
 use Rattle.step.specs.declared.Sent.{Sent}
+use Rattle.step.specs.declared.Step.{Step}
 use Rattle.step.proofs.Exclusive.{handler-first}
 use Rattle.step.proofs.Numbers.{on-pick}
 use Rattle.emit.specs.Forward.{Received}
@@ -40,13 +41,15 @@ module _ (b : List ℕ) where
       on-pick Holds (isNew c x t) _ _ (λ z h. e ∙ sym (run-one [] (Value t x p))) (λ z. none)
   react-received c s (Good t) v w e = none
 
-  pub message-received : (f : ℕ) (c : Node) (s : ℕ) (m : Message) (v : View) (w : List ℕ) → b ≡ encode m w
-      → Holds (messageStep f c s m v .outbox .handler)
+  pub message-received : (f : ℕ) (c : Node) (s : ℕ) (m : Message) (v : View) (w : List ℕ) (t : Step)
+      → t ≡ messageStep f c s m v → b ≡ encode m w → Holds (t .outbox .handler)
   unfolding messageStep
-  message-received f c s m v w e =
-      subst Holds (sym (handler-first f (react c s m v))) (react-received c s m v w e)
+  message-received f c s m v w t is e =
+      subst Holds (sym (ap (λ (x : Step). x .outbox .handler) is ∙ handler-first f (react c s m v)))
+      (react-received c s m v w e)
 
   -- a begin forwards nothing
-  pub begin-received : (f : ℕ) (c : Node) (o : Operation) → Holds (beginStep f c o .outbox .handler)
+  pub begin-received : (f : ℕ) (c : Node) (o : Operation) (t : Step) → t ≡ beginStep f c o → Holds (t .outbox .handler)
   unfolding beginStep begun
-  begin-received f c o = subst Holds (sym (handler-first f (begun c o))) none
+  begin-received f c o t is =
+      subst Holds (sym (ap (λ (x : Step). x .outbox .handler) is ∙ handler-first f (begun c o))) none

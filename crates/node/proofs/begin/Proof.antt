@@ -6,6 +6,7 @@ use Rattle.step.specs.declared.Step.{Step}
 use Rattle.calls.specs.Entry.{letOut}
 use Rattle.calls.proofs.Refusals.{begin-12, begin-2, begin-5, begin-6, begin-goes}
 use Rattle.reply.specs.Tells.{tells}
+use Rattle.reply.proofs.Received.{begin-received}
 use Rattle.calls.proofs.Rooms.{begin-fit}
 use Rattle.node.proofs.begin.Statement.{statement}
 use Rattle.node.proofs.begin.Tie as tie
@@ -49,30 +50,30 @@ begin-step-requires c κs =
 
 let-out-requires : tie.Need-let-out-requires
 let-out-requires c κs =
-    let c3 = c .before .before .before in
-    let c6 = c3 .before .before .before in
-    let c9 = c6 .before .before .before in
-    let a = c9 .before .args in
-    let step = c .before .begin-step in
-    let usable = sym (c6 .before .is-usable .ensures) ∙ c6 .if2 .taken in
-    let idle = sym (c3 .before .before .has-open .ensures) ∙ c3 .before .if3 .left in
-    let enough = sym (c3 .is-full .ensures) ∙ c .before .before .if4 .left in
-    begin-fit (a .c) (a .o) (step .result) _ (step .ensures) usable idle enough
-    (c6 .before .before .if1 .left)
+    let c4 = c .before .before .before .before in
+    let c7 = c4 .before .before .before in
+    let c9 = c7 .before .before in
+    let a = c9 .before .before .args in
+    let step = c .before .before .begin-step in
+    let usable = sym (c7 .before .is-usable .ensures) ∙ c7 .if2 .taken in
+    let idle = sym (c4 .before .before .has-open .ensures) ∙ c4 .before .if3 .left in
+    let enough = sym (c4 .is-full .ensures) ∙ c .before .before .before .if4 .left in
+    let fit = begin-fit (a .c) (a .o) (step .result) _ (step .ensures) usable idle enough (c9 .if1 .left) in
+    (begin-received _ (a .c .f) (a .c) (a .o) (step .result) (step .ensures), fit .0, fit .1, fit .2, fit .3)
 
 returns-4 : tie.Need-returns-4
 returns-4 c =
-    let c3 = c .before .before .before in
-    let c6 = c3 .before .before .before in
-    let c9 = c6 .before .before .before in
-    let c12 = c9 .before .before .before in
-    let a = c12 .before .args in
-    let long = le-ltb _ _ (c9 .before .before .if1 .left) in
-    let usable = sym (c9 .before .is-usable .ensures) ∙ c9 .if2 .taken in
-    let idle = sym (c6 .before .before .has-open .ensures) ∙ c6 .before .if3 .left in
-    let enough = sym (c6 .is-full .ensures) ∙ c3 .before .before .if4 .left in
+    let c4 = c .before .before .before .before in
+    let c7 = c4 .before .before .before in
+    let c10 = c7 .before .before .before in
+    let c12 = c10 .before .before in
+    let a = c12 .before .before .args in
+    let long = le-ltb _ _ (c12 .if1 .left) in
+    let usable = sym (c10 .before .is-usable .ensures) ∙ c10 .if2 .taken in
+    let idle = sym (c7 .before .before .has-open .ensures) ∙ c7 .before .if3 .left in
+    let enough = sym (c7 .is-full .ensures) ∙ c4 .before .before .if4 .left in
     let e = begin-goes (a .c) (a .o) (a .out .now) long usable idle enough in
-    let s = c3 .before .begin-step .ensures in
+    let s = c4 .before .begin-step .ensures in
     let out = c .before .before .let-out in
     subst (tells (out .result) _) (ap (λ (x : Step). letOut x (a .out .now)) s ∙ sym e) (out .ensures)
 
@@ -90,4 +91,5 @@ begin-spec =
     tie.close
     (tie.spec (λ c κs. search needs) returns (λ c κs. search needs) (λ c κs. search needs) (λ c κs. search needs)
     returns-2 (λ c κs. search needs) (λ c κs. search needs) returns-3 begin-step-requires
-    let-out-requires (λ c. search needs) returns-4 (λ c κs. search needs) returns-5)
+    (λ c. search needs) (λ c. search needs) let-out-requires (λ c. search needs) returns-4 (λ c κs. search needs)
+    returns-5)

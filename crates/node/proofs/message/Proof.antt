@@ -7,7 +7,7 @@ use lib.Dec.{leb}
 use borrow.Author.Tests.{lt-ltb, le-ltb, leb-true}
 use Rattle.octets.specs.Answer.{result}
 use Rattle.octets.proofs.Test.{both-left, both-right}
-use Rattle.wire.specs.Layout.{allowed}
+use Rattle.wire.specs.Layout.{encode, allowed}
 use Rattle.wire.specs.Outcome.{parsed}
 use Rattle.wire.proofs.Handed.{read-room, read-view}
 use Rattle.wire.proofs.RoundTrip.{read-only}
@@ -39,13 +39,16 @@ taken-message-requires c κs =
     let low = leb 1 (a .s) in
     let high = leb (a .s) (a .c .n) in
     let read = sym (c5 .parse .ensures) ∙ ap parsed (c .before .before .before .p .given .1) in
+    let m = c .before .before .before .p .given .0 .0 in
+    let whole = read-only (a .c .n) (a .b .now) m read in
     let view = c .before .parsed-view .ensures .0 ∙ read-view (a .c .n) (a .b .now) _ (sym read) in (
       sym (c10 .is-usable .ensures) ∙ c5 .before .before .before .before .if2 .taken,
       leb-true _ _ (both-left low high sender),
       leb-true _ _ (both-right low high sender),
-      ap (λ (v : List ℕ). allowed (a .c .n) (c .before .before .before .p .given .0 .0) v) view
-          ∙ read-only (a .c .n) (a .b .now) _ read .allowed-is,
+      ap (λ (v : List ℕ). allowed (a .c .n) m v) view
+          ∙ whole .allowed-is,
       c10 .before .if1 .left,
+      whole .bytes ∙ ap (encode m) (sym view),
     )
 
 returns-2 : tie.Need-returns-2

@@ -12,6 +12,7 @@ use Rattle.step.specs.declared.Step.{Step}
 use Rattle.calls.specs.Entry.{letOut}
 use Rattle.calls.proofs.Refusals.{taken-9, taken-goes}
 use Rattle.reply.specs.Tells.{tells}
+use Rattle.reply.proofs.Received.{message-received}
 use Rattle.calls.proofs.Rim.{read-writer, read-lawful}
 use Rattle.calls.proofs.Rooms.{message-fit}
 use Rattle.node.proofs.taken_message.Statement.{statement}
@@ -29,15 +30,16 @@ long c =
 
 is-stale-message-requires : tie.Need-is-stale-message-requires
 is-stale-message-requires c κs =
-    let a = c .before .before .args in
-    let p = c .before .before .pre in
+    let c3 = c .before .before .before in
+    let a = c3 .args in
+    let p = c3 .pre in
     let small : a .c .n ≤ nodes = parts _ (p .0) .n-high in
     (p .1, omega (arith, p .2, small), read-writer (a .c .n) (a .v .now) (a .m) (p .3) small)
 
 returns : tie.Need-returns
 returns c =
     let c3 = c .before .before .before in
-    let a = c3 .before .before .args in
+    let a = c3 .before .before .before .args in
     let stale = sym (c .before .before .is-stale-message .ensures) ∙ c .before .if1 .taken in
     let e = taken-9 (a .c) (a .s) (a .v .now) (a .out .now) (a .m) stale in
     subst (tells (c .refused-reply .result) _) (sym e) (c .refused-reply .ensures _)
@@ -45,31 +47,38 @@ returns c =
 view-beside-requires : tie.Need-view-beside-requires
 view-beside-requires c κs =
     let c3 = c .before .before .before in
-    let p = c3 .before .pre in (parts _ (p .0) .n-high, p .3)
+    let p = c3 .before .before .pre in (parts _ (p .0) .n-high, p .3)
 
 message-step-requires : tie.Need-message-step-requires
 message-step-requires c κs =
     let c3 = c .before .before .before in
-    let a = c3 .before .before .args in
-    let p = c3 .before .before .pre in
+    let a = c3 .before .before .before .args in
+    let p = c3 .before .before .before .pre in
     (p .0, p .1, p .2, rw (c .view-beside .ensures) (read-lawful (a .c .n) (a .v .now) (a .m) (p .3)))
 
 let-out-requires : tie.Need-let-out-requires
 let-out-requires c κs =
-    let c6 = c .before .before .before .before .before .before in
-    let a = c6 .before .args in
-    let p = c6 .before .pre in
+    let c8 = c .before .before .before .before .before .before .before .before in
+    let a = c8 .args in
+    let p = c8 .pre in
     let view = c .before .before .view-beside in
     let step = c .before .message-step in
-    message-fit (a .c) (a .s) (a .m) (view .result) (step .result) _ (step .ensures) (p .0) (rw (view .ensures)
-    (read-lawful (a .c .n) (a .v .now) (a .m) (p .3))) (long (c6 .before)) (p .1) (p .2) (p .4)
+    let fit = message-fit (a .c) (a .s) (a .m) (view .result) (step .result) _ (step .ensures) (p .0)
+    (rw (view .ensures) (read-lawful (a .c .n) (a .v .now) (a .m) (p .3))) (long c8) (p .1) (p .2) (p .4) in (
+      message-received (a .b .now) (a .c .f) (a .c) (a .s) (a .m) (view .result) (a .v .now) (step .result)
+          (step .ensures) (p .5),
+      fit .0,
+      fit .1,
+      fit .2,
+      fit .3,
+    )
 
 returns-2 : tie.Need-returns-2
 returns-2 c =
     let c3 = c .before .before .before in
     let c6 = c3 .before .before .before in
     let c9 = c6 .before .before .before in
-    let a = c9 .before .args in
+    let a = c9 .before .before .args in
     let view = c3 .before .before .view-beside in
     let new = sym (c6 .before .is-stale-message .ensures) ∙ c6 .if1 .left in
     let e = taken-goes (a .c) (a .s) (a .v .now) (a .out .now) (a .m) new in
