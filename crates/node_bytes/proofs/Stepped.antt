@@ -12,7 +12,7 @@ use Rattle.octets.specs.Word.{word}
 use Rattle.view.specs.Size.{nodes}
 use Rattle.view.specs.View.{noView, viewOf, viewBytes}
 use Rattle.view.specs.declared.View.{View}
-use Rattle.wire.specs.Layout.{allowed}
+use Rattle.wire.specs.Layout.{encode, allowed}
 use Rattle.wire.specs.declared.Message.{Message}
 use Rattle.wire.specs.declared.Message.the-variants.{Read, ReadAnswer, Write, WriteAnswer, Echo, Value, Good}
 use Rattle.record.specs.Usable.{usable}
@@ -33,8 +33,10 @@ use Rattle.calls.specs.Bytes.{run, outBytes}
 use Rattle.calls.specs.Entry.{leastOutput, letOut, beside}
 use Rattle.calls.proofs.Rim.{read-lawful}
 use Rattle.calls.proofs.Rooms.{Fit, message-fit}
+use Rattle.emit.specs.Forward.{Received}
 use Rattle.emit.specs.Good.{anyGood}
 use Rattle.emit.proofs.Runs.{handler-alone}
+use Rattle.reply.proofs.Received.{react-received, message-received}
 use Rattle.reply.proofs.Tells.{told-toldView}
 use Rattle.region.specs.Record.{fPlace, recordOf, recordBytes}
 use Rattle.region.proofs.Back.{sized-view, sized-of}
@@ -212,7 +214,20 @@ pub handler-short : (c : Node) (s : ℕ) (m : Message) (v : View) {x : Sent} →
     → anyGood (listed x) ≡ false
 handler-short c s m v e = subst Short (sym e) (react-short c s m v)
 
--- nor does a begin
+-- the value that it forwards is the message that it handled, whose bytes are b
+pub handler-received : (c : Node) (s : ℕ) (m : Message) (v : View) (w b : List ℕ) {x : Sent}
+    → x ≡ react c s m v .outbox .handler → b ≡ encode m w → Received x b
+handler-received c s m v w b e h = subst (λ (y : Sent). Received y b) (sym e) (react-received b c s m v w h)
+
+-- so it is in what the step sends, done on bytes
+pub step-received : (r : List ℕ) (n s : ℕ) (m : Message) (w b : List ℕ) (e : recordOf r .n ≡ n) {x : Effect}
+    {r′ : List ℕ} → isStep x r′ (step r n s m w e) → b ≡ encode m w → Received (x .outbox .handler) b
+step-received r n s m w b e i h =
+    let c = recordOf r in
+    subst (λ (y : Effect). Received (y .outbox .handler) b) (sym (i .0))
+    (message-received b (c .f) c s m (beside (c .n) w m) w (step r n s m w e) refl h)
+
+-- nor does a begin send a good one
 pub read-short : (c : Node) (o : Operation) {to : ℕ} {x : Sent} {r : List ℕ} → isStep (restedOf to x) r (begun c o)
     → anyGood (listed x) ≡ false
 unfolding begun

@@ -5,6 +5,7 @@ use block::judge::record_sound;
 use calls::OUTPUT;
 use calls_bytes::show_view;
 use emit::emit_all;
+use emit::emit_begin;
 use emit::emit_handler;
 use events::Outcome;
 use octets::and;
@@ -38,7 +39,7 @@ ghost use mathlib.Core.List.{List, []};
 ghost use Prim.Native.Nat.{ℕ, _≤_};
 ghost use lib.ListN.{length};
 ghost use Rattle.octets.specs.Answer.{result};
-ghost use Rattle.wire.specs.Layout.{allowed};
+ghost use Rattle.wire.specs.Layout.{encode, allowed};
 ghost use Rattle.record.specs.Usable.{usable};
 ghost use Rattle.calls.specs.Entry.{leastOutput, taken};
 ghost use Rattle.region.specs.Record.{recordSize, recordOf};
@@ -143,26 +144,28 @@ pub fn begin(r: &mut [u8], o: Operation, out: &mut [u8]) -> Called
     }
     let n = get_word(r, N_PLACE) as usize;
     let sent = ask_in(r, o);
-    let written = emit_handler(n, sent, out);
+    let written = emit_begin(n, sent, out);
     Called {
         outcome: Outcome::Accepted(Ending::None),
         length: written,
     }
 }
 
-// A message that was read is handled, v the bytes of its view, or refused with 9. Where nothing comes after what the
-// handler does, no view is carried about.
+// A message that was read is handled, b its bytes and v those of its view, or refused with 9. Where nothing comes after
+// what the handler does, no view is carried about.
 pub fn take_message(
     r: &mut [u8],
     n: usize,
     s: usize,
+    b: &[u8],
     v: &[u8],
     m: Message,
     out: &mut [u8],
     view: &mut [u8; VIEW],
 ) -> Called
     requires { ⌜ (length (now r) ≡ recordSize) × (usable (recordOf (now r)) ≡ true) × (recordOf (now r) .n ≡ n)
-        × (1 ≤ s) × (s ≤ n) × (allowed n m (now v) ≡ true) × (leastOutput ≤ length (now out)) ⌝ }
+        × (1 ≤ s) × (s ≤ n) × (allowed n m (now v) ≡ true) × (leastOutput ≤ length (now out))
+        × (now b ≡ encode m (now v)) ⌝ }
     ensures { λ a. ⌜ shows a (now (r .exit)) (now (out .exit)) (now (view .exit)) (inBytes (now (r .entry))
         (taken (recordOf (now (r .entry))) s (now (v .entry)) (now (out .entry)) (result m))) (now (view .entry)) ⌝ }
 {
@@ -173,7 +176,7 @@ pub fn take_message(
     let sent = react_in(r, n, s, m, v);
     let p = plan_in(r, n, f);
     if is_rest(p) {
-        let written = emit_handler(n, sent, out);
+        let written = emit_handler(n, sent, b, out);
         return Called {
             outcome: Outcome::Accepted(Ending::None),
             length: written,
@@ -182,7 +185,7 @@ pub fn take_message(
     let e = follow_in(r, n, s, sent, p);
     let ending = e.ending;
     show_view(ending, e.view, view);
-    let written = emit_all(n, e.outbox, out);
+    let written = emit_all(n, e.outbox, b, out);
     Called {
         outcome: Outcome::Accepted(ending),
         length: written,
@@ -205,7 +208,7 @@ pub fn message(r: &mut [u8], s: usize, b: &[u8], out: &mut [u8], view: &mut [u8;
     }
     let p = wire_parse::parse(n, b);
     match p {
-        Parsed::Got(m) => take_message(r, n, s, parsed_view(b, p), m, out, view),
+        Parsed::Got(m) => take_message(r, n, s, b, parsed_view(b, p), m, out, view),
         Parsed::Refused(_) => turned_away(7),
     }
 }

@@ -83,8 +83,8 @@ ask-in-requires c κs =
     .left) in
     (h .long, parts _ (h .can-step) .request-high)
 
-emit-handler-requires : tie.Need-emit-handler-requires
-emit-handler-requires c κs =
+emit-begin-requires : tie.Need-emit-begin-requires
+emit-begin-requires c κs =
     let c3 = c .before .before .before in
     let c5 = c3 .before .before in
     let c7 = c5 .before .before in
@@ -124,19 +124,19 @@ returns-4 c =
     let f = d .f in
     let s = begun d (a .o) in
     let asks = begin-asks f d (a .o) (faults-below d (h .can-step)) in
-    becomes (called None (c2 .emit-handler .result)) _ _
+    becomes (called None (c2 .emit-begin .result)) _ _
     (at-admitted (a .r .now) (a .out .now) (λ d. N.begin d (a .o) (a .out .now)) h
     ∙ ap (inBytes (a .r .now)) (begin-goes d (a .o) (a .out .now) (le-ltb _ _ (h .room)) (h .can-step)
     (sym (c14 .is-open-in .ensures) ∙ c13 .if2 .left) (sym (c11 .is-full-in .ensures) ∙ c10 .if3 .left)
     ∙ ap (λ (x : Step). N.letOut x (a .out .now)) asks))
-    (stepped s (c8 .get-word .result) (a .r .now) (c6 .ask-in .last .0) (a .out .now) _ (c2 .emit-handler .result)
+    (stepped s (c8 .get-word .result) (a .r .now) (c6 .ask-in .last .0) (a .out .now) _ (c2 .emit-begin .result)
     (c6 .ask-in .ensures) (begun-n d (a .o) ∙ own-n (a .r .now) (c8 .get-word .ensures))
-    (rest-lets (c8 .get-word .result) (d .own) (c6 .ask-in .result) _ _ (a .out .now) (c2 .emit-handler .ensures)))
+    (rest-lets (c8 .get-word .result) (d .own) (c6 .ask-in .result) _ _ (a .out .now) (c2 .emit-begin .ensures)))
 
 pub begin-spec : {M : Type 1} → statement M
 begin-spec =
     tie.close
     (tie.spec (λ c κs. search needs) (λ c κs. search needs) (λ c. search needs) returns is-open-in-requires
     (λ c κs. search needs) (λ c. search needs) returns-2 is-full-in-requires (λ c κs. search needs)
-    (λ c. search needs) returns-3 get-word-requires ask-in-requires emit-handler-requires (λ c. search needs)
+    (λ c. search needs) returns-3 get-word-requires ask-in-requires emit-begin-requires (λ c. search needs)
     (λ c. search needs) returns-4)

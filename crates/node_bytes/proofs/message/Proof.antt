@@ -9,7 +9,7 @@ use Rattle.octets.specs.Answer.{result}
 use Rattle.octets.specs.Test.{both}
 use Rattle.octets.proofs.Test.{both-left, both-right}
 use Rattle.wire.specs.Codec.{decode, viewPart}
-use Rattle.wire.specs.Layout.{allowed}
+use Rattle.wire.specs.Layout.{encode, allowed}
 use Rattle.wire.specs.Outcome.{parsed}
 use Rattle.wire.proofs.Handed.{read-room, read-view}
 use Rattle.wire.proofs.RoundTrip.{read-only}
@@ -86,6 +86,7 @@ take-message-requires c κs =
     let n = c10 .get-word .result in
     let m = c5 .p .given .0 .0 in
     let read = sym (c7 .parse .ensures) ∙ ap parsed (c5 .p .given .1) in
+    let whole = read-only n (a .b .now) m read in
     let view = c2 .parsed-view .ensures .0 ∙ read-view n (a .b .now) _ (sym read) in
     let low = leb 1 (a .s) in
     let high = leb (a .s) n in
@@ -95,8 +96,9 @@ take-message-requires c κs =
       e,
       leb-true _ _ (both-left low high sender),
       leb-true _ _ (both-right low high sender),
-      ap (λ (v : List ℕ). allowed n m v) view ∙ read-only n (a .b .now) m read .allowed-is,
+      ap (λ (v : List ℕ). allowed n m v) view ∙ whole .allowed-is,
       h .room,
+      whole .bytes ∙ ap (encode m) (sym view),
     )
 
 returns-3 : tie.Need-returns-3

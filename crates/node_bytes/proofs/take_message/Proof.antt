@@ -20,22 +20,22 @@ use Rattle.calls_bytes.specs.Entry.{inBytes}
 use Rattle.node_bytes.proofs.Admitted.{in-refused, small-n}
 use Rattle.node_bytes.proofs.Stepped.{called, becomes-shown, stepped, step-shows, handled, can-write}
 use Rattle.node_bytes.proofs.Stepped.{step, step-n, step-fit, at-rest, rest-can-write, rest-lets}
-use Rattle.node_bytes.proofs.Stepped.{handler-short, f-in}
+use Rattle.node_bytes.proofs.Stepped.{handler-short, handler-received, step-received, f-in}
 use Rattle.node_bytes.proofs.take_message.Statement.{statement}
 use Rattle.node_bytes.proofs.take_message.Tie as tie
 
 is-stale-in-requires : tie.Need-is-stale-in-requires
 is-stale-in-requires c κs =
     let c3 = c .before .before .before in
-    let a = c3 .before .args in
-    let p = c3 .before .pre in
+    let a = c3 .before .before .args in
+    let p = c3 .before .before .pre in
     let small = small-n (a .r .now) (p .1) (p .2) in
     (p .0, p .3, omega (arith, p .4, small), read-writer (a .n) (a .v .now) (a .m) (p .5) small)
 
 returns : tie.Need-returns
 returns c =
     let c6 = c .before .before .before .before .before .before in
-    let a = c6 .before .args in
+    let a = c6 .before .before .args in
     becomes-shown (c .turned-away .result) _ _ _ _ (ap (inBytes (a .r .now)) (taken-9 _ (a .s) (a .v .now)
     (a .out .now) (a .m) (sym (c .before .before .is-stale-in .ensures) ∙ c .before .if1 .taken)) ∙ in-refused 9
     (a .r .now) (a .out .now))
@@ -44,8 +44,8 @@ returns c =
 react-in-requires : tie.Need-react-in-requires
 react-in-requires c κs =
     let c9 = c .before .before .before .before .before .before .before .before .before in
-    let a = c9 .args in
-    let p = c9 .pre in
+    let a = c9 .before .args in
+    let p = c9 .before .pre in
     let small = small-n (a .r .now) (p .1) (p .2) in (
       p .0,
       small,
@@ -59,8 +59,8 @@ plan-in-requires : tie.Need-plan-in-requires
 plan-in-requires c κs =
     let c3 = c .before .before .before in
     let c12 = c3 .before .before .before .before .before .before .before .before .before in
-    let a = c12 .before .args in
-    let p = c12 .before .pre in
+    let a = c12 .before .before .args in
+    let p = c12 .before .before .pre in
     let small = small-n (a .r .now) (p .1) (p .2) in
     can-plan (a .r .now) (c3 .react-in .last .0) (a .n) (a .s) (a .m) (viewOf (a .n) (a .v .now))
     (sized-view (a .n) (a .v .now) small) (c3 .react-in .ensures .1) (p .2) (p .1) (p .3) (p .4)
@@ -73,8 +73,8 @@ emit-handler-requires c κs =
     let c6 = c3 .before .before .before in
     let c9 = c6 .before .before .before in
     let c15 = c9 .before .before .before .before .before .before in
-    let a = c15 .before .before .args in
-    let p = c15 .before .before .pre in
+    let a = c15 .before .before .before .args in
+    let p = c15 .before .before .before .pre in
     let r = a .r .now in
     let r′ = c6 .before .react-in .last .0 in
     let sent = c6 .before .react-in .result in
@@ -84,13 +84,20 @@ emit-handler-requires c κs =
     (c9 .get-word .ensures) (c6 .before .react-in .ensures .0) (c6 .before .react-in .ensures .1) in
     let bytes = reacted-bytes r r′ (a .s) (a .m) v (sized-view (a .n) (a .v .now) small)
     (c6 .before .react-in .ensures .1) in
-    rest-can-write (a .n) (a .s) sent (step r (a .n) (a .s) (a .m) (a .v .now) (p .2)) (length (a .out .now))
+    let fit = rest-can-write (a .n) (a .s) sent (step r (a .n) (a .s) (a .m) (a .v .now) (p .2)) (length (a .out .now))
     (step-fit r (a .n) (a .s) (a .m) (a .v .now) (p .2) _ (p .1) (p .3) (p .4) (p .5) (p .6))
     (at-rest (c3 .plan-in .result) r′ (a .s) sent (sym (c .before .before .is-rest .ensures) ∙ c .before .if2 .taken)
     bytes
     (sym (c3 .plan-in .ensures .0 (a .s) sent) ∙ whole))
     (step-n r (a .n) (a .s) (a .m) (a .v .now) (p .2)) (handler-short _ (a .s) (a .m) v
-    (c6 .before .react-in .ensures .0))
+    (c6 .before .react-in .ensures .0)) in (
+      handler-received (recordOf r) (a .s) (a .m) v (a .v .now) (a .b .now) (c6 .before .react-in .ensures .0) (p .7),
+      fit .0,
+      fit .1,
+      fit .2,
+      fit .3,
+      fit .4,
+    )
 
 returns-2 : tie.Need-returns-2
 returns-2 c =
@@ -100,8 +107,8 @@ returns-2 c =
     let c12 = c9 .before .before .before in
     let c15 = c12 .before .before .before in
     let c18 = c15 .before .before .before in
-    let a = c18 .before .before .args in
-    let p = c18 .before .before .pre in
+    let a = c18 .before .before .before .args in
+    let p = c18 .before .before .before .pre in
     let r = a .r .now in
     let r′ = c9 .before .react-in .last .0 in
     let sent = c9 .before .react-in .result in
@@ -129,8 +136,8 @@ follow-in-requires c κs =
     let c3 = c .before .before .before in
     let c6 = c3 .before .before .before in
     let c15 = c6 .before .before .before .before .before .before .before .before .before in
-    let a = c15 .before .before .args in
-    let p = c15 .before .before .pre in
+    let a = c15 .before .before .before .args in
+    let p = c15 .before .before .before .pre in
     let small = small-n (a .r .now) (p .1) (p .2) in
     can-follow (a .r .now) (c6 .before .react-in .last .0) (a .n) (a .s) (a .m) (viewOf (a .n) (a .v .now))
     (sized-view (a .n) (a .v .now) small) (c6 .before .react-in .ensures .1) (p .2) (p .1) (p .3) (p .4)
@@ -144,19 +151,26 @@ emit-all-requires c κs =
     let c12 = c9 .before .before .before in
     let c15 = c12 .before .before .before in
     let c21 = c15 .before .before .before .before .before .before in
-    let a = c21 .before .before .args in
-    let p = c21 .before .before .pre in
+    let a = c21 .before .before .before .args in
+    let p = c21 .before .before .before .pre in
     let r = a .r .now in
     let whole = handled r (c12 .before .react-in .last .0) (a .n) (a .s) (c15 .get-word .result) (a .m) (a .v .now)
     (p .2)
     (small-n r (p .1) (p .2)) (c15 .get-word .ensures) (c12 .before .react-in .ensures .0)
     (c12 .before .react-in .ensures .1) in
-    can-write (step r (a .n) (a .s) (a .m) (a .v .now) (p .2)) (a .n) (length (a .out .now))
-    (step-fit r (a .n) (a .s) (a .m) (a .v .now) (p .2) _ (p .1) (p .3) (p .4) (p .5) (p .6))
-    (subst (λ (x : Step). isStep (c3 .before .before .follow-in .result) (c3 .before .before .follow-in .last .0) x)
+    let does = subst (λ (x : Step). isStep (c3 .before .before .follow-in .result)
+    (c3 .before .before .follow-in .last .0) x)
     (sym (c9 .plan-in .ensures .0 (a .s) (c12 .before .react-in .result)) ∙ whole)
-    (c3 .before .before .follow-in .ensures))
-    (step-n r (a .n) (a .s) (a .m) (a .v .now) (p .2))
+    (c3 .before .before .follow-in .ensures) in
+    let fit = can-write (step r (a .n) (a .s) (a .m) (a .v .now) (p .2)) (a .n) (length (a .out .now))
+    (step-fit r (a .n) (a .s) (a .m) (a .v .now) (p .2) _ (p .1) (p .3) (p .4) (p .5) (p .6)) does
+    (step-n r (a .n) (a .s) (a .m) (a .v .now) (p .2)) in (
+      step-received r (a .n) (a .s) (a .m) (a .v .now) (a .b .now) (p .2) does (p .7),
+      fit .0,
+      fit .1,
+      fit .2,
+      fit .3,
+    )
 
 returns-3 : tie.Need-returns-3
 returns-3 c =
@@ -167,8 +181,8 @@ returns-3 c =
     let c18 = c15 .before .before .before in
     let c21 = c18 .before .before .before in
     let c24 = c21 .before .before .before in
-    let a = c24 .before .before .args in
-    let p = c24 .before .before .pre in
+    let a = c24 .before .before .before .args in
+    let p = c24 .before .before .before .pre in
     let r = a .r .now in
     let whole = handled r (c15 .before .react-in .last .0) (a .n) (a .s) (c18 .get-word .result) (a .m) (a .v .now)
     (p .2)
