@@ -13,7 +13,7 @@ use Rattle.octets.proofs.Test.{both-right}
 use Rattle.view.specs.Size.{nodes}
 use Rattle.view.specs.View.{viewOf}
 use Rattle.wire.specs.Codec.{front, frontPart, viewPart}
-use Rattle.wire.specs.Layout.{allowed, isTag}
+use Rattle.wire.specs.Layout.{encode, allowed, isTag}
 use Rattle.wire.specs.declared.Message.{Message}
 use Rattle.wire.specs.declared.Message.the-variants.{Read, ReadAnswer, Write, WriteAnswer, Echo, Value, Good}
 use Rattle.wire.proofs.RoundTrip.{front-alone, alone-view, read-only}
@@ -52,6 +52,10 @@ module _ (n : ℕ) (t : List ℕ) (m : Message) (k : ℕ) (e : front n t ≡ res
   pub found-allowed : allowed n m v ≡ true
   found-allowed =
       ap (λ (z : List ℕ). allowed n m z) view-alone ∙ read-only n (take k t) m (front-alone n t m k e) .allowed-is
+
+  -- where it lies in the frame are its bytes
+  pub found-bytes : take k t ≡ encode m v
+  found-bytes = read-only n (take k t) m (front-alone n t m k e) .bytes ∙ ap (encode m) (sym view-alone)
 
   pub found-writer : writerWithin n m ≡ true
   found-writer = allowed-writer n m v found-allowed

@@ -105,7 +105,7 @@ fn take_all(
     while 0 < t.len() {
         match f {
             Found::At(m, k) => {
-                let a = take_message(r, n, s, found_view(t, f), m, &mut out[at..], view);
+                let a = take_message(r, n, s, &t[..k], found_view(t, f), m, &mut out[at..], view);
                 at += a.length;
                 let later = a.outcome;
                 ending = first_ending(ending, later);
@@ -143,7 +143,7 @@ pub fn frame(r: &mut [u8], s: usize, b: &[u8], out: &mut [u8], view: &mut [u8; V
     match f {
         Found::At(m, end) => {
             if end == b.len() {
-                return take_message(r, n, s, found_view(b, f), m, out, view);
+                return take_message(r, n, s, b, found_view(b, f), m, out, view);
             }
             let fault = judge(r, n, s, b, f);
             if fault != 0 {

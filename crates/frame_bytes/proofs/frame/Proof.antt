@@ -4,7 +4,8 @@ use Prim.Native.Nat.{ℕ, _≤_}
 use mathlib.Core.Path.{refl, sym, ap, _∙_, subst}
 use native.Mathlib.Omega.{arith}
 use lib.Dec.{leb}
-use lib.ListN.{length}
+use lib.ListN.{length, take}
+use lib.Seq.{take-length}
 use borrow.Author.Tests.{leb-true, not-true, not-false}
 use Rattle.octets.specs.Answer.{result}
 use Rattle.octets.specs.Test.{both}
@@ -20,7 +21,7 @@ use Rattle.node_bytes.proofs.Admitted.{admitted, own-n, small-n}
 use Rattle.node_bytes.proofs.Stepped.{becomes-shown}
 use Rattle.frame_bytes.specs.Judged.{verdict, Goes}
 use Rattle.frame_bytes.proofs.Framed.{turned-away, is-3, is-14, is-7, goes, is-fault, no-fault, is-one}
-use Rattle.frame_bytes.proofs.Loops.{found-allowed}
+use Rattle.frame_bytes.proofs.Loops.{found-allowed, found-bytes}
 use Rattle.frame_bytes.proofs.frame.Statement.{statement}
 use Rattle.frame_bytes.proofs.frame.Tie as tie
 
@@ -100,8 +101,9 @@ take-message-requires c κs =
     let a = c21 .args in
     let h = admitted frameOutput (a .r .now) (a .out .now) (sym (c16 .admission .ensures) ∙ c15 .if1 .left) in
     let n = c13 .get-word .result in
+    let b = a .b .now in
     let read = sym (c8 .parse-prefix .ensures) ∙ ap found (c6 .f .given .1) in
-    let view = c2 .found-view .ensures .0 ∙ found-view n (a .b .now) _ (sym read) in
+    let view = c2 .found-view .ensures .0 ∙ found-view n b _ (sym read) in
     let low = leb 1 (a .s) in
     let high = leb (a .s) n in
     let sender = sym (c12 .and .ensures) ∙ not-false _ (c11 .if2 .left) in
@@ -111,8 +113,10 @@ take-message-requires c κs =
       own-n (a .r .now) (c13 .get-word .ensures),
       leb-true _ _ (both-left low high sender),
       leb-true _ _ (both-right low high sender),
-      found-allowed n (a .b .now) _ _ read _ view,
+      found-allowed n b _ _ read _ view,
       omega (arith, big),
+      sym (take-length b) ∙ ap (λ (j : ℕ). take j b) (sym (c .before .before .before .before .if4 .taken))
+          ∙ found-bytes n b _ _ read _ view,
     )
 
 returns-4 : tie.Need-returns-4
