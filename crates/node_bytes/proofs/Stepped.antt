@@ -214,7 +214,13 @@ pub handler-short : (c : Node) (s : ℕ) (m : Message) (v : View) {x : Sent} →
     → anyGood (listed x) ≡ false
 handler-short c s m v e = subst Short (sym e) (react-short c s m v)
 
--- the value that it forwards is the message that it handled, whose bytes are b
+-- nor does a begin
+pub read-short : (c : Node) (o : Operation) {to : ℕ} {x : Sent} {r : List ℕ} → isStep (restedOf to x) r (begun c o)
+    → anyGood (listed x) ≡ false
+unfolding begun
+read-short c o {to} {x} h = ap (λ (e : Effect). anyGood (listed (e .outbox .handler))) (h .0)
+
+-- the value that a handler forwards is the message that it handled, whose bytes are b
 pub handler-received : (c : Node) (s : ℕ) (m : Message) (v : View) (w b : List ℕ) {x : Sent}
     → x ≡ react c s m v .outbox .handler → b ≡ encode m w → Received x b
 handler-received c s m v w b e h = subst (λ (y : Sent). Received y b) (sym e) (react-received b c s m v w h)
@@ -226,9 +232,3 @@ step-received r n s m w b e i h =
     let c = recordOf r in
     subst (λ (y : Effect). Received (y .outbox .handler) b) (sym (i .0))
     (message-received b (c .f) c s m (beside (c .n) w m) w (step r n s m w e) refl h)
-
--- nor does a begin send a good one
-pub read-short : (c : Node) (o : Operation) {to : ℕ} {x : Sent} {r : List ℕ} → isStep (restedOf to x) r (begun c o)
-    → anyGood (listed x) ≡ false
-unfolding begun
-read-short c o {to} {x} h = ap (λ (e : Effect). anyGood (listed (e .outbox .handler))) (h .0)
