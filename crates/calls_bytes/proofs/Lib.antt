@@ -1,3 +1,6 @@
 pub mod Cases
 pub mod Claims
+pub mod Forward
+pub mod Handled
+pub mod Values
 pub mod Walk

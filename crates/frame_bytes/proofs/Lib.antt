@@ -1,4 +1,5 @@
 pub mod Adds
+pub mod Forward
 pub mod Framed
 pub mod Frames
 pub mod Going
@@ -8,3 +9,4 @@ pub mod Marked
 pub mod Stand
 pub mod Taking
 pub mod Turn
+pub mod Twice

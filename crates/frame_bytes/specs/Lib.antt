@@ -1,3 +1,4 @@
+pub mod Forward
 pub mod Frames
 pub mod Judged
 pub mod Marks
