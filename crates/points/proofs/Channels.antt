@@ -68,7 +68,7 @@ module _ (b : List ℕ) (a c : ℕ) (x : Extent) (m : Message) (M : MayDeliver b
   abbrev handling : Step
   handling = messageStep (faultsIn b) (node b c) a m beside
 
-  heard-after : length (handling .node .heard) ≡ cells
+  pub heard-after : length (handling .node .heard) ≡ cells
   unfolding messageStep
   heard-after =
       let r = recordIn (block b c) in
@@ -78,7 +78,7 @@ module _ (b : List ℕ) (a c : ℕ) (x : Extent) (m : Message) (M : MayDeliver b
       (sized-view (stated b) (viewAt (stated b) slot) (is-size (stated b) (sound-size b (M .usable)) .1)) refl))
       ∙ heard-read (recordBytes (s .node))
 
-  delivers : deliver a c x b ≡ settle (stated b) a c x handling (onBlock c (takeOff a) b) b
+  pub delivers : deliver a c x b ≡ settle (stated b) a c x handling (onBlock c (takeOff a) b) b
   delivers = deliver-hands a c x b (stated b) refl
       (admits a c b (M .fit) (M .usable) (node-is (stated b) a (M .sender)) (node-is (stated b) c (M .receiver))
       (M .stands))
@@ -110,21 +110,23 @@ module _ (b : List ℕ) (a c : ℕ) (x : Extent) (m : Message) (M : MayDeliver b
   deliver-judged = judged b (M .fit) (M .usable) true a c (M .sender) (M .receiver) (λ e. M .some) x handling
       heard-after (stillWaits b a c) own-left other-left (R.deliver a c x) delivers
 
+-- Where no operation is open nothing moves on.
+pub rests : (f : ℕ) (s : Step) → isOpen (s .node .wait) ≡ false → moveOn f s ≡ s
+unfolding moveOn readPass writePass comparePass borrowPass
+rests f s e = go (s .node .wait) refl
+  where
+    go : (w : Wait) → s .node .wait ≡ w → moveOn f s ≡ s
+    go Idle h = rw h refl
+    go (Reading o k m) h = true-false (isOpen (s .node .wait)) (rw h refl) e
+    go (Writing k i r z) h = true-false (isOpen (s .node .wait)) (rw h refl) e
+    go (Comparing k i r) h = true-false (isOpen (s .node .wait)) (rw h refl) e
+    go (Borrowing k r) h = true-false (isOpen (s .node .wait)) (rw h refl) e
+
 -- An idle node answers a read, and does no more.
 answers-only : (f : ℕ) (d : Node) (a q : ℕ) (v : View) → isOpen (d .wait) ≡ false
     → messageStep f d a (Read q) v ≡ started d a (One (ReadAnswer q (d .maxtag)))
-unfolding messageStep react moveOn readPass writePass comparePass borrowPass
-answers-only f d a q v e = go (d .wait) refl
-  where
-    s : Step
-    s = started d a (One (ReadAnswer q (d .maxtag)))
-
-    go : (w : Wait) → d .wait ≡ w → moveOn f s ≡ s
-    go Idle h = rw h refl
-    go (Reading o k m) h = true-false (isOpen (d .wait)) (rw h refl) e
-    go (Writing k i r z) h = true-false (isOpen (d .wait)) (rw h refl) e
-    go (Comparing k i r) h = true-false (isOpen (d .wait)) (rw h refl) e
-    go (Borrowing k r) h = true-false (isOpen (d .wait)) (rw h refl) e
+unfolding messageStep react
+answers-only f d a q v e = rests f (started d a (One (ReadAnswer q (d .maxtag)))) e
 
 module _ (b : List ℕ) (c q : ℕ) (M : MayDeliver b c c Whole (Read q)) (idle : isOpen (node b c .wait) ≡ false) where
   answered : handled b c c Whole (Read q) ≡ entry noView (ReadAnswer q (node b c .maxtag)) c ∷ []
@@ -183,16 +185,8 @@ module _ (b : List ℕ) (c q : ℕ) (M : MayDeliver b c c Whole (Read q)) (idle 
 -- A write with a larger tag is echoed and answered by an idle node: two messages for the place of one.
 writes-two : (f : ℕ) (d : Node) (v : View) → isOpen (d .wait) ≡ false → d .maxtag ≡ 0
     → messages (messageStep f d 1 (Write 1 1) v .outbox) ≡ Echo 1 ∷ WriteAnswer 1 1 ∷ []
-unfolding messageStep react raised moveOn readPass writePass comparePass borrowPass
-writes-two f d v e h = go (d .wait) refl
-  where
-    go : (w : Wait) → d .wait ≡ w
-        → messages (moveOn f (react d 1 (Write 1 1) v) .outbox) ≡ Echo 1 ∷ WriteAnswer 1 1 ∷ []
-    go Idle z = rw (z, h) refl
-    go (Reading o k m) z = true-false (isOpen (d .wait)) (rw z refl) e
-    go (Writing k i r y) z = true-false (isOpen (d .wait)) (rw z refl) e
-    go (Comparing k i r) z = true-false (isOpen (d .wait)) (rw z refl) e
-    go (Borrowing k r) z = true-false (isOpen (d .wait)) (rw z refl) e
+unfolding messageStep react raised
+writes-two f d v e h = ap (λ (s : Step). messages (s .outbox)) (rests f (react d 1 (Write 1 1) v) e) ∙ rw h refl
 
 module _ {n f : ℕ} (b : List ℕ) (F : Filled n f 1 16 (Write 1 1) b) where
   two : goTo 1 (handled b 1 1 Whole (Write 1 1)) ≡ 2

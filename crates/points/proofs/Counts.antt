@@ -63,28 +63,27 @@ count-pop t size some = omega (
 )
 
 -- The slot of any message.
-short : (n : ℕ) (m : Message) (v : View) → length (slot n m v) ≤ slotSize
+pub slot-size : (n : ℕ) (m : Message) (v : View) → length (slot n m v) ≡ slotSize
 unfolding slot answer
-short n m v = go (isSize n) (allowed n m (viewBytes n v)) (leb (length e) slotSize) refl
+slot-size n m v = go (isSize n) (allowed n m (viewBytes n v)) (leb (length e) slotSize) refl
   where
     e : List ℕ
     e = encode m (viewBytes n v)
 
-    zeros : length {A = ℕ} (replicate slotSize 0) ≤ slotSize
-    zeros = omega (arith, length-replicate {A = ℕ} slotSize 0)
+    zeros : length {A = ℕ} (replicate slotSize 0) ≡ slotSize
+    zeros = length-replicate {A = ℕ} slotSize 0
 
     go : (s a l : Bool) → leb (length e) slotSize ≡ l → length (after
         (pick s (pick a (pick l (result (length e)) (refused 12)) (refused 7)) (refused 1)) e (replicate slotSize 0))
-        ≤ slotSize
-    go true true true h = omega (
-      arith,
-      length-replicate {A = ℕ} slotSize 0,
-      length-put (replicate slotSize 0) 0 e
-          (omega (arith, leb-true (length e) slotSize h, length-replicate {A = ℕ} slotSize 0)),
-    )
+        ≡ slotSize
+    go true true true h = length-put (replicate slotSize 0) 0 e
+        (omega (arith, leb-true (length e) slotSize h, length-replicate {A = ℕ} slotSize 0)) ∙ zeros
     go true true false h = zeros
     go true false l h = zeros
     go false a l h = zeros
+
+pub short : (n : ℕ) (m : Message) (v : View) → length (slot n m v) ≤ slotSize
+short n m v = omega (arith, slot-size n m v)
 
 -- ---- the entries of a step go to the nodes
 
@@ -174,7 +173,7 @@ module _ (n : ℕ) (small : n ≤ 16) where
 
     -- A message from c comes in, unless d has stopped.
     module _ (c : ℕ) (p : OneTo n c) (m : List ℕ) (fits : length m ≤ slotSize) where
-      in-size : length (receive c m (block t d)) ≡ blockSize
+      pub in-size : length (receive c m (block t d)) ≡ blockSize
       in-size = receive-length (block t d) own c (p .0) (omega arith) m fits
 
       pub held-receive : Held (onBlock d (receive c m) t)
@@ -194,8 +193,8 @@ module _ (n : ℕ) (small : n ≤ 16) where
       pub stands : stopped t k ≡ false
       pub holds : countOf (channel t c k) ≡ w
 
-    waits-here : {t : List ℕ} (H : Held t) (m : List ℕ) → length m ≤ slotSize → (k w : ℕ) (q : OneTo n k) → Waits t k w
-        → w < capacity → Waits (onBlock k (receive c m) t) k (w + 1)
+    pub waits-here : {t : List ℕ} (H : Held t) (m : List ℕ) → length m ≤ slotSize → (k w : ℕ) (q : OneTo n k)
+        → Waits t k w → w < capacity → Waits (onBlock k (receive c m) t) k (w + 1)
     waits-here {t} H m fits k w q W l =
         let same = on-same H k q (receive c m) (in-size H k q c p m fits) in
         let room : countOf (channel t c k) < capacity = omega (arith, W .holds) in
@@ -207,7 +206,7 @@ module _ (n : ℕ) (small : n ≤ 16) where
               ∙ count-push m (channel t c k) (size-of H k q c p) fits room ∙ ap (λ x. x + 1) (W .holds);
         }
 
-    waits-there : {t : List ℕ} (H : Held t) (m : List ℕ) → length m ≤ slotSize → (d : ℕ) (o : OneTo n d) (k w : ℕ)
+    pub waits-there : {t : List ℕ} (H : Held t) (m : List ℕ) → length m ≤ slotSize → (d : ℕ) (o : OneTo n d) (k w : ℕ)
         → OneTo n k → (k ≡ d → ⊥) → Waits t k w → Waits (onBlock d (receive c m) t) k w
     waits-there H m fits d o k w q e W =
         let same = on-other H d o (receive c m) (in-size H d o c p m fits) k q e in

@@ -2,9 +2,11 @@ pub mod Absences
 pub mod Begins
 pub mod Channels
 pub mod Counts
+pub mod Delivered
 pub mod Figures
 pub mod Filled
 pub mod Follows
+pub mod Forward
 pub mod Instance
 pub mod Judged
 pub mod LastTag
@@ -15,6 +17,9 @@ pub mod RuledOutChannels
 pub mod RuledOutFigures
 pub mod RuledOutNodes
 pub mod RuledOutRuns
+pub mod Slots
 pub mod Stops
+pub mod ValueHad
+pub mod ValueWaits
 pub mod Wrong
 pub mod WrongEvents

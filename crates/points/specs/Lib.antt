@@ -2,6 +2,7 @@ pub mod Absences
 pub mod Calls
 pub mod Channels
 pub mod Figures
+pub mod Forward
 pub mod LastTag
 pub mod Messages
 pub mod Faults
