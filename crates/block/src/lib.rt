@@ -22,9 +22,9 @@ ghost use Rattle.block.specs.Block.{receive, halt, channelsSound, blockS
 // Where the parts of a block stand, and its bytes.
 const STOP_PLACE: usize = 0;
 
-const RECORD_PLACE: usize = STOP_PLACE + 1;
+pub const RECORD_PLACE: usize = STOP_PLACE + 1;
 
-const CHANNELS_PLACE: usize = RECORD_PLACE + RECORD;
+pub const CHANNELS_PLACE: usize = RECORD_PLACE + RECORD;
 
 pub const BLOCK: usize = CHANNELS_PLACE + CHANNEL * NODES;
 

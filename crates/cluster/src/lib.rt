@@ -1,6 +1,7 @@
 // A cluster (document 01's house) in lent bytes: n nodes and the channels between them. Every event judges everything
 // first and writes last, so that a refusal leaves every byte as it was.
 mod handing;
+mod here;
 
 use block::BLOCK;
 pub use events::Outcome;

@@ -1,5 +1,6 @@
-// What decides in a step, on numbers and enums alone: which answers count, what an open round holds, what is sent, the
-// next round's tag, the ending. The step by value and the step on a record's bytes call these.
+// What decides in a step, on numbers and enums alone: which answers count, what an open round holds, what is sent and
+// whether it is forwarded, the next round's tag, the ending. The step by value and the step on a record's bytes call
+// these, and so does what writes the messages of a step.
 use record::Kind;
 use record::Wait;
 use step::Ending;
@@ -13,6 +14,7 @@ ghost use mathlib.Core.Path.{_≡_};
 ghost use Prim.Native.Nat.{_≤_};
 ghost use Rattle.octets.specs.Test.{pick};
 ghost use Rattle.view.specs.Size.{nodes, limit};
+ghost use Rattle.step.specs.Forward.{isValue, isForward};
 ghost use Rattle.step.specs.Step.{endingOf};
 ghost use Rattle.step.specs.React.{readWait, writeWait, roundHolds};
 ghost use Rattle.step.specs.Move.{nextTag};
@@ -165,5 +167,34 @@ pub fn ending_of(k: Kind, rule: Rule) -> Ending
     match k {
         Kind::Update => Ending::Done(rule),
         Kind::Scan => Ending::Scan(rule),
+    }
+}
+
+// Whether a part of a step is one value alone: of a handler, the value that it forwards.
+pub fn is_forward(s: Sent) -> bool
+    ensures { λ r. ⌜ r ≡ isForward s ⌝ }
+{
+    match s {
+        Sent::Nothing => false,
+        Sent::One(m) => is_value(m),
+        Sent::Two(_, _) => false,
+    }
+}
+
+fn is_value(m: Message) -> bool
+    ensures { λ r. ⌜ r ≡ isValue m ⌝ }
+{
+    match m {
+        Message::Read { request: _ } => false,
+        Message::ReadAnswer { request: _, tag: _ } => false,
+        Message::Write { request: _, tag: _ } => false,
+        Message::WriteAnswer { request: _, tag: _ } => false,
+        Message::Echo { tag: _ } => false,
+        Message::Value {
+            tag: _,
+            writer: _,
+            report: _,
+        } => true,
+        Message::Good { tag: _ } => false,
     }
 }

@@ -7,9 +7,11 @@ use native.Mathlib.Nat.{add-zero, add-assoc}
 use native.Mathlib.Omega.{arith}
 use lib.ListN.{length, take, drop, length-append, length-take, length-drop}
 use lib.Seq.{length-take-le, take-all, take-at}
+use lib.Dec.{leb}
 use borrow.Author.Tests.{le-leb}
 use Rattle.octets.specs.Answer.{Answer, result, refused}
 use Rattle.octets.specs.Bytes.{put}
+use Rattle.octets.specs.Test.{pick}
 use Rattle.octets.proofs.Lent.{lent-back}
 use Rattle.octets.proofs.Put.{length-put, put-inside, put-nil, put-over, put-then}
 use Rattle.octets.proofs.Test.{both-true, true-false}
@@ -18,14 +20,15 @@ use Rattle.view.specs.View.{viewBytes}
 use Rattle.view.specs.declared.View.{View}
 use Rattle.view.proofs.ViewBytes.{length-viewBytes}
 use Rattle.table.specs.Loop.{either}
-use Rattle.wire.specs.Codec.{answer, after, isGood}
+use Rattle.wire.specs.Codec.{after, isGood}
 use Rattle.wire.specs.Outcome.{written}
 use Rattle.wire.specs.declared.Written.{Written}
 use Rattle.wire.specs.declared.Written.the-variants.{Length, Refused as NotWritten}
-use Rattle.wire.specs.Layout.{encode, allowed, valueSize}
+use Rattle.wire.specs.Layout.{kind, tag, view, encode, allowed, valueSize}
 use Rattle.wire.specs.declared.Message.{Message}
 use Rattle.wire.specs.declared.Message.the-variants.{Read, ReadAnswer, Write, WriteAnswer, Echo, Value, Good}
 use Rattle.wire.proofs.Numbers.{length-encode}
+use Rattle.wire_put.proofs.Allowed.{any-view}
 use Rattle.step.specs.Claims.{AllLawful, sizes}
 use Rattle.step.specs.Step.{listed, messages}
 use Rattle.step.specs.declared.Outbox.{Outbox}
@@ -33,7 +36,8 @@ use Rattle.step.specs.declared.Sent.{Sent}
 use Rattle.step.specs.declared.Sent.the-variants.{Nothing, One, Two}
 use Rattle.step.proofs.Allowed.{lawful-allowed}
 use Rattle.calls.specs.Bytes.{run}
-use Rattle.emit.specs.Forward.{isForward, Received}
+use Rattle.step.specs.Forward.{isForward}
+use Rattle.emit.specs.Forward.{Received}
 use Rattle.emit.specs.Good.{anyGood}
 use Rattle.emit.specs.Room.{AllAllowed, Room}
 
@@ -92,25 +96,29 @@ module _ (o e : List ℕ) (at : ℕ) (k : at + length e ≤ length o) where
       ∙ sym (put-inside o at (length o - at) 0 e (omega arith) (omega arith))
       ∙ ap (λ (x : ℕ). put o x e) (add-zero at)
 
--- one message
-module _ (n : ℕ) (m : Message) (v o : List ℕ) (at : ℕ) (s : isSize n ≡ true) (h : allowed n m v ≡ true)
-    (k : at + length (encode m v) ≤ length o) where
+-- a good message
+module _ (t : ℕ) (v o : List ℕ) (at : ℕ) (k : at + length (encode (Good t) v) ≤ length o) where
+  abbrev bytes : List ℕ
+  bytes = kind 7 ++ tag t ++ view v
+
   abbrev room : ℕ
   room = length (take (length o - at) (drop at o))
 
-  written-is : answer n m v room ≡ result (length (encode m v))
-  unfolding answer
-  written-is = rw (s, h, le-leb (length (encode m v)) room (rest-room o (encode m v) at k))
+  good-fits : length bytes ≤ room
+  unfolding encode
+  good-fits = rest-room o bytes at k
 
-  pub emitted : (r : Written) (t : List ℕ) → written r ≡ answer n m v room
-      → t ≡ after (written r) (encode m v) (take (length o - at) (drop at o))
-      → (written r ≡ result (length (encode m v)))
-      × (take at o ++ (t ++ drop (length o - at) (drop at o)) ≡ put o at (encode m v))
-  emitted r t e q =
-      let w : written r ≡ result (length (encode m v)) = e ∙ written-is in (
+  pub emitted : (r : Written) (u : List ℕ)
+      → written r ≡ pick (leb (length bytes) room) (result (length bytes)) (refused 12)
+      → u ≡ after (written r) bytes (take (length o - at) (drop at o))
+      → (written r ≡ result (length (encode (Good t) v)))
+      × (take at o ++ (u ++ drop (length o - at) (drop at o)) ≡ put o at (encode (Good t) v))
+  unfolding encode
+  emitted r u e q =
+      let w : written r ≡ result (length bytes) =
+      e ∙ ap (λ (x : Bool). pick x (result (length bytes)) (refused 12)) (le-leb (length bytes) room good-fits) in (
         w,
-        rest-put o (encode m v) at k t
-            (q ∙ ap (λ (x : Answer ℕ). after x (encode m v) (take (length o - at) (drop at o))) w),
+        rest-put o bytes at k u (q ∙ ap (λ (x : Answer ℕ). after x bytes (take (length o - at) (drop at o))) w),
       )
 
 -- the length that is answered, where one is
@@ -283,18 +291,6 @@ no-good o h =
     let b = listed (o .reading) in
     let d = listed (o .comparing) in
     good-append (a ++ b) d ∙ ap (λ (x : Bool). either x (anyGood d)) (good-append a b) ∙ h
-
--- one that is not good has the same bytes beside any view, and is allowed beside any
-pub any-view : (n : ℕ) (m : Message) (v w : List ℕ) → isGood m ≡ false
-    → (encode m v ≡ encode m w) × (allowed n m v ≡ allowed n m w)
-unfolding encode allowed
-any-view n (Read q) v w h = (refl, refl)
-any-view n (ReadAnswer q t) v w h = (refl, refl)
-any-view n (Write q t) v w h = (refl, refl)
-any-view n (WriteAnswer q t) v w h = (refl, refl)
-any-view n (Echo t) v w h = (refl, refl)
-any-view n (Value t x p) v w h = (refl, refl)
-any-view n (Good t) v w h = absurd (let z : _≡_ {A = ℕ} 0 1 = cc in omega arith)
 
 module _ (n : ℕ) (v w : List ℕ) where
   pub runs-alike : (ms : List Message) → anyGood ms ≡ false → run v ms ≡ run w ms

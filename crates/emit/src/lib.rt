@@ -1,5 +1,6 @@
 // Writing what a step sends into an output buffer: each message once, in order, from the buffer's start. A value that a
 // handler forwards is the one that came, and its bytes are copied as they came.
+use decide::is_forward;
 use octets::put_bytes;
 use step::Outbox;
 use step::Sent;
@@ -11,8 +12,8 @@ use wire::Message;
 use wire::VALUE;
 use wire::Written;
 use wire_parse::views::is_good;
+use wire_put::good;
 use wire_put::short;
-use wire_write::write_good;
 ghost use mathlib.Core.Path.{_≡_};
 ghost use mathlib.Core.Bool.{true, false};
 ghost use mathlib.Core.List.{[], _++_};
@@ -28,7 +29,7 @@ ghost use Rattle.step.specs.Step.{listed, messages};
 ghost use Rattle.calls.specs.Bytes.{run, outBytes};
 ghost use Rattle.emit.specs.Room.{Room};
 ghost use Rattle.emit.specs.Good.{anyGood};
-ghost use Rattle.emit.specs.Forward.{isValue, isForward, Received};
+ghost use Rattle.emit.specs.Forward.{Received};
 
 // Writes a message that is not good at a place, and answers the place after it.
 fn emit_short(m: Message, out: &mut [u8], at: usize) -> usize
@@ -47,7 +48,7 @@ fn emit_good(n: usize, tag: u64, v: &[u8], out: &mut [u8], at: usize) -> usize
     ensures { λ r. ⌜ (r ≡ at + length (encode (Good tag) (now (v .entry))))
         × (now (out .exit) ≡ put (now (out .entry)) at (encode (Good tag) (now (v .entry)))) ⌝ }
 {
-    match write_good(n, tag, v, &mut out[at..]) {
+    match good(&mut out[at..], tag, v) {
         Written::Length(k) => at + k,
         Written::Refused(_) => at,
     }
@@ -79,35 +80,6 @@ fn emit_sent(n: usize, m: Sent, v: &[u8], out: &mut [u8], at: usize) -> usize
             let next = emit_one(n, a, v, out, at);
             emit_one(n, b, v, out, next)
         }
-    }
-}
-
-fn is_value(m: Message) -> bool
-    ensures { λ r. ⌜ r ≡ isValue m ⌝ }
-{
-    match m {
-        Message::Read { request: _ } => false,
-        Message::ReadAnswer { request: _, tag: _ } => false,
-        Message::Write { request: _, tag: _ } => false,
-        Message::WriteAnswer { request: _, tag: _ } => false,
-        Message::Echo { tag: _ } => false,
-        Message::Value {
-            tag: _,
-            writer: _,
-            report: _,
-        } => true,
-        Message::Good { tag: _ } => false,
-    }
-}
-
-// Whether a part of a step is one value alone.
-fn is_forward(m: Sent) -> bool
-    ensures { λ r. ⌜ r ≡ isForward m ⌝ }
-{
-    match m {
-        Sent::Nothing => false,
-        Sent::One(a) => is_value(a),
-        Sent::Two(_, _) => false,
     }
 }
 

@@ -1,2 +1,4 @@
 pub mod Blocks
 pub mod Check
+pub mod Received
+pub mod Stays

@@ -1,4 +1,6 @@
 // A cluster's bytes: where the blocks of its nodes stand, what they say, and the changes of one of them.
+pub mod forward;
+
 use block::BLOCK;
 use octets::and;
 use record::Node;

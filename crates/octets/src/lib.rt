@@ -4,7 +4,7 @@ ghost use mathlib.Core.Path.{_≡_};
 ghost use Prim.Native.Nat.{_+_, _-_, _*_, _<_, _≤_, min};
 ghost use lib.ListN.{length, replicate};
 ghost use Rattle.octets.specs.Test.{both};
-ghost use Rattle.octets.specs.Bytes.{num, be, put};
+ghost use Rattle.octets.specs.Bytes.{num, be, part, put};
 ghost use Rattle.octets.specs.Word.{wordSize, word, wordBytes};
 
 // The bytes of a word.
@@ -85,6 +85,18 @@ pub fn put_bytes(b: &mut [u8], at: usize, s: &[u8])
     let mut i = 0;
     while i < s.len() {
         b[at + i] = s[i];
+        i += 1;
+    }
+}
+
+// Copies bytes from one place of b to another, below it, the same or past its end: none is read after it was written.
+pub fn copy_within(b: &mut [u8], from: usize, to: usize, len: usize)
+    requires { ⌜ (from + len ≤ length (now b)) × (to + len ≤ length (now b)) × (from < to → from + len ≤ to) ⌝ }
+    ensures { λ _. ⌜ now (b .exit) ≡ put (now (b .entry)) to (part (now (b .entry)) from len) ⌝ }
+{
+    let mut i = 0;
+    while i < len {
+        b[to + i] = b[from + i];
         i += 1;
     }
 }

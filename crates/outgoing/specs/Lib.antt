@@ -1,3 +1,4 @@
 pub mod Entries
 pub mod Outgoing
+pub mod Forward
 pub mod Room

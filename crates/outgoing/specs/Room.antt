@@ -6,7 +6,7 @@ use mathlib.Core.Bool.{Bool, true}
 use mathlib.Core.List.{List}
 use lib.Dec.{leb, eqb}
 use Rattle.octets.specs.Test.{pick}
-use Rattle.table.specs.Loop.{either}
+use Rattle.table.specs.Loop.{either, all}
 use Rattle.region.specs.Channel.{capacity, countOf}
 use Rattle.layout.specs.Layout.{stopped, channel}
 use Rattle.outgoing.specs.Entries.{Entry, goTo}
@@ -24,3 +24,11 @@ roomBefore cut gone c l b k =
     either (stopped b k)
     (pick (eqb k c) (ownRoom cut gone (countOf (channel b c k)) (goTo k l))
     (leb (countOf (channel b c k) + goTo k l) capacity))
+
+-- A step sends no node more than so many messages, two in each of its three parts; and every channel from c can hold
+-- that many more.
+abbrev pub sentMost : ℕ
+sentMost = 6
+
+unfoldable pub spare : (n c : ℕ) → List ℕ → Bool
+spare n c b = all n (λ k. leb (countOf (channel b c k) + sentMost) capacity)

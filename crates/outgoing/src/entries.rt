@@ -8,14 +8,15 @@ use view::VIEW;
 use view::View;
 use wire::Message;
 ghost use mathlib.Core.Path.{_≡_};
+ghost use mathlib.Core.Bool.{true};
 ghost use Prim.Native.Nat.{ℕ, _-_, _≤_};
 ghost use lib.ListN.{length, take};
-ghost use Rattle.view.specs.Size.{nodes};
+ghost use Rattle.octets.specs.Bytes.{put};
+ghost use Rattle.view.specs.Size.{nodes, isSize};
 ghost use Rattle.view.specs.declared.View.{View};
 ghost use Rattle.step.specs.Step.{listed};
 ghost use Rattle.view.specs.View.{viewBytes};
-ghost use Rattle.wire.specs.Layout.{encode};
-ghost use Rattle.wire.specs.Codec.{answer, after};
+ghost use Rattle.wire.specs.Layout.{encode, allowed};
 ghost use Rattle.wire.specs.declared.Message.the-variants.{Good};
 ghost use Rattle.region.specs.Channel.{slotSize};
 ghost use Rattle.outgoing.specs.Entries.{isAnswer, addressed, entriesOf, entries, goTo, slot};
@@ -23,32 +24,31 @@ ghost use Rattle.outgoing.specs.Entries.{isAnswer, addressed, entriesOf,
 // Writes a good message with its view at the front of s.
 fn write_held(n: usize, tag: u64, v: View, s: &mut [u8])
     requires { ⌜ (n ≤ nodes) × (length (now s) ≡ slotSize) ⌝ }
-    ensures { λ _. ⌜ now (s .exit)
-        ≡ after (answer n (Good tag) (viewBytes n v) slotSize) (encode (Good tag) (viewBytes n v)) (now (s .entry)) ⌝ }
+    ensures { λ _. ⌜ now (s .exit) ≡ put (now (s .entry)) 0 (encode (Good tag) (viewBytes n v)) ⌝ }
 {
     let mut w = [0u8; VIEW];
     view::write_view(n, v, &mut w);
     let end = ENTRY * n;
-    wire_write::write_good(n, tag, &w[..end], s);
+    wire_put::good(s, tag, &w[..end]);
 }
 
-// Writes a message, with the view that a good message carries, at the front of s. No other needs the view's bytes.
+// Writes a message that is known to be allowed, with the view that a good message carries, at the front of s. No other
+// needs the view's bytes.
 fn write_slot(n: usize, m: Message, v: View, s: &mut [u8])
-    requires { ⌜ (n ≤ nodes) × (length (now s) ≡ slotSize) ⌝ }
-    ensures { λ _. ⌜ now (s .exit)
-        ≡ after (answer n m (viewBytes n v) slotSize) (encode m (viewBytes n v)) (now (s .entry)) ⌝ }
+    requires { ⌜ (isSize n ≡ true) × (length (now s) ≡ slotSize) × (allowed n m (viewBytes n v) ≡ true) ⌝ }
+    ensures { λ _. ⌜ now (s .exit) ≡ put (now (s .entry)) 0 (encode m (viewBytes n v)) ⌝ }
 {
     match m {
         Message::Good { tag } => write_held(n, tag, v, s),
         _ => {
-            wire_write::write_short(n, m, s);
+            wire_put::short(m, s);
         }
     }
 }
 
-// The slot of a message.
+// The slot of a message that is known to be allowed.
 pub fn slot_of(n: usize, m: Message, v: View) -> [u8; SLOT]
-    requires { ⌜ n ≤ nodes ⌝ }
+    requires { ⌜ (isSize n ≡ true) × (allowed n m (viewBytes n v) ≡ true) ⌝ }
     ensures { λ r. ⌜ r ≡ slot n m v ⌝ }
 {
     let mut s = [0u8; SLOT];

@@ -21,8 +21,11 @@ pub fn is_cut(x: Extent) -> bool
     }
 }
 
-// A number of entries that holds all that are let out: a step has three parts of at most two messages, each to all.
-const ENTRIES: usize = 6 * NODES;
+// The most messages that a step sends to one node: it has three parts of at most two messages.
+pub const SENT_MOST: usize = 6;
+
+// A number of entries that holds all that are let out.
+const ENTRIES: usize = SENT_MOST * NODES;
 
 pub fn allowance(x: Extent) -> usize
     ensures { λ r. ⌜ r ≡ most x ⌝ }

@@ -11,7 +11,7 @@ ghost use Rattle.region.specs.Channel.{channelSize, slotSize, first as f
 ghost use Rattle.region.specs.Channel.{clear as cleared};
 
 // The capacity as a count.
-const FULL: u8 = CAPACITY as u8;
+pub const FULL: u8 = CAPACITY as u8;
 
 // A byte as an index.
 pub fn index(x: u8) -> usize

@@ -2,6 +2,7 @@
 use layout::stopped_at;
 use layout::waiting_at;
 use octets::and;
+use outgoing::SENT_MOST;
 use outgoing::entries::entries_to;
 use outgoing::entries::less;
 use region::places::CAPACITY;
@@ -13,7 +14,7 @@ ghost use Rattle.view.specs.Size.{nodes};
 ghost use Rattle.table.specs.Loop.{all};
 ghost use Rattle.layout.specs.Layout.{clusterSize};
 ghost use Rattle.outgoing.specs.Entries.{entries};
-ghost use Rattle.outgoing.specs.Room.{roomBefore};
+ghost use Rattle.outgoing.specs.Room.{roomBefore, spare};
 
 // Whether node k can hold what c lets out to it.
 fn room_at(
@@ -63,6 +64,20 @@ pub(crate) fn has_room(
     while k < n {
         k += 1;
         ok = and(room_at(b, n, a, c, cut, gone, o, left, k), ok);
+    }
+    ok
+}
+
+// Whether every channel from c can hold whatever a step of c sends, so that 11 does not come up.
+pub fn has_spare(b: &[u8], n: usize, c: usize) -> bool
+    requires { ⌜ (n ≤ nodes) × (1 ≤ c) × (c ≤ n) × (length (now b) ≡ clusterSize n) ⌝ }
+    ensures { λ r. ⌜ r ≡ spare n c (now (b .entry)) ⌝ }
+{
+    let mut ok = true;
+    let mut k = 0;
+    while k < n {
+        k += 1;
+        ok = and(waiting_at(b, c, k) + SENT_MOST <= CAPACITY, ok);
     }
     ok
 }

@@ -5,7 +5,9 @@ mod judge;
 mod sending;
 
 use judge::has_room;
+pub use judge::has_spare;
 use layout::faults_in;
+use layout::forward::first_place;
 use layout::halt_at;
 use layout::keep_record_at;
 use layout::stopped_nodes;
@@ -13,19 +15,28 @@ use layout::take_off_at;
 use outgoing::Extent;
 use outgoing::allowance;
 use outgoing::is_cut;
+use sending::let_handled;
 use sending::let_out;
 use step::Outbox;
+use step::Sent;
 ghost use mathlib.Core.Path.{_≡_};
-ghost use mathlib.Core.Bool.{true};
+ghost use mathlib.Core.Bool.{true, false};
 ghost use Prim.Native.Nat.{_≤_};
 ghost use lib.ListN.{length};
 ghost use Rattle.octets.specs.Test.{pick};
 ghost use Rattle.view.specs.Size.{nodes};
+ghost use Rattle.view.specs.View.{noView};
+ghost use Rattle.step.specs.Forward.{isForward};
+ghost use Rattle.step.specs.Claims.{AllLawful};
+ghost use Rattle.step.specs.Step.{listed, messages};
+ghost use Rattle.region.specs.Channel.{oldest};
 ghost use Rattle.region.specs.Record.{recordSize, recordOf, recordBytes};
 ghost use Rattle.block.specs.Block.{takeOff};
-ghost use Rattle.layout.specs.Layout.{clusterSize, onBlock};
-ghost use Rattle.outgoing.specs.Entries.{entries};
+ghost use Rattle.layout.specs.Layout.{clusterSize, channel, onBlock};
+ghost use Rattle.layout.specs.Slot.{slotPlace};
+ghost use Rattle.outgoing.specs.Entries.{entriesOf, entries};
 ghost use Rattle.outgoing.specs.Outgoing.{shortened, isCut, mayStop, haltIf, letOut, hasRoom, released};
+ghost use Rattle.outgoing.specs.Forward.{ReceivedAt};
 ghost use Rattle.outgoing.specs.Room.{goneIn};
 
 // Whether one node more may stop, where one is to (refusal 10).
@@ -56,21 +67,34 @@ fn halt_if(b: &mut [u8], n: usize, c: usize, cut: bool)
     }
 }
 
-// What node c sends goes out, after it stopped in a cut.
-fn release(b: &mut [u8], n: usize, a: usize, c: usize, o: Outbox, x: Extent)
-    requires { ⌜ (n ≤ nodes) × (1 ≤ a) × (a ≤ n) × (1 ≤ c) × (c ≤ n) × (length (now b) ≡ clusterSize n) ⌝ }
+// What node c sends goes out, after it stopped in a cut. A value that it passes on stands at `from`.
+pub fn release(b: &mut [u8], n: usize, a: usize, c: usize, o: Outbox, from: usize, x: Extent)
+    requires { ⌜ (n ≤ nodes) × (1 ≤ a) × (a ≤ n) × (1 ≤ c) × (c ≤ n) × (length (now b) ≡ clusterSize n)
+        × ReceivedAt n a c (o .view) (o .handler) (now b) from × AllLawful n (o .view) (messages o) ⌝ }
     ensures { λ _. ⌜ now (b .exit)
         ≡ letOut n c (shortened x (entries n a o)) (haltIf (isCut x) n c (now (b .entry))) ⌝ }
 {
     halt_if(b, n, c, is_cut(x));
-    let_out(b, n, a, c, o, allowance(x));
+    let_out(b, n, a, c, o, from, allowance(x));
+}
+
+// The same where only the handler sends.
+pub fn release_handled(b: &mut [u8], n: usize, a: usize, c: usize, s: Sent, from: usize, x: Extent)
+    requires { ⌜ (n ≤ nodes) × (1 ≤ a) × (a ≤ n) × (1 ≤ c) × (c ≤ n) × (length (now b) ≡ clusterSize n)
+        × ReceivedAt n a c noView s (now b) from × AllLawful n noView (listed s) ⌝ }
+    ensures { λ _. ⌜ now (b .exit)
+        ≡ letOut n c (shortened x (entriesOf n a noView (listed s))) (haltIf (isCut x) n c (now (b .entry))) ⌝ }
+{
+    halt_if(b, n, c, is_cut(x));
+    let_handled(b, n, a, c, s, view::absent(), from, allowance(x));
 }
 
 // Node c begins an operation, after which `r` is its record and o goes out, or nothing is changed where a channel would
-// be full (refusal 11).
+// be full (refusal 11). There is no message that could be passed on.
 pub fn settle(b: &mut [u8], n: usize, c: usize, r: &[u8], o: Outbox, x: Extent) -> bool
     requires { ⌜ (n ≤ nodes) × (1 ≤ c) × (c ≤ n) × (length (now b) ≡ clusterSize n)
-        × (length (now r) ≡ recordSize) × (now r ≡ recordBytes (recordOf (now r))) ⌝ }
+        × (length (now r) ≡ recordSize) × (now r ≡ recordBytes (recordOf (now r)))
+        × (isForward (o .handler) ≡ false) × AllLawful n (o .view) (messages o) ⌝ }
     ensures { λ t. ⌜ (t ≡ hasRoom n c c x (recordOf (now (r .entry))) o (now (b .entry)))
         × (now (b .exit) ≡ pick t (released n c c x (recordOf (now (r .entry))) o (now (b .entry)))
         (now (b .entry))) ⌝ }
@@ -79,7 +103,7 @@ pub fn settle(b: &mut [u8], n: usize, c: usize, r: &[u8], o: Outbox, x: Extent) 
         return false;
     }
     keep_record_at(b, c, r);
-    release(b, n, c, c, o, x);
+    release(b, n, c, c, o, 0, x);
     true
 }
 
@@ -94,7 +118,9 @@ pub fn settle_delivery(
     x: Extent,
 ) -> bool
     requires { ⌜ (n ≤ nodes) × (1 ≤ a) × (a ≤ n) × (1 ≤ c) × (c ≤ n) × (length (now b) ≡ clusterSize n)
-        × (length (now r) ≡ recordSize) × (now r ≡ recordBytes (recordOf (now r))) ⌝ }
+        × (length (now r) ≡ recordSize) × (now r ≡ recordBytes (recordOf (now r)))
+        × ReceivedAt n a c (o .view) (o .handler) (now b) (slotPlace a c (oldest (channel (now b) a c)))
+        × AllLawful n (o .view) (messages o) ⌝ }
     ensures { λ t. ⌜ (t ≡ hasRoom n a c x (recordOf (now (r .entry))) o (onBlock c (takeOff a) (now (b .entry))))
         × (now (b .exit) ≡ pick t (released n a c x (recordOf (now (r .entry))) o (onBlock c (takeOff a)
         (now (b .entry)))) (now (b .entry))) ⌝ }
@@ -102,8 +128,9 @@ pub fn settle_delivery(
     if !has_room(b, n, a, c, is_cut(x), gone(a, c), o, allowance(x)) {
         return false;
     }
+    let from = first_place(b, a, c);
     take_off_at(b, a, c);
     keep_record_at(b, c, r);
-    release(b, n, a, c, o, x);
+    release(b, n, a, c, o, from, x);
     true
 }

@@ -2,6 +2,7 @@ pub mod Allowed
 pub mod Budget
 pub mod Claims
 pub mod Ends
+pub mod Forward
 pub mod Move
 pub mod React
 pub mod Stale

@@ -77,6 +77,7 @@ hand-over-requires c κs =
     ∙ ap found (c .before .before .m .given .1) in (
       ready (a .a) (a .c) (a .b .now) n (c10 .index .ensures .0) (sym (c13 .admission .ensures) ∙ c12 .if1 .left),
       front-lawful n s (m .0) (m .1 .0) e,
+      (m .1 .0, e),
     )
 
 returns-3 : tie.Need-returns-3

@@ -1,22 +1,27 @@
 -- `cluster::open_on` meets its contract.
 use borrow.Author.Needs.{needs}
-use mathlib.Core.Path.{_≡_, sym, ap, _∙_}
+use mathlib.Core.Path.{_≡_, sym, ap, _∙_, subst}
 use Prim.Native.Nat.{_-_}
 use native.Mathlib.Omega.{arith}
 use mathlib.Core.Bool.{false}
 use borrow.Author.Tests.{not-true, not-false, ltb-false}
 use Rattle.view.specs.Size.{limit}
-use Rattle.record.specs.Usable.{full}
+use Rattle.record.specs.Usable.{full, usable}
 use Rattle.record.specs.declared.Node.{Node}
+use Rattle.step.specs.Claims.{AllLawful}
+use Rattle.step.specs.Forward.{isForward}
 use Rattle.step.specs.Move.{begun}
+use Rattle.step.specs.Step.{messages}
 use Rattle.region.specs.Record.{recordOf}
 use Rattle.region.proofs.Back.{sized-of}
 use Rattle.layout.specs.Layout.{node}
+use Rattle.step_bytes.specs.declared.Effect.{Effect}
 use Rattle.step_bytes.proofs.Moved.{sized-begun, step-bytes, step-back}
 use Rattle.step_bytes.proofs.Turned.{stepOf}
 use Rattle.outgoing.proofs.Judged.{cut-judged}
 use Rattle.events.proofs.Told.{becomes, refuses}
 use Rattle.events.proofs.Settled.{settle-told, open-busy, open-full, open-uncut, open-settles}
+use Rattle.cluster.proofs.Stepped.{begun-asks, begun-lawful}
 use Rattle.cluster.proofs.open_on.Statement.{statement}
 use Rattle.cluster.proofs.open_on.Tie as tie
 
@@ -73,18 +78,29 @@ begin-in-requires c κs =
 settle-requires : tie.Need-settle-requires
 settle-requires c κs =
     let c4 = c .before .before .before .before in
-    let c14 = c4 .before .before .before .before .before .before .before .before .before .before in
+    let c10 = c4 .before .before .before .before .before .before in
+    let c11 = c10 .before in
+    let c13 = c11 .before .before in
+    let c14 = c13 .before in
     let c18 = c14 .before .before .before .before in
     let c23 = c18 .before .before .before .before .before in
     let a = c23 .args in
     let h = c23 .pre .0 in
-    let r = c18 .copy-record-at .last .1 .1 .0 in (
+    let r = c18 .copy-record-at .last .1 .1 .0 in
+    let at : recordOf r ≡ node (a .b .now) (a .c) = ap recordOf (c18 .copy-record-at .ensures) in (
       h .small,
       h .low,
       h .high,
       h .long,
       c4 .begin-in .kept .0 ∙ c18 .copy-record-at .kept .1 .1 .0 ∙ c23 .pre .1,
       step-bytes (begun (recordOf r) (a .o)) (sized-begun (recordOf r) (a .o) (sized-of r)) (c4 .begin-in .ensures),
+      ap (λ (e : Effect). isForward (e .outbox .handler)) (c4 .begin-in .ensures .0)
+          ∙ begun-asks (recordOf r) (a .o),
+      subst (λ (e : Effect). AllLawful (a .n) (e .outbox .view) (messages (e .outbox))) (sym (c4 .begin-in .ensures .0))
+          (begun-lawful (a .n) (recordOf r) (a .o) (omega (arith, h .low, h .high)) (ap (λ (d : Node). d .n) at
+          ∙ h .same)
+          (ap usable at ∙ h .can-step) (sym (c14 .is-open-in .ensures) ∙ c13 .if1 .left) (sym
+          (c11 .is-full-in .ensures) ∙ c10 .if2 .left)),
     )
 
 same-length-8 : tie.Need-same-length-8

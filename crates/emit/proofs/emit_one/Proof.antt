@@ -6,8 +6,7 @@ use Prim.Native.Nat.{ℕ, _+_, _≤_}
 use lib.ListN.{length}
 use Rattle.octets.specs.Bytes.{put}
 use Rattle.wire.proofs.Short.{not-good}
-use Rattle.wire_put.proofs.Allowed.{allowed-short}
-use Rattle.emit.proofs.Runs.{any-view}
+use Rattle.wire_put.proofs.Allowed.{any-view, allowed-short}
 use Rattle.emit.proofs.emit_one.Statement.{statement}
 use Rattle.emit.proofs.emit_one.Tie as tie
 

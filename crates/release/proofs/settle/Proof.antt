@@ -5,6 +5,7 @@ use mathlib.Core.Path.{refl, sym, ap, _∙_}
 use mathlib.Core.Bool.{false}
 use mathlib.Core.List.{List}
 use borrow.Author.Tests.{not-true, not-false}
+use Rattle.octets.proofs.Test.{true-false}
 use Rattle.outgoing.specs.Entries.{entries}
 use Rattle.outgoing.specs.Outgoing.{shortened, isCut, haltIf, letOut}
 use Rattle.outgoing.proofs.Judged.{judged}
@@ -31,7 +32,7 @@ release-requires : tie.Need-release-requires
 release-requires c κs =
     let c8 = c .before .before .before .before .before .before .before .before in
     let c12 = c8 .before .before .before .before in
-    let p = c12 .pre in (p .0, p .1, p .2, p .1, p .2, search needs)
+    let p = c12 .pre in (p .0, p .1, p .2, p .1, p .2, search needs, λ h. true-false _ h (p .6), p .7)
 
 returns-2 : tie.Need-returns-2
 returns-2 c =

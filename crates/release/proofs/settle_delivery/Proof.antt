@@ -1,16 +1,20 @@
 -- `release::settle_delivery` meets its contract.
 use borrow.Author.Needs.{needs}
 use Prim.Native.Nat.{ℕ}
-use mathlib.Core.Path.{refl, sym, ap, _∙_}
+use mathlib.Core.Path.{refl, sym, ap, _∙_, subst}
 use mathlib.Core.Bool.{true}
 use mathlib.Core.List.{List}
 use borrow.Author.Tests.{not-true, not-false}
 use Rattle.region.specs.Record.{recordOf}
 use Rattle.block.specs.Block.{keepRecord}
-use Rattle.layout.specs.Layout.{onBlock}
+use Rattle.region.specs.Channel.{oldest}
+use Rattle.layout.specs.Layout.{channel, onBlock}
+use Rattle.layout.specs.Slot.{slotPlace}
 use Rattle.outgoing.specs.Entries.{entries}
 use Rattle.outgoing.specs.Outgoing.{shortened, isCut, haltIf, letOut}
-use Rattle.outgoing.proofs.Judged.{judged}
+use Rattle.outgoing.specs.Forward.{ReceivedAt}
+use Rattle.outgoing.proofs.Judged.{judged, heard-read}
+use Rattle.release.proofs.Passed.{received-taken, received-kept}
 use Rattle.release.proofs.settle_delivery.Statement.{statement}
 use Rattle.release.proofs.settle_delivery.Tie as tie
 
@@ -29,31 +33,48 @@ returns c =
 keep-record-at-requires : tie.Need-keep-record-at-requires
 keep-record-at-requires c κs =
     let c8 = c .before .before .before .before .before .before .before .before in
-    let c13 = c8 .before .before .before .before .before in
-    let p = c13 .pre in (p .3, search needs, p .6, p .7)
+    let p = c8 .before .before .before .before .before .before .before .pre in (p .3, search needs, p .6, p .7)
 
 release-requires : tie.Need-release-requires
 release-requires c κs =
-    let c8 = c .before .before .before .before .before .before .before .before in
-    let c17 = c8 .before .before .before .before .before .before .before .before .before in
-    let p = c17 .pre in (p .0, p .1, p .2, p .3, p .4, search needs)
+    let c3 = c .before .before .before in
+    let c7 = c3 .before .before .before .before in
+    let c19 = c7 .before .before .before .before .before .before .before .before .before .before .before .before in
+    let a = c19 .args in
+    let p = c19 .pre in
+    let v = a .o .view in
+    let s = a .o .handler in
+    let at = slotPlace (a .a) (a .c) (oldest (channel (a .b .now) (a .a) (a .c))) in
+    let taken = received-taken (a .n) (a .a) (a .c) (p .0) (p .1) (p .2) (p .3) (p .4) v s (a .b .now) (p .5) at (p .8)
+    (c7 .take-off-at .ensures) in
+    let kept = received-kept (a .n) (a .a) (a .c) (p .0) (p .1) (p .2) (p .3) (p .4) v s (c7 .take-off-at .last .0)
+    (c7 .take-off-at .kept .0 ∙ p .5) at taken (recordOf (a .r .now)) (heard-read (a .r .now))
+    (c3 .keep-record-at .ensures) in (
+      p .0,
+      p .1,
+      p .2,
+      p .3,
+      p .4,
+      search needs,
+      subst (λ (j : ℕ). ReceivedAt (a .n) (a .a) (a .c) v s (c3 .keep-record-at .last .0) j)
+          (sym (c7 .before .before .first-place .ensures)) kept,
+      p .9,
+    )
 
 returns-2 : tie.Need-returns-2
 returns-2 c =
-    let c2 = c .before .before in
-    let c6 = c2 .before .before .before .before in
+    let c6 = c .before .before .before .before .before .before in
     let c10 = c6 .before .before .before .before in
-    let c13 = c10 .before .before .before in
-    let c16 = c13 .before .before .before in
-    let c20 = c16 .before .before .before .before in
-    let a = c20 .args in
-    let p = c20 .pre in
+    let c14 = c10 .before .before .before .before in
+    let c17 = c14 .before .before .before in
+    let c22 = c17 .before .before .before .before .before in
+    let a = c22 .args in
+    let p = c22 .pre in
     let j = judged true (a .n) (a .a) (a .c) (a .x) (a .r .now) (a .o) (a .b .now) (p .0) (p .1) (p .2) (p .3)
-    (p .4) (p .5)
-    (c16 .is-cut .ensures) (c13 .before .before .gone .ensures) (c13 .before .allowance .ensures)
-    (c13 .has-room .ensures) in (
-      sym (not-false _ (c10 .before .before .if1 .left)) ∙ j,
-      c2 .release .ensures
+    (p .4) (p .5) (c17 .before .is-cut .ensures) (c17 .gone .ensures) (c14 .before .before .allowance .ensures)
+    (c14 .before .has-room .ensures) in (
+      sym (not-false _ (c14 .if1 .left)) ∙ j,
+      c .before .before .release .ensures
           ∙ ap (λ (u : List ℕ). letOut (a .n) (a .c) (shortened (a .x) (entries (a .n) (a .a) (a .o)))
           (haltIf (isCut (a .x)) (a .n) (a .c) u))
           (c6 .keep-record-at .ensures ∙ ap (onBlock (a .c) (keepRecord (recordOf (a .r .now))))
@@ -65,4 +86,5 @@ settle-delivery-spec =
     tie.close
     (tie.spec (λ c κs. search needs) (λ c κs. search needs) (λ c κs. search needs) (λ c κs. search needs)
     (λ c. search needs)
-    returns (λ c κs. search needs) keep-record-at-requires release-requires (λ c. search needs) returns-2)
+    returns (λ c κs. search needs) (λ c κs. search needs) keep-record-at-requires release-requires
+    (λ c. search needs) returns-2)

@@ -1,29 +1,35 @@
 -- `cluster::handing::hand_on` meets its contract.
 use borrow.Author.Needs.{needs}
-use mathlib.Core.Path.{_≡_, refl, sym, ap, _∙_}
+use Prim.Native.Nat.{ℕ}
+use mathlib.Core.Path.{_≡_, refl, sym, ap, ap₂, _∙_, subst}
 use native.Mathlib.Omega.{arith}
 use borrow.Author.Tests.{not-true, not-false}
 use Rattle.view.specs.View.{viewOf}
 use Rattle.wire.specs.Codec.{viewAt}
 use Rattle.record.specs.Usable.{usable}
 use Rattle.record.specs.declared.Node.{Node}
+use Rattle.step.specs.Claims.{AllLawful}
 use Rattle.step.specs.Move.{moveOn, messageStep}
-use Rattle.step.specs.Step.{started}
+use Rattle.step.specs.Step.{started, messages}
 use Rattle.step.proofs.Allowed.{lawful-writer}
 use Rattle.region.specs.Channel.{first}
 use Rattle.region.specs.Record.{recordOf}
 use Rattle.region.proofs.Back.{sized-view, sized-of}
 use Rattle.react_bytes.proofs.Handling.{reacted-step}
+use Rattle.step_bytes.specs.Moved.{effect}
+use Rattle.step_bytes.specs.declared.Effect.{Effect}
 use Rattle.step_bytes.proofs.Cases.{as-step}
 use Rattle.step_bytes.proofs.Moved.{sized-moved, step-bytes, step-back}
 use Rattle.step_bytes.proofs.Planned.{can-plan, can-follow}
 use Rattle.block.specs.Block.{takeOff}
 use Rattle.layout.specs.Layout.{node, channel, onBlock}
 use Rattle.step_bytes.proofs.Turned.{stepOf}
+use Rattle.outgoing.specs.Forward.{ReceivedAt}
 use Rattle.outgoing.proofs.Judged.{cut-judged}
 use Rattle.events.proofs.Told.{refuses, becomes}
 use Rattle.events.proofs.Settled.{settle-told}
 use Rattle.events.proofs.Handed.{hand-stale, hand-uncut, hand-settles}
+use Rattle.cluster.proofs.Stepped.{at, view, step, step-received, step-lawful}
 use Rattle.cluster.proofs.handing.hand_on.Statement.{statement}
 use Rattle.cluster.proofs.handing.hand_on.Tie as tie
 
@@ -128,6 +134,7 @@ follow-in-requires c κs =
     long (h .small) (c .before .plan-in .result) (c .before .plan-in .ensures .1)
 
 settle-delivery-requires : tie.Need-settle-delivery-requires
+unfolding messageStep
 settle-delivery-requires c κs =
     let c4 = c .before .before .before .before in
     let c6 = c4 .before .before in
@@ -141,6 +148,16 @@ settle-delivery-requires c κs =
     let r′ = f .last .1 .1 .1 .1 .1 .0 in
     let most = c7 .faults-in .result in
     let s = started (recordOf r′) (a .a) (f .result) in
+    let does = as-step (c6 .plan-in .ensures .0 (a .a) (f .result)) (c4 .follow-in .ensures) in
+    let place = at (a .n) (a .a) (a .c) (a .m) (a .b .now) h in
+    let whole = step (a .n) (a .a) (a .c) (a .m) (a .b .now) h in
+    let v = view (a .n) (a .a) (a .c) (a .m) (a .b .now) h in
+    let k = c24 .copy-record-at in
+    let r = k .last .1 .1 .0 in
+    let same : recordOf r ≡ node (a .b .now) (a .c) = ap recordOf (k .ensures) in
+    let is : c4 .follow-in .result ≡ effect whole = does .0 ∙ ap effect
+    (ap (moveOn most) (reacted-step r r′ (a .a) (a .m) v (sized-view (a .n) _ (h .small)) (f .ensures .1)
+    (f .ensures .0)) ∙ ap₂ (λ (j : ℕ) (d : Node). messageStep j d (a .a) (a .m) v) (c7 .faults-in .ensures) same) in
     let long = c4 .follow-in .kept .0 ∙ f .kept .1 .1 .1 .1 .1 .0 ∙ c24 .copy-record-at .kept .1 .1 .0 ∙ c29 .pre .2
     in (
       h .small,
@@ -150,8 +167,11 @@ settle-delivery-requires c κs =
       h .high,
       h .long,
       long,
-      step-bytes (moveOn most s) (sized-moved most s (sized-of r′)) (as-step (c6 .plan-in .ensures .0 (a .a)
-          (f .result)) (c4 .follow-in .ensures)),
+      step-bytes (moveOn most s) (sized-moved most s (sized-of r′)) does,
+      subst (λ (e : Effect). ReceivedAt (a .n) (a .a) (a .c) (e .outbox .view) (e .outbox .handler) (a .b .now) place)
+          (sym is) (step-received (a .n) (a .a) (a .c) (a .m) (a .b .now) h (c29 .pre .3) (whole .outbox .view)),
+      subst (λ (e : Effect). AllLawful (a .n) (e .outbox .view) (messages (e .outbox))) (sym is)
+          (step-lawful (a .n) (a .a) (a .c) (a .m) (a .b .now) h (c29 .pre .1)),
     )
 
 same-length-6 : tie.Need-same-length-6

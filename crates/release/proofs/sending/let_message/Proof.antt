@@ -11,6 +11,7 @@ use Rattle.octets.proofs.Loop.{upTo-none, upTo-more}
 use Rattle.block.specs.Block.{receive}
 use Rattle.layout.specs.Layout.{clusterSize, onBlock}
 use Rattle.outgoing.proofs.Out.{let-nothing, let-answer, let-others}
+use Rattle.release.proofs.Lawful.{size-of}
 use Rattle.release.proofs.sending.let_message.Tie as tie
 
 abbrev Inv-loop : tie.InvT-loop
@@ -21,7 +22,10 @@ abbrev μ-loop : tie.MeasureT-loop
 μ-loop b₀ n a c left s upto k₀ b k = upto - k
 
 slot-of-requires : tie.Need-slot-of-requires Inv-loop μ-loop
-slot-of-requires c κs = search needs
+slot-of-requires c κs =
+    let a = c .before .args in
+    let p = c .before .pre in
+    (size-of (a .n) (a .c) (p .0) (p .3) (p .4), p .6)
 
 is-answer-requires : tie.Need-is-answer-requires Inv-loop μ-loop
 is-answer-requires c κs = search needs

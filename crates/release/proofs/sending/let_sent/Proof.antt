@@ -7,6 +7,7 @@ use Rattle.outgoing.specs.Entries.{Entry}
 use Rattle.outgoing.proofs.Laws.{entries-one}
 use Rattle.outgoing.specs.Outgoing.{letOut}
 use Rattle.outgoing.proofs.Out.{let-empty, let-two}
+use Rattle.release.proofs.Lawful.{one-allowed, two-allowed}
 use Rattle.release.proofs.sending.let_sent.Statement.{statement}
 use Rattle.release.proofs.sending.let_sent.Tie as tie
 
@@ -17,19 +18,32 @@ enum-known-s : tie.Need-enum-known-s
 enum-known-s c = search needs
 
 let-message-requires : tie.Need-let-message-requires
-let-message-requires c κs = search needs
+let-message-requires c κs =
+    let x = c .before .before .before .before .before .args in
+    let p = c .before .before .before .before .before .pre in
+    let is = c .before .before .s .given .1 in
+    (p .0, p .1, p .2, p .3, p .4, p .5, one-allowed (x .n) (x .v) (x .s) (p .0) (p .6) is)
 
 enum-known-s-2 : tie.Need-enum-known-s-2
 enum-known-s-2 c = search needs
 
 let-message-requires-2 : tie.Need-let-message-requires-2
-let-message-requires-2 c κs = search needs
+let-message-requires-2 c κs =
+    let x = c .before .before .before .before .before .args in
+    let p = c .before .before .before .before .before .pre in
+    let is = c .before .before .s2 .given .1 in
+    (p .0, p .1, p .2, p .3, p .4, p .5, two-allowed (x .n) (x .v) (x .s) (p .0) (p .6) is .0)
 
 left-after-requires : tie.Need-left-after-requires
 left-after-requires c κs = search needs
 
 let-message-requires-3 : tie.Need-let-message-requires-3
-let-message-requires-3 c κs = search needs
+let-message-requires-3 c κs =
+    let c7 = c .before .before .before .before .before .before .before in
+    let x = c7 .before .before .before .args in
+    let p = c7 .before .before .before .pre in
+    let is = c7 .s2 .given .1 in
+    (p .0, p .1, p .2, p .3, p .4, search needs, two-allowed (x .n) (x .v) (x .s) (p .0) (p .6) is .1)
 
 returns : tie.Need-returns
 returns c =
