@@ -5,9 +5,11 @@ mod clock;
 #[allow(dead_code)]
 #[path = "../../oracle/src/dice.rs"]
 mod dice;
+mod machine;
 mod measure;
 mod network;
 mod plain;
+mod rows;
 mod side;
 mod workload;
 
@@ -18,8 +20,12 @@ fn main() {
         ["--long"] => measure::all(10_000_000),
         ["--check"] => check::check(20),
         ["--replay", side, n, events] => measure::replay(side, n.parse().unwrap(), events.parse().unwrap()),
+        ["--rows", file] => measure::rows(file),
+        ["--table", ref files @ ..] => rows::table(files),
         _ => {
-            eprintln!("benchmark [--long | --check | --replay proved|plain NODES EVENTS]");
+            eprintln!(
+                "benchmark [--long | --check | --replay proved|plain NODES EVENTS | --rows FILE | --table FILE..]"
+            );
             std::process::exit(2);
         }
     }

@@ -3,6 +3,7 @@ use super::views::some_view;
 use super::{Times, ROUNDS};
 use crate::clock::seconds;
 use crate::dice::Dice;
+use crate::rows::Rows;
 use crate::side::{Numbers, Plain, Proved, Report, Side, NO_REPORT};
 use std::hint::black_box;
 
@@ -28,14 +29,13 @@ fn some_message(dice: &mut Dice, kind: u64) -> Case {
     Case { numbers, report, view, bytes }
 }
 
-/// Prints bytes per second by kind and of all kinds together, and answers the largest ratio of both.
-pub fn messages() -> (f64, f64) {
+/// Prints bytes per second by kind and of all kinds together.
+pub fn messages(rows: &mut Rows) {
     println!("messages of sixteen nodes, megabytes per second");
     println!("{:>14} {:>6} {:>12} {:>12} {:>8}", "kind", "", "proved", "plain", "ratio");
     let kinds = ["read", "read answer", "write", "write answer", "echo", "value", "good"];
     let mut dice = Dice::new(3);
     let mut sums = [("read", 0.0, Times::NONE), ("write", 0.0, Times::NONE)];
-    let mut by_kind: f64 = 0.0;
     for (kind, name) in (1..).zip(kinds) {
         let cases: Vec<Case> = (0..64).map(|_| some_message(&mut dice, kind)).collect();
         let bytes = (ROUNDS * cases.iter().map(|c| c.bytes.len()).sum::<usize>()) as f64;
@@ -48,15 +48,13 @@ pub fn messages() -> (f64, f64) {
             *all_bytes += bytes;
             all.proved += t.proved;
             all.plain += t.plain;
-            by_kind = by_kind.max(t.ratio());
+            rows.add("messages, one kind alone", &format!("to {what}: {name}"), t.proved, t.plain);
         }
     }
-    let mut whole: f64 = 0.0;
     for (what, bytes, t) in &sums {
         print_row("one of each", what, *bytes, t);
-        whole = whole.max(t.ratio());
+        rows.add("messages, one of each kind", &format!("to {what}"), t.proved, t.plain);
     }
-    (whole, by_kind)
 }
 
 fn print_row(name: &str, what: &str, bytes: f64, t: &Times) {

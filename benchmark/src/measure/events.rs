@@ -1,13 +1,15 @@
 //! Events of a cluster: by the number of nodes, and by the length of the session.
-use super::Times;
+use super::{nodes, Times};
 use crate::clock::seconds;
+use crate::rows::Rows;
 use crate::side::{Event, Plain, Proved, Side, View};
 use crate::workload::{Order, Workload};
 use std::hint::black_box;
 
-const NONE: Event = Event::Stop { node: 0 };
+/// No event: every cluster refuses it.
+pub const NONE: Event = Event::Stop { node: 0 };
 
-fn run<S: Side>(bytes: &mut [u8], events: &[Event]) -> f64 {
+pub fn run<S: Side>(bytes: &mut [u8], events: &[Event]) -> f64 {
     let mut view: View = [0; 256];
     seconds(|| {
         for event in events {
@@ -39,19 +41,17 @@ fn time_events(n: usize, order: Order, seed: u64, count: usize) -> Times {
     Times { proved: times.proved * each, plain: times.plain * each }
 }
 
-/// Prints events per second, and answers the largest ratio.
-pub fn by_nodes() -> f64 {
+/// Prints events per second.
+pub fn by_nodes(rows: &mut Rows) {
     println!("events per second, by nodes and order of delivery");
     println!("{:>6} {:>12} {:>12} {:>12} {:>8}", "nodes", "order", "proved", "plain", "ratio");
-    let mut largest: f64 = 0.0;
     for n in [1, 3, 5, 16] {
         for (order, name) in [(Order::Random, "random"), (Order::RoundRobin, "round robin")] {
             let t = time_events(n, order, 7, 2000);
             println!("{n:>6} {name:>12} {:>12.0} {:>12.0} {:>8.2}", 1e9 / t.proved, 1e9 / t.plain, t.ratio());
-            largest = largest.max(t.ratio());
+            rows.add("events", &format!("{}, {name}", nodes(n)), t.proved, t.plain);
         }
     }
-    largest
 }
 
 pub fn growth_with_nodes() {

@@ -1,9 +1,9 @@
 //! Frames: one call for several messages, beside a call for each of them.
-use super::best;
-use crate::clock::seconds;
-use crate::network::{Input, Lent, Network, Packing, READ};
+use super::values::{check_forwarded, message, new_values, HIGH};
+use super::{best, give_all, nodes};
+use crate::network::{Input, Network, Packing, READ};
+use crate::rows::Rows;
 use crate::side::{is_refusal, Plain, Proved, Side};
-use std::hint::black_box;
 
 /// How many messages of a stream are kept; its last frame may have some more.
 const MESSAGES: usize = 2000;
@@ -72,16 +72,12 @@ fn packed(n: usize, k: usize) -> Stream {
 /// Frames of 64 messages: in turn an echo of a new tag, a value with it, and a read.
 fn short(n: usize, start: &[u8]) -> Stream {
     let mut stream = Stream::new(start.to_vec());
-    let (mut message, mut length) = ([0; 30], 0);
-    // Above all tags of the record.
-    let mut tag = 1 << 40;
+    let mut tag = HIGH;
     while stream.message_count < MESSAGES {
         let mut bytes = Vec::new();
         for kind in [5, 6, 1].into_iter().cycle().take(64) {
             tag += u64::from(kind == 5);
-            let code = Plain::write(n, &[kind, 1, 2, tag], &tag.to_be_bytes(), &[], &mut message, &mut length);
-            assert_eq!(code, 0, "no message");
-            bytes.extend(&message[..length]);
+            bytes.extend(message(n, kind, 2, tag));
         }
         stream.add(n, Input::Frame { sender: 2, bytes });
     }
@@ -97,22 +93,28 @@ fn reads(n: usize, start: &[u8]) -> Stream {
     stream
 }
 
-/// The inputs in turn, from the start of the stream, with so many bytes for the output.
-fn run<S: Side>(start: &[u8], inputs: &[Input], room: usize, record: &mut Vec<u8>) -> f64 {
-    record.clear();
-    record.extend(start);
-    let mut lent = Lent::new(room);
-    seconds(|| {
-        for input in inputs {
-            black_box(input.give::<S>(record, &mut lent));
-            black_box(&lent);
-        }
-    })
+/// Frames of k new values; a frame has room for fifty.
+fn values(n: usize, start: &[u8], k: usize) -> Stream {
+    let mut stream = Stream::new(start.to_vec());
+    for values in new_values(n, MESSAGES, &mut stream.start).chunks(k) {
+        stream.add(n, Input::Frame { sender: 2, bytes: values.concat() });
+    }
+    check_forwarded(&stream.start, &stream.frames);
+    stream
 }
 
-/// Prints nanoseconds per frame as its messages grow, beside a call for each message and beside plain Rust, and answers
-/// the largest ratios to both.
-pub fn frames() -> (f64, f64) {
+/// The streams that frames of n nodes are timed on, each with a name.
+fn streams(n: usize) -> Vec<(&'static str, Stream)> {
+    let mut streams: Vec<_> = [1, 2, 4, 16, 64].map(|k| ("as they come", packed(n, k))).into();
+    let start = streams[0].1.start.clone();
+    streams.push(("echo, value, read", short(n, &start)));
+    streams.push(("reads", reads(n, &start)));
+    streams.extend([4, 16, 50].map(|k| ("new values", values(n, &start, k))));
+    streams
+}
+
+/// Prints nanoseconds per frame as its messages grow, beside a call for each message and beside plain Rust.
+pub fn frames(rows: &mut Rows) {
     println!(
         "frames at one node: nanoseconds per frame, and of a call for each of its messages (streams, with begins)"
     );
@@ -120,13 +122,9 @@ pub fn frames() -> (f64, f64) {
         "{:>6} {:>18} {:>9} {:>9} {:>9} {:>9} {:>6} {:>9} {:>6}",
         "nodes", "messages", "in each", "proved", "a message", "calls", "ratio", "plain", "ratio"
     );
-    let (mut to_calls, mut to_plain): (f64, f64) = (0.0, 0.0);
     for n in [3, 16] {
-        let packed = [1, 2, 4, 16, 64].map(|k| packed(n, k));
-        let (short, reads) = (short(n, &packed[0].start), reads(n, &packed[0].start));
-        let rows = packed.iter().map(|stream| ("as they come", stream));
-        for (name, stream) in rows.chain([("echo, value, read", &short), ("reads", &reads)]) {
-            let [proved, calls, plain] = time(stream);
+        for (name, stream) in streams(n) {
+            let [proved, calls, plain] = time(&stream);
             let count = stream.message_count as f64 / stream.frame_count as f64;
             println!(
                 "{n:>6} {name:>18} {count:>9.1} {proved:>9.0} {:>9.0} {calls:>9.0} {:>6.2} {plain:>9.0} {:>6.2}",
@@ -134,10 +132,11 @@ pub fn frames() -> (f64, f64) {
                 proved / calls,
                 proved / plain
             );
-            (to_calls, to_plain) = (to_calls.max(proved / calls), to_plain.max(proved / plain));
+            let row = format!("{}, {count:.0} {name}", nodes(n));
+            rows.add("frames beside calls", &row, proved, calls);
+            rows.add("frames beside plain ones", &row, proved, plain);
         }
     }
-    (to_calls, to_plain)
 }
 
 /// Nanoseconds per frame: of the proved call, of a proved call for each message, and of plain Rust.
@@ -145,9 +144,9 @@ fn time(stream: &Stream) -> [f64; 3] {
     let Stream { start, frames, messages, .. } = stream;
     let (mut one, mut two, mut three) = (Vec::new(), Vec::new(), Vec::new());
     let times = best([
-        &mut || run::<Proved>(start, frames, 8192, &mut one),
-        &mut || run::<Proved>(start, messages, 512, &mut two),
-        &mut || run::<Plain>(start, frames, 8192, &mut three),
+        &mut || give_all::<Proved>(start, frames, 8192, &mut one),
+        &mut || give_all::<Proved>(start, messages, 512, &mut two),
+        &mut || give_all::<Plain>(start, frames, 8192, &mut three),
     ]);
     assert!(one == two && one == three, "the sides differ");
     times.map(|seconds| seconds * 1e9 / stream.frame_count as f64)

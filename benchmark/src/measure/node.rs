@@ -1,7 +1,9 @@
-//! One node: a begin, and a stream of messages.
-use super::Times;
+//! One node: a begin, a stream of messages, and one of new values.
+use super::values::{check_forwarded, new_values};
+use super::{give_all, nodes, Times};
 use crate::clock::seconds;
 use crate::network::{Input, Lent, Network, Packing};
+use crate::rows::Rows;
 use crate::side::{is_refusal, Plain, Proved, Side};
 use std::hint::black_box;
 
@@ -40,16 +42,23 @@ fn stream(n: usize) -> Stream {
     stream
 }
 
-/// The inputs in turn, from the start of the stream.
-fn run_messages<S: Side>(stream: &Stream, record: &mut [u8]) -> f64 {
-    record.copy_from_slice(&stream.start);
-    let mut lent = Lent::new(512);
-    seconds(|| {
-        for input in &stream.inputs {
-            black_box(input.give::<S>(record, &mut lent));
-            black_box(&lent);
-        }
-    })
+/// Makes the stream one of new values, each from its writer.
+fn only_values(n: usize, stream: &mut Stream) {
+    let values = new_values(n, INPUTS, &mut stream.start);
+    let senders = (1..=n).cycle();
+    stream.inputs = senders.zip(values).map(|(sender, bytes)| Input::Message { sender, bytes }).collect();
+    check_forwarded(&stream.start, &stream.inputs);
+}
+
+fn time_inputs(stream: &Stream) -> Times {
+    let Stream { start, inputs, .. } = stream;
+    let (mut one, mut two) = (Vec::new(), Vec::new());
+    let times = Times::of(
+        || give_all::<Proved>(start, inputs, 512, &mut one),
+        || give_all::<Plain>(start, inputs, 512, &mut two),
+    );
+    assert!(one == two, "the sides differ");
+    times
 }
 
 /// Each begin on the record of its own that it came upon.
@@ -64,23 +73,26 @@ fn run_begins<S: Side>(stream: &Stream) -> f64 {
     })
 }
 
-/// Prints nanoseconds per call, and answers the largest ratio.
-pub fn calls() -> f64 {
-    println!("one node: begin and message, nanoseconds per call (messages: a stream of them, with its begins)");
+/// Prints nanoseconds per call.
+pub fn calls(rows: &mut Rows) {
+    println!(
+        "one node: begin, message and new value, nanoseconds per call (messages: a stream of them, with its begins)"
+    );
     println!("{:>6} {:>12} {:>12} {:>12} {:>8}", "nodes", "", "proved", "plain", "ratio");
-    let mut largest: f64 = 0.0;
     for n in [1, 3, 5, 16] {
-        let stream = stream(n);
+        let mut stream = stream(n);
         let begins = Times::of(|| run_begins::<Proved>(&stream), || run_begins::<Plain>(&stream));
-        let (mut one, mut two) = (stream.start.clone(), stream.start.clone());
-        let messages =
-            Times::of(|| run_messages::<Proved>(&stream, &mut one), || run_messages::<Plain>(&stream, &mut two));
-        assert!(one == two, "the sides differ");
-        for (name, count, t) in [("begin", BEGINS, begins), ("message", INPUTS, messages)] {
+        let messages = time_inputs(&stream);
+        only_values(n, &mut stream);
+        let values = time_inputs(&stream);
+        for (group, name, count, t) in [
+            ("one node", "begin", BEGINS, begins),
+            ("one node", "message", INPUTS, messages),
+            ("one node, new values", "new value", INPUTS, values),
+        ] {
             let each = 1e9 / count as f64;
             println!("{n:>6} {name:>12} {:>12.0} {:>12.0} {:>8.2}", t.proved * each, t.plain * each, t.ratio());
-            largest = largest.max(t.ratio());
+            rows.add(group, &format!("{}, {name}", nodes(n)), t.proved, t.plain);
         }
     }
-    largest
 }

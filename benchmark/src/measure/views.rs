@@ -1,7 +1,8 @@
 //! What is made of views: figures and pages.
-use super::{best, Times, ROUNDS};
+use super::{best, nodes, Times, ROUNDS};
 use crate::clock::seconds;
 use crate::dice::Dice;
+use crate::rows::Rows;
 use crate::side::{Plain, Proved, Side};
 use std::hint::black_box;
 
@@ -22,22 +23,20 @@ fn some_views(dice: &mut Dice, n: usize, absent: usize) -> Vec<Vec<u8>> {
 }
 
 /// Prints figures per second, of views in which every node has reported and of such with a quarter of the reports
-/// absent, and answers the largest ratio.
-pub fn figures() -> f64 {
+/// absent.
+pub fn figures(rows: &mut Rows) {
     println!("figures, views per second");
     println!("{:>6} {:>12} {:>12} {:>12} {:>8}", "nodes", "reports", "proved", "plain", "ratio");
     let mut dice = Dice::new(4);
-    let mut largest: f64 = 0.0;
     for n in [1, 3, 5, 16] {
         for (absent, name) in [(0, "all"), (250, "some absent")] {
             let views = some_views(&mut dice, n, absent);
             let t = Times::of(|| count_all::<Proved>(n, &views), || count_all::<Plain>(n, &views));
             let count = (ROUNDS * views.len()) as f64;
             println!("{n:>6} {name:>12} {:>12.0} {:>12.0} {:>8.2}", count / t.proved, count / t.plain, t.ratio());
-            largest = largest.max(t.ratio());
+            rows.add("figures", &format!("{}, {name}", nodes(n)), t.proved, t.plain);
         }
     }
-    largest
 }
 
 fn count_all<S: Side>(n: usize, views: &[Vec<u8>]) -> f64 {
@@ -70,16 +69,14 @@ fn printed_views(dice: &mut Dice, n: usize) -> [(&'static str, Vec<Vec<u8>>); 3]
     [("all", all), ("some absent", some), ("65535", greatest)]
 }
 
-/// Prints pages per second, beside plain Rust with its digits by hand and by `write!`, and answers the largest ratios
-/// to both.
-pub fn pages() -> (f64, f64) {
+/// Prints pages per second, beside plain Rust with its digits by hand and by `write!`.
+pub fn pages(rows: &mut Rows) {
     println!("pages, views per second");
     println!(
         "{:>6} {:>12} {:>12} {:>12} {:>8} {:>12} {:>8}",
         "nodes", "reports", "proved", "plain", "ratio", "by write!", "ratio"
     );
     let mut dice = Dice::new(5);
-    let (mut to_plain, mut to_write): (f64, f64) = (0.0, 0.0);
     for n in [1, 3, 5, 16] {
         for (name, views) in printed_views(&mut dice, n) {
             let [proved, plain, write] = best([
@@ -96,10 +93,11 @@ pub fn pages() -> (f64, f64) {
                 count / write,
                 proved / write
             );
-            (to_plain, to_write) = (to_plain.max(proved / plain), to_write.max(proved / write));
+            let row = format!("{}, {name}", nodes(n));
+            rows.add("pages", &row, proved, plain);
+            rows.add("pages beside write!", &row, proved, write);
         }
     }
-    (to_plain, to_write)
 }
 
 fn print_all(page: impl Fn(usize, &[u8], &mut [u8], &mut usize) -> u8, n: usize, views: &[Vec<u8>]) -> f64 {

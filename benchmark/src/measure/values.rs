@@ -1,0 +1,99 @@
+//! Values that are new to the node that they come to, so that it forwards them to all.
+use super::events::{run, NONE};
+use super::{nodes, Times};
+use crate::network::{Input, Lent};
+use crate::plain::bytes::put_word;
+use crate::plain::record::MAXTAG;
+use crate::rows::Rows;
+use crate::side::{Event, Plain, Proved, Side};
+use crate::workload::waiting;
+
+/// Of how many nodes the values are delivered at most: the channels hold no more once each is forwarded.
+const WRITERS: usize = 14;
+
+/// How many deliveries there are in a run at most.
+const DELIVERIES: usize = 500;
+
+/// A tag above all that the workloads come to.
+pub const HIGH: u64 = 1 << 40;
+
+/// A message of n nodes with request number 1.
+pub fn message(n: usize, kind: u64, writer: usize, tag: u64) -> Vec<u8> {
+    let (mut bytes, mut length) = (vec![0; 274], 0);
+    let code = Plain::write(n, &[kind, 1, writer as u64, tag], &tag.to_be_bytes(), &[], &mut bytes, &mut length);
+    assert_eq!(code, 0, "no message");
+    bytes.truncate(length);
+    bytes
+}
+
+/// Values of all nodes in turn, each new to the node with this record. Its top tag is set above theirs: a writer's
+/// value can come only when the one before it is not above the top tag.
+pub fn new_values(n: usize, count: usize, record: &mut [u8]) -> Vec<Vec<u8>> {
+    put_word(record, MAXTAG, 2 * HIGH);
+    (0..count).map(|i| message(n, 6, i % n + 1, HIGH + i as u64)).collect()
+}
+
+/// Both sides must do the same with the inputs in turn, from the record that is their start, and forward each as it
+/// came.
+pub fn check_forwarded(start: &[u8], inputs: &[Input]) {
+    let (mut proved, mut plain) = (start.to_vec(), start.to_vec());
+    for input in inputs {
+        let (Input::Message { bytes, .. } | Input::Frame { bytes, .. }) = input else { panic!("no value") };
+        let (mut one, mut two) = (Lent::new(input.room()), Lent::new(input.room()));
+        let told = (input.give::<Proved>(&mut proved, &mut one), input.give::<Plain>(&mut plain, &mut two));
+        assert!(told == (0, 0) && one == two && proved == plain, "the sides differ");
+        assert!(one.out[..one.length] == bytes[..], "not every value was new");
+    }
+}
+
+/// All messages on all channels of a cluster.
+fn all_waiting(n: usize, bytes: &[u8]) -> usize {
+    (0..n * n).map(|i| usize::from(waiting(bytes, i / n + 1, i % n + 1))).sum()
+}
+
+/// A cluster in which each node has begun an update and sent its value to all, and the deliveries of these values.
+fn sent_values(n: usize) -> (Vec<u8>, Vec<Event>) {
+    let from_each = |i| Event::Deliver { from: i / n + 1, to: i % n + 1, cut: None };
+    let begins = (1..=n).map(|node| Event::Update { node, report: [node as u8; 8], cut: None });
+    // One message of each channel is a read, the next its answer.
+    let reads_and_answers = (0..2 * n * n).map(|i| from_each(i % (n * n)));
+    let values: Vec<Event> = (0..n * n.min(WRITERS)).map(from_each).collect();
+    let (mut bytes, mut view) = (vec![0; Plain::size(n)], [0; 256]);
+    Plain::fresh(n, Plain::most_faults(n), &mut bytes);
+    for event in begins.chain(reads_and_answers) {
+        assert_eq!(Plain::apply(&mut bytes, &event, &mut view), 0, "no values");
+    }
+    let mut after = bytes.clone();
+    run::<Plain>(&mut after, &values);
+    assert_eq!(all_waiting(n, &after), all_waiting(n, &bytes) + values.len() * (n - 1), "not every value was new");
+    (bytes, values)
+}
+
+/// The deliveries, from the same start again and again. An event that is refused goes before them: it judges every
+/// record, and so brings it into the cache.
+fn run_again<S: Side>(bytes: &mut [u8], start: &[u8], values: &[Event]) -> f64 {
+    let once = |_| {
+        bytes.copy_from_slice(start);
+        S::apply(bytes, &NONE, &mut [0; 256]);
+        run::<S>(bytes, values)
+    };
+    (0..DELIVERIES / values.len()).map(once).sum()
+}
+
+/// Prints deliveries per second.
+pub fn deliveries(rows: &mut Rows) {
+    println!("deliveries of new values per second, by nodes");
+    println!("{:>6} {:>12} {:>12} {:>8}", "nodes", "proved", "plain", "ratio");
+    for n in [3, 5, 16] {
+        let (start, values) = sent_values(n);
+        let (mut one, mut two) = (start.clone(), start.clone());
+        let t = Times::of(
+            || run_again::<Proved>(&mut one, &start, &values),
+            || run_again::<Plain>(&mut two, &start, &values),
+        );
+        assert!(one == two, "the sides differ");
+        let count = (DELIVERIES / values.len() * values.len()) as f64;
+        println!("{n:>6} {:>12.0} {:>12.0} {:>8.2}", count / t.proved, count / t.plain, t.ratio());
+        rows.add("events, new values", &nodes(n), t.proved, t.plain);
+    }
+}
