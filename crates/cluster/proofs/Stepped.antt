@@ -16,7 +16,7 @@ use Rattle.view.specs.View.{noView, viewOf}
 use Rattle.view.specs.declared.Report.{Report}
 use Rattle.view.specs.declared.View.{View}
 use Rattle.wire.specs.Codec.{front, viewAt}
-use Rattle.wire.specs.Layout.{encode, valueSize, messageSize}
+use Rattle.wire.specs.Layout.{valueSize, messageSize}
 use Rattle.wire.specs.declared.Message.{Message}
 use Rattle.wire.specs.declared.Message.the-variants.{Read, ReadAnswer, Write, WriteAnswer, Echo, Value, Good}
 use Rattle.wire.proofs.Laws.{lengths}
@@ -26,7 +26,7 @@ use Rattle.record.specs.Usable.{usable, isOpen, full}
 use Rattle.record.specs.declared.Node.{Node}
 use Rattle.record.specs.declared.Operation.{Operation}
 use Rattle.step.specs.Allowed.{lawful}
-use Rattle.step.specs.Claims.{Long, AllLawful}
+use Rattle.step.specs.Claims.{AllLawful}
 use Rattle.step.specs.Forward.{isForward}
 use Rattle.step.specs.Move.{moveOn, messageStep, begun}
 use Rattle.step.specs.React.{react, isNew}
@@ -38,8 +38,8 @@ use Rattle.step.proofs.Numbers.{on-pick}
 use Rattle.step.proofs.Theorems.{message-lawful, begin-lawful}
 use Rattle.step.proofs.Waits.{begin-asks}
 use Rattle.region.specs.Channel.{slotSize, slotAt, oldest, first}
-use Rattle.region.specs.Record.{recordSize, recordOf, recordBytes}
-use Rattle.region.proofs.Back.{Sized, SizedNode, sized-view, sized-of}
+use Rattle.region.specs.Record.{recordSize, recordBytes}
+use Rattle.region.proofs.Back.{Sized, sized-view, sized-of}
 use Rattle.region.proofs.Saved.{length-recordBytes}
 use Rattle.block.specs.Block.{recordIn, keepRecord, takeOff}
 use Rattle.block.proofs.Changes.{takeOff-length}
@@ -48,7 +48,7 @@ use Rattle.step_bytes.specs.Moved.{effect, followed, rests, planTag, Leads}
 use Rattle.step_bytes.specs.declared.Effect.{Effect}
 use Rattle.step_bytes.specs.declared.Plan.{Plan}
 use Rattle.step_bytes.specs.declared.Plan.the-variants.{Rest, Read as PlanRead, Compare, Agree, Borrow}
-use Rattle.step_bytes.proofs.Moved.{sized-moved}
+use Rattle.step_bytes.proofs.Moved.{sized-moved, long-of}
 use Rattle.step_bytes.proofs.Planned.{can-plan, can-follow}
 use Rattle.layout.specs.Layout.{clusterSize, faultsIn, block, node, channel, onBlock}
 use Rattle.layout.specs.Slot.{slotPlace, slotFrom}
@@ -98,16 +98,6 @@ first-front b a c lo hi =
     let z : at + 0 ≡ at = omega arith in
     slot-in b a c lo hi (oldest t) valueSize (omega arith)
     ∙ sym (part-part t at slotSize 0 valueSize (omega arith) ∙ ap (λ (k : ℕ). part t k valueSize) z)
-
--- a record in bytes, and one in a step, have their tables
-long-of : (r : List ℕ) → Long (recordOf r)
-long-of r =
-    let z = sized-of r in
-    record {
-      last = (z .last .tags, z .last .reports);
-      atmax = (z .atmax .tags, z .atmax .reports);
-      atround = (z .atround .tags, z .atround .reports);
-    }
 
 -- ---- the begin of an operation: a read goes out, which is lawful and forwards nothing
 

@@ -11,8 +11,8 @@ use Rattle.step.specs.React.{react}
 use Rattle.step.specs.declared.Step.{Step}
 use Rattle.region.specs.Channel.{first}
 use Rattle.region.specs.Record.{recordOf}
-use Rattle.block.specs.Block.{recordPlace}
-use Rattle.layout.specs.Layout.{blockPlace, node, channel}
+use Rattle.block.specs.Block.{recordPlace, recordIn}
+use Rattle.layout.specs.Layout.{blockPlace, block, channel}
 
 -- What m, the oldest message from a to c in bytes b, does at a node with record bytes r.
 abbrev pub reactFirst : (n a c : ℕ) → Message → (r b : List ℕ) → Step
@@ -20,7 +20,7 @@ reactFirst n a c m r b = react (recordOf r) a m (viewOf n (viewAt n (first (chan
 
 -- The same done where the record lies, and the place of the record of node c.
 abbrev pub reactTo : (n a c : ℕ) → Message → (b : List ℕ) → Step
-reactTo n a c m b = react (node b c) a m (viewOf n (viewAt n (first (channel b a c))))
+reactTo n a c m b = reactFirst n a c m (recordIn (block b c)) b
 
 abbrev pub recordAt : ℕ → ℕ
 recordAt c = blockPlace c + recordPlace

@@ -117,6 +117,7 @@ fn step_here(b: &mut [u8], n: usize, a: usize, c: usize, m: Message, x: Extent) 
     given(is_cut(x), ending, e.view)
 }
 
+// Does so on a copy of its own.
 fn hand_apart(b: &mut [u8], n: usize, a: usize, c: usize, m: Message, x: Extent) -> Reply
     requires { ⌜ Ready n a c (now b) × (lawful n m (viewOf n (viewAt n (first (channel (now b) a c)))) ≡ true)
         × Oldest n a c m (now b) ⌝ }
@@ -127,7 +128,7 @@ fn hand_apart(b: &mut [u8], n: usize, a: usize, c: usize, m: Message, x: Extent)
     hand_on(b, n, a, c, m, x, &mut r)
 }
 
-// The same where no channel can come to be full: the step is done where the record lies.
+// Does so where no channel can come to be full: the step is done where the record lies.
 fn hand_here(b: &mut [u8], n: usize, a: usize, c: usize, m: Message, x: Extent) -> Reply
     requires { ⌜ Ready n a c (now b) × (lawful n m (viewOf n (viewAt n (first (channel (now b) a c)))) ≡ true)
         × Oldest n a c m (now b) × (spare n c (now b) ≡ true) ⌝ }

@@ -1,7 +1,7 @@
 // Writing what a step sends into an output buffer: each message once, in order, from the buffer's start. A value that a
 // handler forwards is the one that came, and its bytes are copied as they came.
 use decide::is_forward;
-use octets::put_bytes;
+use octets::put_run;
 use step::Outbox;
 use step::Sent;
 use table::or;
@@ -90,7 +90,7 @@ fn emit_first(n: usize, m: Sent, b: &[u8], v: &[u8], out: &mut [u8]) -> usize
         × (now (out .exit) ≡ put (now (out .entry)) 0 (run (now (v .entry)) (listed m))) ⌝ }
 {
     if is_forward(m) {
-        put_bytes(out, 0, &b[..VALUE]);
+        put_run(out, 0, &b[..VALUE]);
         return VALUE;
     }
     emit_sent(n, m, v, out, 0)

@@ -1,23 +1,22 @@
 -- A message received within a cluster's bytes, by the places of its channel and its slot; and that what a slot holds
 -- stays through every change of an event but another message in its place.
-use Prim.Native.Nat.{ℕ, _+_, _-_, _*_, _%_, _<_, _≤_}
+use Prim.Native.Nat.{ℕ, _+_, _-_, _%_, _<_, _≤_}
 use native.Mathlib.Omega.{arith}
-use native.Mathlib.Decide.{decLt, ℕ-discrete}
-use mathlib.Core.Path.{_≡_, refl, sym, ap, ap₂, _∙_}
-use mathlib.Core.Bool.{Bool, true, false}
+use native.Mathlib.Decide.{decLt}
+use mathlib.Core.Path.{_≡_, refl, sym, ap, _∙_}
+use mathlib.Core.Bool.{true, false}
 use mathlib.Core.List.{List, [], _∷_, _++_, append-nil}
 use lib.ListN.{length, take, drop, getD, set, length-set, drop-of-length-le}
 use lib.Seq.{drop-at, length-take-le}
-use lib.Dec.{ltb}
 use borrow.Author.Tests.{lt-ltb, le-ltb}
-use Rattle.octets.specs.Test.{pick}
 use Rattle.octets.specs.Bytes.{part, put}
-use Rattle.octets.proofs.Put.{part-part, part-same, part-other, getD-part, length-part, length-put, put-inside, put-one}
-use Rattle.octets.proofs.Put.{put-cover, put-nil}
+use Rattle.octets.proofs.Put.{part-part, part-same, getD-part, length-part, length-put, put-inside, put-one}
+use Rattle.octets.proofs.Put.{put-cover}
+use Rattle.octets.proofs.Run.{put-part}
 use Rattle.view.specs.Size.{nodes}
-use Rattle.region.specs.Channel.{capacity, slotSize, slotsPlace, slotAt, channelSize, countPlace, oldestPlace, countOf}
+use Rattle.region.specs.Channel.{capacity, slotSize, slotAt, channelSize, countPlace, oldestPlace, countOf}
 use Rattle.region.specs.Channel.{oldest, push}
-use Rattle.block.specs.Block.{blockSize, channelPlace, hasStopped, channelIn, receive}
+use Rattle.block.specs.Block.{blockSize, channelPlace, channelIn, receive}
 use Rattle.layout.specs.Layout.{clusterSize, blockPlace, block, stopped, channel, onBlock}
 use Rattle.layout.specs.Slot.{channelAt, slotPlace, IsSlot}
 
@@ -50,12 +49,7 @@ inner : (b : List ℕ) (at len j : ℕ) (v : List ℕ) → at + len ≤ length b
     → put b at (put (part b at len) j v) ≡ put b (at + j) v
 inner b at len j v h l = sym (put-inside b at len j v h l)
 
--- A region written over by itself, and a run and then a byte written into a region.
-pub put-part : (b : List ℕ) (at len : ℕ) → at + len ≤ length b → put b at (part b at len) ≡ b
-put-part b at len h =
-    ap (λ (t : List ℕ). put b at t) (sym (put-nil (part b at len) 0))
-    ∙ inner b at len 0 [] h (omega arith) ∙ put-nil b (at + 0)
-
+-- A run and then a byte written into a region.
 run-and-byte : (b : List ℕ) (q len at x : ℕ) (s : List ℕ) → q + len ≤ length b → at + length s ≤ len → 1 ≤ len
     → put b q (set (put (part b q len) at s) 0 x) ≡ set (put b (q + at) s) (q + 0) x
 run-and-byte b q len at x s h k some =

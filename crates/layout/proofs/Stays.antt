@@ -1,6 +1,6 @@
 -- What a slot holds stays through every change of an event: a message taken off, a record written, a stop, and a
 -- message that comes in. That one may come into the very slot, with the bytes that stand there.
-use Prim.Native.Nat.{ℕ, zero, suc, _+_, _-_, _*_, _%_, _<_, _≤_}
+use Prim.Native.Nat.{ℕ, zero, suc, _+_, _-_, _%_, _<_, _≤_}
 use native.Mathlib.Omega.{arith}
 use native.Mathlib.Decide.{decLt, ℕ-discrete}
 use mathlib.Core.Path.{_≡_, refl, sym, ap, _∙_}
@@ -21,7 +21,7 @@ use Rattle.block.specs.Block.{blockSize, channelPlace, hasStopped, channelIn, o
 use Rattle.block.specs.Block.{halt}
 use Rattle.block.proofs.Changes.{channel-length, channel-same, channel-other, keepRecord-length, keepRecord-channel}
 use Rattle.block.proofs.Changes.{takeOff-length, takeOff-same, receive-length, receive-same, receive-stopped}
-use Rattle.block.proofs.Changes.{receive-other, halt-length}
+use Rattle.block.proofs.Changes.{receive-other}
 use Rattle.layout.specs.Layout.{clusterSize, block, onBlock}
 use Rattle.layout.specs.Slot.{slotPlace}
 use Rattle.layout.proofs.Blocks.{length-block, block-same, block-other}

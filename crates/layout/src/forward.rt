@@ -1,4 +1,4 @@
-// A message passed on from slot to slot: its bytes are copied from where they came in, within the cluster's bytes.
+// A message forwarded from slot to slot: its bytes are copied from where they came in, within the cluster's bytes.
 use crate::BLOCKS_PLACE;
 use crate::stopped_at;
 use block::BLOCK;
@@ -17,6 +17,7 @@ ghost use mathlib.Core.Path.{_≡_};
 ghost use Prim.Native.Nat.{_+_, _<_, _≤_};
 ghost use lib.ListN.{length};
 ghost use Rattle.octets.specs.Bytes.{put};
+ghost use Rattle.octets.specs.Word.{wordSize};
 ghost use Rattle.view.specs.Size.{nodes};
 ghost use Rattle.region.specs.Channel.{slotSize, oldest};
 ghost use Rattle.block.specs.Block.{receive};
@@ -44,7 +45,8 @@ pub fn first_place(b: &[u8], a: usize, c: usize) -> usize
 // The slot at `to` gets the message of so many bytes that stands in the slot at `from`, and zeros after it. It may be
 // the very slot that the message stands in, so no more than what comes after the message is cleared.
 fn fill_slot(b: &mut [u8], from: usize, to: usize, len: usize)
-    requires { ⌜ (1 ≤ len) × (len ≤ slotSize) × (from + len ≤ length (now b)) × (to + slotSize ≤ length (now b))
+    requires { ⌜ (wordSize ≤ len) × (len ≤ slotSize) × (from + len ≤ length (now b))
+        × (to + slotSize ≤ length (now b))
         × (from < to → from + slotSize ≤ to) × (to < from → to + slotSize ≤ from) ⌝ }
     ensures { λ _. ⌜ now (b .exit) ≡ put (now (b .entry)) to (slotFrom (now (b .entry)) from len) ⌝ }
 {
@@ -57,8 +59,8 @@ fn fill_slot(b: &mut [u8], from: usize, to: usize, len: usize)
 // Node c receives from a the message of so many bytes that stands in a slot of the cluster, at `from`, unless it has
 // stopped.
 pub fn forward_at(b: &mut [u8], from: usize, len: usize, a: usize, c: usize)
-    requires { ⌜ (1 ≤ a) × (a ≤ nodes) × (1 ≤ c) × (c ≤ nodes) × (clusterSize c ≤ length (now b)) × (1 ≤ len)
-        × (len ≤ slotSize) × (from + len ≤ length (now b)) × IsSlot nodes from ⌝ }
+    requires { ⌜ (1 ≤ a) × (a ≤ nodes) × (1 ≤ c) × (c ≤ nodes) × (clusterSize c ≤ length (now b))
+        × (wordSize ≤ len) × (len ≤ slotSize) × (from + len ≤ length (now b)) × IsSlot nodes from ⌝ }
     ensures { λ _. ⌜ now (b .exit) ≡ onBlock c (receive a (slotFrom (now (b .entry)) from len)) (now (b .entry)) ⌝ }
 {
     if stopped_at(b, c) {

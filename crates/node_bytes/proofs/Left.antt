@@ -38,12 +38,11 @@ use Rattle.region.specs.Record.{recordSize, recordOf, recordBytes, codesKnown}
 use Rattle.region.proofs.Back.{Sized, SizedNode, sized-view, sized-of, record-back, record-known}
 use Rattle.region.proofs.Saved.{length-recordBytes}
 use Rattle.react_bytes.proofs.Handling.{sized-react}
-use Rattle.step_bytes.proofs.Moved.{sized-none, sized-moved, sized-begun}
+use Rattle.step_bytes.proofs.Moved.{sized-none, sized-moved, sized-begun, long-of}
 use Rattle.calls_bytes.specs.Entry.{LentResult, fits, inBytes, atRecord, fresh}
 use Rattle.node_bytes.specs.Left as claim
 use Rattle.node_bytes.specs.Left.{Holds}
 use Rattle.node_bytes.proofs.Made.{made}
-use Rattle.node_bytes.proofs.Stepped.{long-of}
 
 never : {X : Type 0} {x : Ending} {k : ℕ} → _≡_ {A = Answer Ending} (refused k) (result x) → X
 never h = absurd (let z : _≡_ {A = ℕ} 0 1 = cc in omega arith)

@@ -18,7 +18,7 @@ use Rattle.wire.specs.declared.Message.the-variants.{Read, ReadAnswer, Write, W
 use Rattle.record.specs.Usable.{usable}
 use Rattle.record.specs.declared.Node.{Node}
 use Rattle.record.specs.declared.Operation.{Operation}
-use Rattle.step.specs.Claims.{Long, AllLawful, sizes}
+use Rattle.step.specs.Claims.{AllLawful, sizes}
 use Rattle.step.specs.Move.{moveOn, messageStep, begun}
 use Rattle.step.specs.React.{react, isNew}
 use Rattle.step.specs.Told.{told, toldView}
@@ -39,8 +39,9 @@ use Rattle.emit.proofs.Runs.{handler-alone}
 use Rattle.reply.proofs.Received.{react-received, message-received}
 use Rattle.reply.proofs.Tells.{told-toldView}
 use Rattle.region.specs.Record.{fPlace, recordOf, recordBytes}
-use Rattle.region.proofs.Back.{sized-view, sized-of}
+use Rattle.region.proofs.Back.{sized-view}
 use Rattle.react_bytes.proofs.Handling.{reacted-step}
+use Rattle.step_bytes.proofs.Moved.{long-of}
 use Rattle.step_bytes.specs.Moved.{isStep, restedOf, followed, rests}
 use Rattle.step_bytes.specs.declared.Plan.{Plan}
 use Rattle.step_bytes.specs.declared.Plan.the-variants.{Rest, Read as PlanRead, Compare, Agree, Borrow}
@@ -132,16 +133,6 @@ can-write s n room {e} h i k =
     (subst (λ (x : Effect). (1 ≤ s .node .n) × (s .node .n ≤ nodes)
     × AllLawful (s .node .n) (x .outbox .view) (messages (x .outbox))
     × (sizes (s .node .n) (messages (x .outbox)) ≤ room)) (sym (i .0)) h)
-
--- the tables of a record in bytes have the lengths that their types say
-pub long-of : (r : List ℕ) → Long (recordOf r)
-long-of r =
-    let z = sized-of r in
-    record {
-      last = (z .last .tags, z .last .reports);
-      atmax = (z .atmax .tags, z .atmax .reports);
-      atround = (z .atround .tags, z .atround .reports);
-    }
 
 -- ---- the step of a message that was handled, r the record before it
 

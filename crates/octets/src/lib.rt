@@ -89,18 +89,6 @@ pub fn put_bytes(b: &mut [u8], at: usize, s: &[u8])
     }
 }
 
-// Copies bytes from one place of b to another, below it, the same or past its end: none is read after it was written.
-pub fn copy_within(b: &mut [u8], from: usize, to: usize, len: usize)
-    requires { ⌜ (from + len ≤ length (now b)) × (to + len ≤ length (now b)) × (from < to → from + len ≤ to) ⌝ }
-    ensures { λ _. ⌜ now (b .exit) ≡ put (now (b .entry)) to (part (now (b .entry)) from len) ⌝ }
-{
-    let mut i = 0;
-    while i < len {
-        b[to + i] = b[from + i];
-        i += 1;
-    }
-}
-
 // Makes every byte of b an x.
 pub fn fill(b: &mut [u8], x: u8)
     ensures { λ _. ⌜ now (b .exit) ≡ replicate (length (now (b .entry))) x ⌝ }
@@ -128,6 +116,35 @@ pub fn put_word(b: &mut [u8], at: usize, x: u64)
 {
     let d = digits8(x);
     put_bytes(b, at, &d);
+}
+
+// Writes the bytes of s, a word or more, into b from a place on: word by word, the last of them up to its end.
+pub fn put_run(b: &mut [u8], at: usize, s: &[u8])
+    requires { ⌜ (wordSize ≤ length (now s)) × (at + length (now s) ≤ length (now b)) ⌝ }
+    ensures { λ _. ⌜ now (b .exit) ≡ put (now (b .entry)) at (now (s .entry)) ⌝ }
+{
+    let mut i = 0;
+    while i + WORD < s.len() {
+        put_word(b, at + i, get_word(s, i));
+        i += WORD;
+    }
+    let last = s.len() - WORD;
+    put_word(b, at + last, get_word(s, last));
+}
+
+// Copies bytes, a word or more, from one place of b to another, which is the same or apart from it.
+pub fn copy_within(b: &mut [u8], from: usize, to: usize, len: usize)
+    requires { ⌜ (wordSize ≤ len) × (from + len ≤ length (now b)) × (to + len ≤ length (now b))
+        × (from < to → from + len ≤ to) × (to < from → to + len ≤ from) ⌝ }
+    ensures { λ _. ⌜ now (b .exit) ≡ put (now (b .entry)) to (part (now (b .entry)) from len) ⌝ }
+{
+    let mut i = 0;
+    while i + WORD < len {
+        put_word(b, to + i, get_word(b, from + i));
+        i += WORD;
+    }
+    let last = len - WORD;
+    put_word(b, to + last, get_word(b, from + last));
 }
 
 // Writes the words of t into b, from a place on.

@@ -1,4 +1,4 @@
--- A value that is passed on: its entries, and its slot.
+-- A value that is forwarded: its entries, and its slot.
 use Prim.Native.Nat.{ℕ, _+_, _-_, _≤_, min}
 use native.Mathlib.Omega.{arith}
 use mathlib.Core.Path.{_≡_, refl, sym, ap, ap₂, _∙_}

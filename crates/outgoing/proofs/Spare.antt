@@ -1,15 +1,15 @@
 -- Where every channel has room for whatever a step sends, refusal 11 does not come up.
-use Prim.Native.Nat.{ℕ, zero, suc, _+_, _-_, _<_, _≤_}
+use Prim.Native.Nat.{ℕ, zero, suc, _+_, _-_, _≤_}
 use native.Mathlib.Omega.{arith}
 use native.Mathlib.Decide.{decLt}
-use mathlib.Core.Path.{_≡_, refl, sym, ap, _∙_}
+use mathlib.Core.Path.{_≡_, refl, sym, _∙_}
 use mathlib.Core.Bool.{Bool, true, false}
 use mathlib.Core.List.{List, [], _∷_, _++_}
 use lib.Dec.{leb, eqb}
 use lib.ListN.{length, take, length-append}
 use borrow.Author.Tests.{le-leb, leb-true}
 use Rattle.octets.specs.Test.{pick}
-use Rattle.table.specs.Loop.{either, all, numbered}
+use Rattle.table.specs.Loop.{either, numbered}
 use Rattle.table.proofs.Laws.{all-at, all-all}
 use Rattle.table.specs.Table.{cells}
 use Rattle.view.specs.Size.{nodes}
@@ -24,8 +24,8 @@ use Rattle.region.specs.Channel.{capacity, countOf}
 use Rattle.block.specs.Block.{takeOff}
 use Rattle.layout.specs.Layout.{clusterSize, stopped, channel, onBlock}
 use Rattle.outgoing.specs.Entries.{Entry, entry, isAnswer, addressed, entriesOf, entries, goTo}
-use Rattle.outgoing.specs.Outgoing.{shortened, isCut, hasRoom}
-use Rattle.outgoing.specs.Room.{goneIn, ownRoom, roomBefore, sentMost, spare}
+use Rattle.outgoing.specs.Outgoing.{shortened, isCut, sentMost, hasRoom}
+use Rattle.outgoing.specs.Room.{goneIn, ownRoom, roomBefore, spare}
 use Rattle.outgoing.specs.declared.Extent.{Extent}
 use Rattle.outgoing.specs.declared.Extent.the-variants.{Whole, Cut}
 use Rattle.outgoing.proofs.Laws.{goTo-append, goTo-past, goTo-once}

@@ -22,9 +22,13 @@ abbrev pub shortened : Extent → List Entry → List Entry
 shortened Whole l = l
 shortened (Cut m) l = take m l
 
--- A number of entries that holds all that are let out: a step has three parts of at most two messages, each to all.
+-- No step sends one node more messages than this: it has three parts of at most two. So a number of entries that holds
+-- all that are let out.
+abbrev pub sentMost : ℕ
+sentMost = 6
+
 abbrev pub most : Extent → ℕ
-most Whole = 6 * nodes
+most Whole = sentMost * nodes
 most (Cut m) = m
 
 abbrev pub isCut : Extent → Bool

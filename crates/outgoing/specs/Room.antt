@@ -10,6 +10,7 @@ use Rattle.table.specs.Loop.{either, all}
 use Rattle.region.specs.Channel.{capacity, countOf}
 use Rattle.layout.specs.Layout.{stopped, channel}
 use Rattle.outgoing.specs.Entries.{Entry, goTo}
+use Rattle.outgoing.specs.Outgoing.{sentMost}
 
 -- How many messages leave the channel from c to itself, where one from a is taken off.
 abbrev pub goneIn : (took : Bool) (a c : ℕ) → ℕ
@@ -25,10 +26,6 @@ roomBefore cut gone c l b k =
     (pick (eqb k c) (ownRoom cut gone (countOf (channel b c k)) (goTo k l))
     (leb (countOf (channel b c k) + goTo k l) capacity))
 
--- A step sends no node more than so many messages, two in each of its three parts; and every channel from c can hold
--- that many more.
-abbrev pub sentMost : ℕ
-sentMost = 6
-
+-- Every channel from c can hold whatever a step sends.
 unfoldable pub spare : (n c : ℕ) → List ℕ → Bool
 spare n c b = all n (λ k. leb (countOf (channel b c k) + sentMost) capacity)

@@ -21,7 +21,7 @@ pub fn is_cut(x: Extent) -> bool
     }
 }
 
-// The most messages that a step sends to one node: it has three parts of at most two messages.
+// No step sends one node more messages than this: it has three parts of at most two.
 pub const SENT_MOST: usize = 6;
 
 // A number of entries that holds all that are let out.

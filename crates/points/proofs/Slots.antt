@@ -7,24 +7,17 @@ use mathlib.Core.Logic.{⊎-elim}
 use mathlib.Core.Path.{_≡_, refl, sym, ap, ap₂, _∙_, subst}
 use mathlib.Core.Bool.{Bool, true, false}
 use mathlib.Core.List.{List, [], _∷_, _++_, append-nil, append-assoc}
-use lib.ListN.{length, take, drop, replicate}
+use lib.ListN.{length, take, drop}
 use lib.Seq.{take-take, take-at}
 use lib.Dec.{ltb, eqb}
-use borrow.Author.Tests.{le-leb, eq-eqb, ne-eqb}
-use Rattle.octets.specs.Bytes.{part, put}
+use borrow.Author.Tests.{eq-eqb, ne-eqb}
+use Rattle.octets.specs.Bytes.{part}
 use Rattle.octets.specs.Loop.{each}
 use Rattle.octets.specs.Test.{pick}
-use Rattle.octets.proofs.Table.{tab-ext, drop-replicate}
+use Rattle.octets.proofs.Table.{tab-ext}
 use Rattle.octets.proofs.Lent.{take-append}
-use Rattle.view.specs.Size.{isSize}
-use Rattle.view.specs.View.{viewBytes}
-use Rattle.view.specs.declared.Report.{Report}
 use Rattle.view.specs.declared.View.{View}
-use Rattle.wire.specs.Codec.{answer}
-use Rattle.wire.specs.Layout.{encode, allowed, messageSize}
 use Rattle.wire.specs.declared.Message.{Message}
-use Rattle.wire.specs.declared.Message.the-variants.{Value}
-use Rattle.wire.proofs.Numbers.{length-encode}
 use Rattle.table.specs.Loop.{numbered}
 use Rattle.table.proofs.Laws.{length-numbered}
 use Rattle.region.specs.Channel.{capacity, channelSize, slotSize, slotAt, oldest, countOf, push, waiting}
@@ -56,27 +49,6 @@ slots-push : (m t : List ℕ) → length t ≡ channelSize → length m ≡ slot
 slots-push m t size long room = sym (whole-slots (push m t))
     ∙ waiting-push (take slotSize) m m t size (omega arith) room (λ rest. take-at m rest slotSize long)
     ∙ ap (λ l. l ++ (m ∷ [])) (whole-slots t)
-
--- The slot of an allowed value: its bytes, and zeros.
-module _ (n t w : ℕ) (p : Report) (v : View) (sized : isSize n ≡ true)
-    (ok : allowed n (Value t w p) (viewBytes n v) ≡ true) where
-  abbrev bytes : List ℕ
-  bytes = encode (Value t w p) (viewBytes n v)
-
-  fits : length bytes ≤ slotSize
-  unfolding messageSize
-  fits = omega (arith, length-encode n (Value t w p) (viewBytes n v) ok)
-
-  put-first : slot n (Value t w p) v ≡ put (replicate slotSize 0) 0 bytes
-  unfolding slot answer
-  put-first = rw (sized, ok, le-leb (length bytes) slotSize fits) refl
-
-  pub value-slot : slot n (Value t w p) v ≡ bytes ++ replicate (slotSize - length bytes) 0
-  unfolding put
-  value-slot =
-      let e : 0 + length bytes ≡ length bytes = omega arith in
-      put-first ∙ ap (λ k. bytes ++ drop k (replicate slotSize 0)) e
-      ∙ ap (λ z. bytes ++ z) (drop-replicate (length bytes) slotSize 0)
 
 -- ---- the entries that go to a node
 

@@ -20,7 +20,7 @@ use Rattle.view.specs.View.{noView, viewOf, viewBytes}
 use Rattle.view.specs.declared.Report.{Report}
 use Rattle.view.specs.declared.View.{View}
 use Rattle.wire.specs.Codec.{front, viewAt}
-use Rattle.wire.specs.Layout.{encode, allowed}
+use Rattle.wire.specs.Layout.{encode, allowed, valueSize}
 use Rattle.wire.specs.declared.Message.the-variants.{Value}
 use Rattle.wire.proofs.RoundTrip.{front-back}
 use Rattle.table.specs.Table.{tagOf}
@@ -34,6 +34,7 @@ use Rattle.region.specs.Channel.{slotSize, countOf, first, pop, waiting}
 use Rattle.region.proofs.Waiting.{waiting-pop, length-waiting}
 use Rattle.block.specs.Block.{keepRecord}
 use Rattle.outgoing.specs.Entries.{Entry, entry, addressed, entriesOf, entries, goTo, slot}
+use Rattle.outgoing.proofs.Forwarded.{value-slot}
 use Rattle.outgoing.specs.Outgoing.{letOut, shortened, isCut}
 use Rattle.outgoing.specs.declared.Extent.{Extent}
 use Rattle.outgoing.specs.declared.Extent.the-variants.{Whole, Cut}
@@ -56,7 +57,7 @@ use Rattle.points.specs.Channels.{MayDeliver, Room, stillWaits, handled}
 use Rattle.points.specs.Forward.{slotsOn, slotsTo, Handed, ValueWaits}
 use Rattle.points.proofs.Stops.{start-mirrors}
 use Rattle.points.proofs.Counts.{Held, size-of, held-out}
-use Rattle.points.proofs.Slots.{value-slot, slots-out}
+use Rattle.points.proofs.Slots.{slots-out}
 use Rattle.points.proofs.Channels.{rests, channels-hold}
 
 -- An idle node that handles a value lets at most one message out to each node.
@@ -219,8 +220,8 @@ module _ (n f : ℕ) (size : OneTo nodes n) (half : f + f < n) (a c : ℕ) (from
     long = length (encode (Value t w p) (viewBytes n noView))
 
     reads : front (stated b) (first (channel b a c)) ≡ result (Value t w p, long)
-    reads = ap₂ front (shows .states) (first-is ∙ value-slot n t w p noView sized layout)
-        ∙ front-back n (Value t w p) (viewBytes n noView) (replicate (slotSize - long) 0) sized layout
+    reads = ap₂ front (shows .states) (first-is ∙ value-slot n t w p noView (viewBytes n noView) sized layout)
+        ∙ front-back n (Value t w p) (viewBytes n noView) (replicate (slotSize - valueSize) 0) sized layout
 
     -- ---- the record
 

@@ -1,5 +1,6 @@
 -- Document 02, request [5]: what a cluster forwards is, byte for byte, the value message received. The bytes received
--- are the front of the slot in which the message waited.
+-- are the front of the slot in which the message waited. This stands beside the table of points, and is said of the
+-- code's definitions.
 use Prim.Native.Nat.{ℕ, _+_, _-_, _≤_, _<_}
 use mathlib.Core.Path.{_≡_}
 use mathlib.Core.Bool.{Bool, true, false}
@@ -53,8 +54,8 @@ past n (Cut m) = Cut (m - n)
 abbrev pub movedOn : (n a : ℕ) → Outbox → List Entry
 movedOn n a o = entriesOf n a (o .view) (listed (o .reading) ++ listed (o .comparing))
 
-abbrev pub ownSent : List ℕ → (a c : ℕ) → Message → List Entry
-ownSent b a c m = movedOn (stated b) a (messageStep (faultsIn b) (node b c) a m
+abbrev pub operationSent : List ℕ → (a c : ℕ) → Message → List Entry
+operationSent b a c m = movedOn (stated b) a (messageStep (faultsIn b) (node b c) a m
     (viewOf (stated b) (viewAt (stated b) (first (channel b a c)))) .outbox)
 
 -- The delivery from a to c is accepted, and the message delivered is m: the first k bytes of its slot.
@@ -83,11 +84,11 @@ pub record Forwards : Type 0 where
       → slotsOn (deliver a c x b .bytes) c d
       ≡ slotsOn (onBlock c (takeOff a) b) c d
       ++ (take k (first (channel b a c)) ++ replicate (slotSize - k) 0)
-      ∷ slotsTo (stated b) d (shortened (past (stated b) x) (ownSent b a c (Value t w p)))
+      ∷ slotsTo (stated b) d (shortened (past (stated b) x) (operationSent b a c (Value t w p)))
   -- Any other value is not forwarded: all that the event lets out is what the open operation sent.
-  pub kept : (b : List ℕ) (a c : ℕ) (x : Extent) (t w : ℕ) (p : Report) (k : ℕ)
+  pub not-new : (b : List ℕ) (a c : ℕ) (x : Extent) (t w : ℕ) (p : Report) (k : ℕ)
       → Handed b a c x (Value t w p) k → isNew (node b c) w t ≡ false
-      → deliver a c x b .sent ≡ shortened x (ownSent b a c (Value t w p))
+      → deliver a c x b .sent ≡ shortened x (operationSent b a c (Value t w p))
   -- Of every message: the channels to those that stand hold what waited, and the slots of what the event let out.
   pub holds : (b : List ℕ) (a c : ℕ) (x : Extent) (m : Message) (k : ℕ) → Handed b a c x m k
       → (d : ℕ) → OneTo (stated b) d → stopped (deliver a c x b .bytes) d ≡ false

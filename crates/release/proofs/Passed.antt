@@ -1,4 +1,4 @@
--- A value passed on from its slot: one node more has it, and the slot is as it was.
+-- A value forwarded from its slot: one node more has it, and the slot is as it was.
 use Prim.Native.Nat.{ℕ, _+_, _-_, _≤_}
 use native.Mathlib.Omega.{arith}
 use mathlib.Core.Path.{_≡_, sym, ap, _∙_}
@@ -78,7 +78,7 @@ module _ (n c k from : ℕ) (small : n ≤ nodes) (lo : 1 ≤ c) (hi : c ≤ n) 
       (omega (arith, long)) s (slot-long t from within) front
       ∙ ap (λ (j : ℕ). part t j valueSize) (sym place) ∙ same
 
--- Where the handler passes a value on, it stands in a slot of the channel from a to c; and it does so still when the
+-- Where the handler forwards a value, it stands in a slot of the channel from a to c; and it does so still when the
 -- message was taken off, a record was written and the node has stopped.
 module _ (n a c : ℕ) (small : n ≤ nodes) (a-lo : 1 ≤ a) (a-hi : a ≤ n) (lo : 1 ≤ c) (hi : c ≤ n) (v : View) (s : Sent)
     (b : List ℕ) (long : length b ≡ clusterSize n) (from : ℕ) (r : ReceivedAt n a c v s b from) where

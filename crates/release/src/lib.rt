@@ -67,7 +67,7 @@ fn halt_if(b: &mut [u8], n: usize, c: usize, cut: bool)
     }
 }
 
-// What node c sends goes out, after it stopped in a cut. A value that it passes on stands at `from`.
+// What node c sends goes out, after it stopped in a cut. A value that it forwards stands at `from`.
 pub fn release(b: &mut [u8], n: usize, a: usize, c: usize, o: Outbox, from: usize, x: Extent)
     requires { ⌜ (n ≤ nodes) × (1 ≤ a) × (a ≤ n) × (1 ≤ c) × (c ≤ n) × (length (now b) ≡ clusterSize n)
         × ReceivedAt n a c (o .view) (o .handler) (now b) from × AllLawful n (o .view) (messages o) ⌝ }
@@ -90,7 +90,7 @@ pub fn release_handled(b: &mut [u8], n: usize, a: usize, c: usize, s: Sent, from
 }
 
 // Node c begins an operation, after which `r` is its record and o goes out, or nothing is changed where a channel would
-// be full (refusal 11). There is no message that could be passed on.
+// be full (refusal 11). There is no message that could be forwarded.
 pub fn settle(b: &mut [u8], n: usize, c: usize, r: &[u8], o: Outbox, x: Extent) -> bool
     requires { ⌜ (n ≤ nodes) × (1 ≤ c) × (c ≤ n) × (length (now b) ≡ clusterSize n)
         × (length (now r) ≡ recordSize) × (now r ≡ recordBytes (recordOf (now r)))

@@ -66,7 +66,7 @@ fn let_sent(b: &mut [u8], n: usize, a: usize, c: usize, s: Sent, v: View, left: 
     }
 }
 
-// The first `left` entries of the value that node c passes on: it stands in a slot, at `from`, and goes from there to
+// The first `left` entries of the value that node c forwards: it stands in a slot, at `from`, and goes from there to
 // each node in turn.
 fn let_forward(b: &mut [u8], n: usize, c: usize, from: usize, left: usize)
     requires { ⌜ (n ≤ nodes) × (1 ≤ c) × (c ≤ n) × (length (now b) ≡ clusterSize n) × IsSlot n from ⌝ }
@@ -81,7 +81,7 @@ fn let_forward(b: &mut [u8], n: usize, c: usize, from: usize, left: usize)
     }
 }
 
-// The first `left` entries of what the handler of a message sends; a value that it passes on stands at `from`.
+// The first `left` entries of what the handler of a message sends; a value that it forwards stands at `from`.
 pub(crate) fn let_handled(
     b: &mut [u8],
     n: usize,

@@ -13,6 +13,7 @@ use Rattle.record.specs.declared.Operation.{Operation}
 use Rattle.record.specs.declared.Operation.the-variants.{Update, Scan}
 use Rattle.record.specs.declared.Wait.{Wait}
 use Rattle.record.specs.declared.Wait.the-variants.{Idle, Reading, Writing, Comparing, Borrowing}
+use Rattle.step.specs.Claims.{Long}
 use Rattle.step.specs.Move.{agreement}
 use Rattle.step.specs.Move.{readPass, writePass, comparePass, borrowPass, reads, writes, compares, moveOn, begun}
 use Rattle.step.specs.Move.{opened, afterRead, afterGood, afterFailed}
@@ -20,7 +21,7 @@ use Rattle.step.specs.declared.Step.{Step}
 use Rattle.step.proofs.Numbers.{on-pick}
 use Rattle.step.proofs.Same.{move-on-keeps}
 use Rattle.region.specs.Record.{recordOf, recordBytes}
-use Rattle.region.proofs.Back.{Sized, SizedNode, record-back}
+use Rattle.region.proofs.Back.{Sized, SizedNode, sized-of, record-back}
 use Rattle.react_bytes.proofs.Handling.{sized-newest}
 use Rattle.step_bytes.specs.Moved.{isStep}
 use Rattle.step_bytes.proofs.Turned.{stepOf}
@@ -111,3 +112,13 @@ module _ (s : Step) (z : SizedNode (s .node)) {e : Effect} {r : List ℕ} (h : i
 
   pub step-back : stepOf (recordOf r) e ≡ s
   step-back = ap₂ stepOf read-back (h .0)
+
+-- the tables of a record in bytes have the lengths that their types say
+pub long-of : (r : List ℕ) → Long (recordOf r)
+long-of r =
+    let z = sized-of r in
+    record {
+      last = (z .last .tags, z .last .reports);
+      atmax = (z .atmax .tags, z .atmax .reports);
+      atround = (z .atround .tags, z .atround .reports);
+    }

@@ -17,7 +17,7 @@ ghost use Rattle.wire.specs.declared.Message.the-variants.{Good};
 // Writes a message that carries no view at the front of `out`: its length, or 1, 7, 12. A good one lacks its view here,
 // and is refused. A refusal changes nothing, and the bytes after the message stay. This and the next are apart so that
 // short messages do not pay for the loops of a view.
-pub fn write_short(n: usize, m: Message, out: &mut [u8]) -> Written
+fn write_short(n: usize, m: Message, out: &mut [u8]) -> Written
     ensures { λ r. ⌜ (written r ≡ answer n m [] (length (now (out .entry))))
         × (now (out .exit) ≡ after (written r) (encode m []) (now (out .entry))) ⌝ }
 {
@@ -77,7 +77,7 @@ pub fn write_short(n: usize, m: Message, out: &mut [u8]) -> Written
 }
 
 // Writes a good message, likewise.
-pub fn write_good(n: usize, tag: u64, view: &[u8], out: &mut [u8]) -> Written
+fn write_good(n: usize, tag: u64, view: &[u8], out: &mut [u8]) -> Written
     ensures { λ r. ⌜ (written r ≡ answer n (Good tag) (now (view .entry)) (length (now (out .entry))))
         × (now (out .exit) ≡ after (written r) (encode (Good tag) (now (view .entry))) (now (out .entry))) ⌝ }
 {

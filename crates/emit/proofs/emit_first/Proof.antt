@@ -11,16 +11,16 @@ use Rattle.emit.proofs.Runs.{forward-long, forward-length, forward-run,
 use Rattle.emit.proofs.emit_first.Statement.{statement}
 use Rattle.emit.proofs.emit_first.Tie as tie
 
-slice-aggregate-put-bytes : tie.Need-slice-aggregate-put-bytes
-slice-aggregate-put-bytes c =
+slice-aggregate-put-run : tie.Need-slice-aggregate-put-run
+slice-aggregate-put-run c =
     let c7 = c .before .before .before .before .before .before .before in
     let a = c7 .args in
     let one = sym (c .before .before .before .is-forward .ensures) ∙ c .before .before .if1 .taken in
     let long : length (a .b .now) ≡ valueSize = forward-length (a .m) (a .b .now) (a .v .now) one (c7 .pre .0) in
     sym (length-take-le _ (a .b .now) (omega (arith, long)))
 
-put-bytes-requires : tie.Need-put-bytes-requires
-put-bytes-requires c κs =
+put-run-requires : tie.Need-put-run-requires
+put-run-requires c κs =
     let c7 = c .before .before .before .before .before .before .before in
     let a = c7 .args in
     let one = sym (c .before .before .before .is-forward .ensures) ∙ c .before .before .if1 .taken in
@@ -37,12 +37,12 @@ returns c =
     let p = c10 .pre in
     let one = sym (c5 .before .is-forward .ensures) ∙ c5 .if1 .taken in (
       sym (forward-long (a .m) (a .b .now) (a .v .now) one (p .0)),
-      c .before .before .put-bytes .ensures
+      c .before .before .put-run .ensures
           ∙ ap (put (a .out .now) 0) (forward-run (a .m) (a .b .now) (a .v .now) one (p .0)),
     )
 
 pub emit-first-spec : {M : Type 1} → statement M
 emit-first-spec =
     tie.close
-    (tie.spec (λ c κs. search needs) slice-aggregate-put-bytes put-bytes-requires (λ c. search needs) returns
+    (tie.spec (λ c κs. search needs) slice-aggregate-put-run put-run-requires (λ c. search needs) returns
     (λ c κs. search needs) (λ c. search needs) (λ c. search needs))

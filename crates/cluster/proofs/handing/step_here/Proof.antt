@@ -1,13 +1,11 @@
 -- `cluster::handing::step_here` meets its contract.
 use borrow.Author.Needs.{needs}
 use native.Mathlib.Omega.{arith}
-use mathlib.Core.Path.{_≡_, refl, sym, ap, ap₂, _∙_}
-use mathlib.Core.Bool.{Bool}
-use Rattle.octets.specs.Answer.{Answer, result}
+use mathlib.Core.Path.{refl, sym, ap, _∙_}
+use Rattle.octets.specs.Answer.{result}
 use Rattle.octets.specs.Test.{pick}
 use Rattle.octets.proofs.Test.{pick-same}
 use Rattle.view.specs.View.{noView}
-use Rattle.view.specs.declared.View.{View}
 use Rattle.step.specs.declared.Ending.{Ending}
 use Rattle.step.specs.declared.Ending.the-variants.{None}
 use Rattle.step.specs.declared.Step.{Step}

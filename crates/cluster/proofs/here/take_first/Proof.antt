@@ -1,15 +1,13 @@
 -- `cluster::here::take_first` meets its contract.
 use borrow.Author.Needs.{needs}
 use mathlib.Core.Path.{_≡_, sym, ap, ap₂, _∙_}
-use mathlib.Core.Bool.{true, false}
-use Prim.Native.Nat.{ℕ, _*_, _≤_}
+use Prim.Native.Nat.{ℕ, _≤_}
 use native.Mathlib.Omega.{arith}
 use mathlib.Core.List.{List, []}
 use lib.ListN.{length, take, length-take}
 use Rattle.octets.specs.Bytes.{put}
 use Rattle.view.specs.Size.{viewSize}
 use Rattle.view.specs.View.{viewOf}
-use Rattle.view.specs.declared.View.{View}
 use Rattle.wire.specs.Codec.{viewAt}
 use Rattle.record.specs.declared.Node.{Node}
 use Rattle.step.specs.React.{react}

@@ -3,7 +3,7 @@ use borrow.Author.Needs.{needs}
 use Prim.Native.Nat.{ℕ, _+_, _-_, _<_, _≤_}
 use native.Mathlib.Omega.{arith}
 use native.Mathlib.Decide.{decLt}
-use mathlib.Core.Path.{_≡_, ap, ap₂, _∙_}
+use mathlib.Core.Path.{_≡_, ap, _∙_}
 use mathlib.Core.List.{List}
 use lib.ListN.{length, replicate, length-replicate}
 use Rattle.octets.specs.Bytes.{part, put}
@@ -29,7 +29,7 @@ copy-within-requires : tie.Need-copy-within-requires
 copy-within-requires c κs =
     let c6 = c .before .before .before .before .before .before in
     let p = c6 .pre in
-    (search needs, search needs, λ q. omega (arith, p .4 q, p .1))
+    (p .0, search needs, search needs, λ q. omega (arith, p .4 q, p .1), λ q. omega (arith, p .5 q, p .1))
 
 returns : tie.Need-returns
 returns c =
@@ -48,7 +48,7 @@ returns c =
     ∙ ap (λ (k : ℕ). put b at (replicate {A = ℕ} k 0)) (length-part b at more (omega arith)) in
     let still : part (put b at w) (a .from) (a .len) ≡ m =
     part-other b at w (a .from) (a .len) (omega arith) (apart (a .from) (a .to) (a .len) (p .4) (p .5) (p .1))
-    (λ q. omega (arith, lw, past (a .from) (a .to) (a .len) (p .5) (p .0) q)) in
+    (λ q. omega (arith, lw, past (a .from) (a .to) (a .len) (p .5) (omega (arith, p .0)) q)) in
     c .before .before .copy-within .ensures
     ∙ ap (λ (t : List ℕ). put t (a .to) (part t (a .from) (a .len))) cleared
     ∙ ap (put (put b at w) (a .to)) still

@@ -1,7 +1,7 @@
 -- `layout::forward::first_place` meets its contract.
 use borrow.Author.Needs.{needs}
 use Prim.Native.Nat.{ℕ, _+_}
-use mathlib.Core.Path.{_≡_, ap, ap₂, _∙_}
+use mathlib.Core.Path.{ap, ap₂, _∙_}
 use lib.ListN.{getD}
 use Rattle.region.specs.Channel.{slotAt, oldestPlace}
 use Rattle.layout.proofs.Received.{oldest-at}

@@ -1,15 +1,15 @@
 -- `layout::forward::forward_at` meets its contract.
 use borrow.Author.Needs.{needs}
-use Prim.Native.Nat.{ℕ, _+_, _%_}
+use Prim.Native.Nat.{ℕ, _+_}
 use native.Mathlib.Omega.{arith}
-use mathlib.Core.Path.{_≡_, refl, sym, ap, ap₂, _∙_}
+use mathlib.Core.Path.{_≡_, sym, ap, ap₂, _∙_}
 use mathlib.Core.List.{List}
-use lib.ListN.{length, getD, set, replicate, length-append, length-replicate}
+use lib.ListN.{length, getD, set, length-append, length-replicate}
 use Rattle.octets.specs.Bytes.{put}
 use Rattle.octets.proofs.Put.{length-part}
-use Rattle.region.specs.Channel.{capacity, slotSize, slotAt, countPlace, oldestPlace, countOf, oldest}
+use Rattle.region.specs.Channel.{slotSize, slotAt, countPlace, oldestPlace, countOf, oldest}
 use Rattle.layout.specs.Layout.{channel}
-use Rattle.layout.specs.Slot.{channelAt, slotPlace, slotFrom}
+use Rattle.layout.specs.Slot.{channelAt, slotFrom}
 use Rattle.layout.proofs.Received.{count-at, oldest-at, pass-stopped, pass-full, pass-in, slots-apart, slot-of}
 use Rattle.layout.proofs.forward.forward_at.Statement.{statement}
 use Rattle.layout.proofs.forward.forward_at.Tie as tie

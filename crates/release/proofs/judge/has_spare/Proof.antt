@@ -8,7 +8,8 @@ use Rattle.table.specs.Loop.{all}
 use Rattle.table.proofs.Laws.{all-none, all-more}
 use Rattle.region.specs.Channel.{capacity, countOf}
 use Rattle.layout.specs.Layout.{channel}
-use Rattle.outgoing.specs.Room.{sentMost, spare}
+use Rattle.outgoing.specs.Outgoing.{sentMost}
+use Rattle.outgoing.specs.Room.{spare}
 use Rattle.release.proofs.judge.has_spare.Statement.{statement}
 use Rattle.release.proofs.judge.has_spare.Tie as tie
 
