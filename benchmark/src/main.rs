@@ -11,6 +11,7 @@ mod network;
 mod plain;
 mod rows;
 mod side;
+mod times;
 mod workload;
 
 fn main() {

@@ -1,4 +1,4 @@
-//! The measurements: both sides in turn on the same input, the best of several runs of each.
+//! The measurements: both sides in turn on the same input, the best of several runs of each at each place of the stack.
 mod codec;
 mod events;
 mod frame;
@@ -11,63 +11,11 @@ use crate::machine;
 use crate::network::{Input, Lent};
 use crate::rows::Rows;
 use crate::side::Side;
+use crate::times::{LEFT_OUT, PLACES, RUNS, SECONDS};
 use std::hint::black_box;
-
-/// How often each side runs at least, and for how many seconds both together. What takes less than a millisecond runs a
-/// hundred times or more, so that a row is not of one moment of the machine.
-const RUNS: usize = 16;
-const SECONDS: f64 = 0.2;
 
 /// How often the same messages or views are gone through in one run.
 const ROUNDS: usize = 300;
-
-/// The work, with the stack 272 bytes further down for each step: a row moves with its place within lines of 64 bytes,
-/// and beside the lent bytes modulo 4096.
-#[inline(never)]
-fn deeper(steps: usize, work: &mut dyn FnMut() -> f64) -> f64 {
-    let room = black_box([0u8; 240]);
-    let time = if steps == 0 { work() } else { deeper(steps - 1, work) };
-    black_box(&room);
-    time
-}
-
-/// The best time of each work, in seconds; they run in turn, the stack at another place each time. Of many runs a
-/// hundredth is left out: the clock is not always right.
-fn best<const K: usize>(mut works: [&mut dyn FnMut() -> f64; K]) -> [f64; K] {
-    let mut times = [const { Vec::new() }; K];
-    let (mut runs, mut spent) = (0, 0.0);
-    while runs < RUNS || spent < SECONDS {
-        for (times, work) in times.iter_mut().zip(&mut works) {
-            let time = deeper(runs % RUNS, work);
-            times.push(time);
-            spent += time;
-        }
-        runs += 1;
-    }
-    times.map(|mut times| {
-        times.sort_unstable_by(f64::total_cmp);
-        times[runs / 100]
-    })
-}
-
-/// Seconds that each side takes, the best of the runs.
-struct Times {
-    proved: f64,
-    plain: f64,
-}
-
-impl Times {
-    const NONE: Times = Times { proved: 0.0, plain: 0.0 };
-
-    fn of(mut proved: impl FnMut() -> f64, mut plain: impl FnMut() -> f64) -> Times {
-        let [proved, plain] = best([&mut proved, &mut plain]);
-        Times { proved, plain }
-    }
-
-    fn ratio(&self) -> f64 {
-        self.proved / self.plain
-    }
-}
 
 /// What a row is named by.
 fn nodes(n: usize) -> String {
@@ -107,9 +55,10 @@ pub fn rows(file: &str) {
 fn tables() -> Rows {
     println!("{}", machine::line());
     println!(
-        "processor time of the thread, best of {RUNS} or more runs of each side, in turn for {SECONDS} s or more; \
-         ratio = proved / plain"
+        "processor time of the thread, best of {RUNS} or more runs of each side at each of {PLACES} places of the \
+         stack, in turn for {SECONDS} s or more, the best of {LEFT_OUT} left out"
     );
+    println!("ratio = proved / plain, each at its best place; worst = the largest proved / plain at one place");
     let tables: [fn(&mut Rows); 7] = [
         events::by_nodes,
         values::deliveries,

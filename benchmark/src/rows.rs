@@ -1,14 +1,17 @@
 //! Rows of ratios in groups: those of one run, and how far each row goes over several programs.
 use crate::machine;
+use crate::times::Times;
 
 /// What the proved code may take, as a multiple of plain Rust's time.
 const TARGET: f64 = 1.2;
 
-/// The best times that a program has had: of the proved code, and of what that is held against.
+/// What a program has had: the best times of the proved code and of what that is held against, and the worst ratio of
+/// the two at one place of the stack.
 struct Best {
     program: String,
     proved: f64,
     other: f64,
+    worst: f64,
 }
 
 impl Best {
@@ -33,11 +36,19 @@ impl Row {
         &self.best[self.best.len() - 1]
     }
 
-    /// One more run of a program, with these times.
-    fn include(&mut self, program: &str, proved: f64, other: f64) {
-        match self.best.iter_mut().find(|best| best.program == program) {
-            Some(best) => (best.proved, best.other) = (best.proved.min(proved), best.other.min(other)),
-            None => self.best.push(Best { program: program.to_string(), proved, other }),
+    fn worst(&self) -> &Best {
+        self.best.iter().max_by(|a, b| a.worst.total_cmp(&b.worst)).expect("no program")
+    }
+
+    /// One more run of a program: each side has its better time of the runs, but the worst stays the worst.
+    fn include(&mut self, run: Best) {
+        match self.best.iter_mut().find(|best| best.program == run.program) {
+            Some(best) => {
+                best.proved = best.proved.min(run.proved);
+                best.other = best.other.min(run.other);
+                best.worst = best.worst.max(run.worst);
+            }
+            None => self.best.push(run),
         }
         self.best.sort_by(|a, b| a.ratio().total_cmp(&b.ratio()));
     }
@@ -47,9 +58,10 @@ impl Row {
 pub struct Rows(Vec<Row>);
 
 impl Rows {
-    /// A row of this run: the time of the proved code, and of what it is held against.
-    pub fn add(&mut self, group: &str, name: &str, proved: f64, other: f64) {
-        self.row(group, name).include("", proved, other);
+    /// A row of this run.
+    pub fn add(&mut self, group: &str, name: &str, t: &Times) {
+        let run = Best { program: String::new(), proved: t.proved(), other: t.other(), worst: t.worst() };
+        self.row(group, name).include(run);
     }
 
     /// The row with this name, which is new or not.
@@ -61,21 +73,24 @@ impl Rows {
         &mut self.0[place]
     }
 
-    /// Writes the rows of this run to a file, a line for each: group, name and the two times, with tabs between.
+    /// Writes the rows of this run to a file, a line for each: group, name, the two times and the worst, with
+    /// tabs between.
     pub fn write(&self, file: &str) {
-        let line =
-            |Row { group, name, best }: &Row| format!("{group}\t{name}\t{}\t{}\n", best[0].proved, best[0].other);
+        let line = |row: &Row| {
+            let Best { proved, other, worst, .. } = row.largest();
+            format!("{}\t{}\t{proved}\t{other}\t{worst}\n", row.group, row.name)
+        };
         std::fs::write(file, self.0.iter().map(line).collect::<String>()).expect("no file for the rows");
     }
 
     /// Adds the rows that a run of a program has written.
     fn read(&mut self, program: &str, file: &str) {
         for line in std::fs::read_to_string(file).expect("no file of rows").lines() {
-            let [group, name, proved, other] = line.split('\t').collect::<Vec<_>>()[..] else {
+            let [group, name, proved, other, worst] = line.split('\t').collect::<Vec<_>>()[..] else {
                 panic!("no row: {line}")
             };
-            let [proved, other] = [proved, other].map(|time| time.parse().expect("no time"));
-            self.row(group, name).include(program, proved, other);
+            let [proved, other, worst] = [proved, other, worst].map(|number| number.parse().expect("no number"));
+            self.row(group, name).include(Best { program: program.to_string(), proved, other, worst });
         }
     }
 
@@ -93,22 +108,35 @@ impl Rows {
 
     /// Prints every row, over all programs.
     fn print(&self) {
-        println!("{:<36} {:>8} {:>8}  the largest in", "ratio", "smallest", "largest");
+        println!(
+            "{:<36} {:>8} {:>8} {:>8}  {:<14} the worst in",
+            "ratio", "smallest", "largest", "worst", "the largest in"
+        );
         for (group, rows) in self.groups() {
             println!("\n{group}");
             for row in rows {
-                let (smallest, largest) = (row.smallest().ratio(), row.largest().ratio());
-                println!("  {:<34} {smallest:>8.2} {largest:>8.2}  {}", row.name, row.largest().program);
+                let (smallest, largest, worst) = (row.smallest(), row.largest(), row.worst());
+                println!(
+                    "  {:<34} {:>8.2} {:>8.2} {:>8.2}  {:<14} {}",
+                    row.name,
+                    smallest.ratio(),
+                    largest.ratio(),
+                    worst.worst,
+                    largest.program,
+                    worst.program
+                );
             }
         }
     }
 
-    /// Prints the largest ratio of each group.
+    /// Prints the largest ratio and the largest worst of each group.
     pub fn print_largest(&self) {
-        println!("largest ratios; the target is {TARGET:.2}");
+        println!("{:<45} {:>8}{:6} {:>8}", format!("largest; the target is {TARGET:.2}"), "ratio", "", "worst");
+        let mark = |ratio| if ratio > TARGET { " above" } else { "" };
         for (group, rows) in self.groups() {
             let largest = rows.iter().map(|row| row.largest().ratio()).fold(0.0, f64::max);
-            println!("  {group:<43} {largest:>8.2}{}", if largest > TARGET { "  above" } else { "" });
+            let worst = rows.iter().map(|row| row.worst().worst).fold(0.0, f64::max);
+            println!("  {group:<43} {largest:>8.2}{:6} {worst:>8.2}{}", mark(largest), mark(worst));
         }
     }
 }

@@ -1,10 +1,11 @@
 //! Messages read and written, by kind.
 use super::views::some_view;
-use super::{Times, ROUNDS};
+use super::ROUNDS;
 use crate::clock::seconds;
 use crate::dice::Dice;
 use crate::rows::Rows;
 use crate::side::{Numbers, Plain, Proved, Report, Side, NO_REPORT};
+use crate::times::Times;
 use std::hint::black_box;
 
 /// The nodes that messages are for.
@@ -32,7 +33,7 @@ fn some_message(dice: &mut Dice, kind: u64) -> Case {
 /// Prints bytes per second by kind and of all kinds together.
 pub fn messages(rows: &mut Rows) {
     println!("messages of sixteen nodes, megabytes per second");
-    println!("{:>14} {:>6} {:>12} {:>12} {:>8}", "kind", "", "proved", "plain", "ratio");
+    println!("{:>14} {:>6} {:>12} {:>12} {:>8} {:>8}", "kind", "", "proved", "plain", "ratio", "worst");
     let kinds = ["read", "read answer", "write", "write answer", "echo", "value", "good"];
     let mut dice = Dice::new(3);
     let mut sums = [("read", 0.0, Times::NONE), ("write", 0.0, Times::NONE)];
@@ -46,20 +47,19 @@ pub fn messages(rows: &mut Rows) {
         for ((what, all_bytes, all), t) in sums.iter_mut().zip(times) {
             print_row(name, what, bytes, &t);
             *all_bytes += bytes;
-            all.proved += t.proved;
-            all.plain += t.plain;
-            rows.add("messages, one kind alone", &format!("to {what}: {name}"), t.proved, t.plain);
+            all.add(&t);
+            rows.add("messages, one kind alone", &format!("to {what}: {name}"), &t);
         }
     }
     for (what, bytes, t) in &sums {
         print_row("one of each", what, *bytes, t);
-        rows.add("messages, one of each kind", &format!("to {what}"), t.proved, t.plain);
+        rows.add("messages, one of each kind", &format!("to {what}"), t);
     }
 }
 
 fn print_row(name: &str, what: &str, bytes: f64, t: &Times) {
-    let (proved, plain) = (bytes / t.proved / 1e6, bytes / t.plain / 1e6);
-    println!("{name:>14} {what:>6} {proved:>12.0} {plain:>12.0} {:>8.2}", t.ratio());
+    let (proved, plain) = (bytes / t.proved() / 1e6, bytes / t.other() / 1e6);
+    println!("{name:>14} {what:>6} {proved:>12.0} {plain:>12.0} {t}");
 }
 
 fn read_all<S: Side>(cases: &[Case]) -> f64 {

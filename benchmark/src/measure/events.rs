@@ -1,24 +1,27 @@
 //! Events of a cluster: by the number of nodes, and by the length of the session.
-use super::{nodes, Times};
+use super::nodes;
 use crate::clock::seconds;
 use crate::rows::Rows;
 use crate::side::{Event, Plain, Proved, Side, View};
+use crate::times::Times;
 use crate::workload::{Order, Workload};
 use std::hint::black_box;
 
 /// No event: every cluster refuses it.
 pub const NONE: Event = Event::Stop { node: 0 };
 
-pub fn run<S: Side>(bytes: &mut [u8], events: &[Event]) -> f64 {
+pub fn apply_all<S: Side>(bytes: &mut [u8], events: &[Event]) {
     let mut view: View = [0; 256];
-    seconds(|| {
-        for event in events {
-            black_box(S::apply(bytes, event, &mut view));
-        }
-    })
+    for event in events {
+        black_box(S::apply(bytes, event, &mut view));
+    }
 }
 
-/// The time per event, in nanoseconds, of the same events from the same bytes on both sides.
+fn run<S: Side>(bytes: &mut [u8], events: &[Event]) -> f64 {
+    seconds(|| apply_all::<S>(bytes, events))
+}
+
+/// The times of the same events from the same bytes on both sides.
 fn time_events(n: usize, order: Order, seed: u64, count: usize) -> Times {
     let mut workload = Workload::new(n, order, seed);
     let mut events = vec![NONE; count];
@@ -37,29 +40,32 @@ fn time_events(n: usize, order: Order, seed: u64, count: usize) -> Times {
         },
     );
     assert!(one == two, "the sides differ");
-    let each = 1e9 / count as f64;
-    Times { proved: times.proved * each, plain: times.plain * each }
+    times
 }
 
 /// Prints events per second.
 pub fn by_nodes(rows: &mut Rows) {
     println!("events per second, by nodes and order of delivery");
-    println!("{:>6} {:>12} {:>12} {:>12} {:>8}", "nodes", "order", "proved", "plain", "ratio");
+    println!("{:>6} {:>12} {:>12} {:>12} {:>8} {:>8}", "nodes", "order", "proved", "plain", "ratio", "worst");
+    let count = 2000;
     for n in [1, 3, 5, 16] {
         for (order, name) in [(Order::Random, "random"), (Order::RoundRobin, "round robin")] {
-            let t = time_events(n, order, 7, 2000);
-            println!("{n:>6} {name:>12} {:>12.0} {:>12.0} {:>8.2}", 1e9 / t.proved, 1e9 / t.plain, t.ratio());
-            rows.add("events", &format!("{}, {name}", nodes(n)), t.proved, t.plain);
+            let t = time_events(n, order, 7, count);
+            let (proved, plain) = (count as f64 / t.proved(), count as f64 / t.other());
+            println!("{n:>6} {name:>12} {proved:>12.0} {plain:>12.0} {t}");
+            rows.add("events", &format!("{}, {name}", nodes(n)), &t);
         }
     }
 }
 
 pub fn growth_with_nodes() {
     println!("nanoseconds per event as the nodes grow, random order");
-    println!("{:>6} {:>12} {:>12} {:>8}", "nodes", "proved", "plain", "ratio");
+    println!("{:>6} {:>12} {:>12} {:>8} {:>8}", "nodes", "proved", "plain", "ratio", "worst");
+    let count = 1000;
     for n in 1..=16 {
-        let t = time_events(n, Order::Random, 11, 1000);
-        println!("{n:>6} {:>12.0} {:>12.0} {:>8.2}", t.proved, t.plain, t.ratio());
+        let t = time_events(n, Order::Random, 11, count);
+        let each = 1e9 / count as f64;
+        println!("{n:>6} {:>12.0} {:>12.0} {t}", t.proved() * each, t.other() * each);
     }
 }
 
@@ -115,8 +121,8 @@ pub fn growth_with_length(longest: usize) {
             done += events.len();
         }
         let each = 1e9 / events.len() as f64;
-        let t = Times { proved: proved.median() * each, plain: plain.median() * each };
-        println!("{done:>10} {:>12.0} {:>12.0} {:>8.2} {:>14}", t.proved, t.plain, t.ratio(), resident());
+        let (proved, plain) = (proved.median() * each, plain.median() * each);
+        println!("{done:>10} {proved:>12.0} {plain:>12.0} {:>8.2} {:>14}", proved / plain, resident());
         mark *= 10;
     }
 }

@@ -1,9 +1,10 @@
 //! Frames: one call for several messages, beside a call for each of them.
 use super::values::{check_forwarded, message, new_values, HIGH};
-use super::{best, give_all, nodes};
+use super::{give_all, nodes};
 use crate::network::{Input, Network, Packing, READ};
 use crate::rows::Rows;
 use crate::side::{is_refusal, Plain, Proved, Side};
+use crate::times::Times;
 
 /// How many messages of a stream are kept; its last frame may have some more.
 const MESSAGES: usize = 2000;
@@ -119,35 +120,37 @@ pub fn frames(rows: &mut Rows) {
         "frames at one node: nanoseconds per frame, and of a call for each of its messages (streams, with begins)"
     );
     println!(
-        "{:>6} {:>18} {:>9} {:>9} {:>9} {:>9} {:>6} {:>9} {:>6}",
-        "nodes", "messages", "in each", "proved", "a message", "calls", "ratio", "plain", "ratio"
+        "{:>6} {:>18} {:>9} {:>9} {:>9} {:>9} {:>8} {:>8} {:>9} {:>8} {:>8}",
+        "nodes", "messages", "in each", "proved", "a message", "calls", "ratio", "worst", "plain", "ratio", "worst"
     );
     for n in [3, 16] {
         for (name, stream) in streams(n) {
-            let [proved, calls, plain] = time(&stream);
+            let [beside_calls, beside_plain] = time(&stream);
+            let each = 1e9 / stream.frame_count as f64;
+            let proved = beside_plain.proved() * each;
+            let (calls, plain) = (beside_calls.other() * each, beside_plain.other() * each);
             let count = stream.message_count as f64 / stream.frame_count as f64;
             println!(
-                "{n:>6} {name:>18} {count:>9.1} {proved:>9.0} {:>9.0} {calls:>9.0} {:>6.2} {plain:>9.0} {:>6.2}",
-                proved / count,
-                proved / calls,
-                proved / plain
+                "{n:>6} {name:>18} {count:>9.1} {proved:>9.0} {:>9.0} {calls:>9.0} {beside_calls} {plain:>9.0} \
+                 {beside_plain}",
+                proved / count
             );
             let row = format!("{}, {count:.0} {name}", nodes(n));
-            rows.add("frames beside calls", &row, proved, calls);
-            rows.add("frames beside plain ones", &row, proved, plain);
+            rows.add("frames beside calls", &row, &beside_calls);
+            rows.add("frames beside plain ones", &row, &beside_plain);
         }
     }
 }
 
-/// Nanoseconds per frame: of the proved call, of a proved call for each message, and of plain Rust.
-fn time(stream: &Stream) -> [f64; 3] {
+/// The frames beside a proved call for each message, and beside plain Rust.
+fn time(stream: &Stream) -> [Times; 2] {
     let Stream { start, frames, messages, .. } = stream;
     let (mut one, mut two, mut three) = (Vec::new(), Vec::new(), Vec::new());
-    let times = best([
+    let times = Times::of_three([
         &mut || give_all::<Proved>(start, frames, 8192, &mut one),
         &mut || give_all::<Proved>(start, messages, 512, &mut two),
         &mut || give_all::<Plain>(start, frames, 8192, &mut three),
     ]);
     assert!(one == two && one == three, "the sides differ");
-    times.map(|seconds| seconds * 1e9 / stream.frame_count as f64)
+    times
 }

@@ -1,10 +1,11 @@
 //! One node: a begin, a stream of messages, and one of new values.
 use super::values::{check_forwarded, new_values};
-use super::{give_all, nodes, Times};
+use super::{give_all, nodes};
 use crate::clock::seconds;
 use crate::network::{Input, Lent, Network, Packing};
 use crate::rows::Rows;
 use crate::side::{is_refusal, Plain, Proved, Side};
+use crate::times::Times;
 use std::hint::black_box;
 
 /// How much of a stream is kept.
@@ -78,7 +79,7 @@ pub fn calls(rows: &mut Rows) {
     println!(
         "one node: begin, message and new value, nanoseconds per call (messages: a stream of them, with its begins)"
     );
-    println!("{:>6} {:>12} {:>12} {:>12} {:>8}", "nodes", "", "proved", "plain", "ratio");
+    println!("{:>6} {:>12} {:>12} {:>12} {:>8} {:>8}", "nodes", "", "proved", "plain", "ratio", "worst");
     for n in [1, 3, 5, 16] {
         let mut stream = stream(n);
         let begins = Times::of(|| run_begins::<Proved>(&stream), || run_begins::<Plain>(&stream));
@@ -91,8 +92,8 @@ pub fn calls(rows: &mut Rows) {
             ("one node, new values", "new value", INPUTS, values),
         ] {
             let each = 1e9 / count as f64;
-            println!("{n:>6} {name:>12} {:>12.0} {:>12.0} {:>8.2}", t.proved * each, t.plain * each, t.ratio());
-            rows.add(group, &format!("{}, {name}", nodes(n)), t.proved, t.plain);
+            println!("{n:>6} {name:>12} {:>12.0} {:>12.0} {t}", t.proved() * each, t.other() * each);
+            rows.add(group, &format!("{}, {name}", nodes(n)), &t);
         }
     }
 }

@@ -1,18 +1,23 @@
 //! Values that are new to the node that they come to, so that it forwards them to all.
-use super::events::{run, NONE};
-use super::{nodes, Times};
+use super::events::{apply_all, NONE};
+use super::nodes;
+use crate::clock::seconds;
 use crate::network::{Input, Lent};
 use crate::plain::bytes::put_word;
 use crate::plain::record::MAXTAG;
 use crate::rows::Rows;
 use crate::side::{Event, Plain, Proved, Side};
+use crate::times::Times;
 use crate::workload::waiting;
 
-/// Of how many nodes the values are delivered at most: the channels hold no more once each is forwarded.
+/// Of how many nodes the values are delivered at most: the channels hold no more once each is forwarded. With sixteen
+/// nodes some channels come to hold more than ten messages.
 const WRITERS: usize = 14;
 
-/// How many deliveries there are in a run at most.
+/// How many deliveries there are in a run at most, and between two readings of the clock at least: with one node, whose
+/// cluster has one value, in as many clusters.
 const DELIVERIES: usize = 500;
+const AT_ONCE: usize = 8;
 
 /// A tag above all that the workloads come to.
 pub const HIGH: u64 = 1 << 40;
@@ -64,36 +69,41 @@ fn sent_values(n: usize) -> (Vec<u8>, Vec<Event>) {
         assert_eq!(Plain::apply(&mut bytes, &event, &mut view), 0, "no values");
     }
     let mut after = bytes.clone();
-    run::<Plain>(&mut after, &values);
+    apply_all::<Plain>(&mut after, &values);
     assert_eq!(all_waiting(n, &after), all_waiting(n, &bytes) + values.len() * (n - 1), "not every value was new");
     (bytes, values)
 }
 
-/// The deliveries, from the same start again and again. An event that is refused goes before them: it judges every
-/// record, and so brings it into the cache.
-fn run_again<S: Side>(bytes: &mut [u8], start: &[u8], values: &[Event]) -> f64 {
+/// The deliveries in each cluster, from the same start again and again. An event that is refused goes before them: it
+/// judges every record, and so brings it into the cache.
+fn run_again<S: Side>(clusters: &mut [Vec<u8>], start: &[u8], values: &[Event], times: usize) -> f64 {
     let once = |_| {
-        bytes.copy_from_slice(start);
-        S::apply(bytes, &NONE, &mut [0; 256]);
-        run::<S>(bytes, values)
+        for bytes in &mut *clusters {
+            bytes.copy_from_slice(start);
+            S::apply(bytes, &NONE, &mut [0; 256]);
+        }
+        seconds(|| clusters.iter_mut().for_each(|bytes| apply_all::<S>(bytes, values)))
     };
-    (0..DELIVERIES / values.len()).map(once).sum()
+    (0..times).map(once).sum()
 }
 
-/// Prints deliveries per second.
+/// Prints deliveries per second. With one node it is its own value that comes back to it, and is forwarded to itself.
 pub fn deliveries(rows: &mut Rows) {
     println!("deliveries of new values per second, by nodes");
-    println!("{:>6} {:>12} {:>12} {:>8}", "nodes", "proved", "plain", "ratio");
-    for n in [3, 5, 16] {
+    println!("{:>6} {:>12} {:>12} {:>8} {:>8}", "nodes", "proved", "plain", "ratio", "worst");
+    for n in [1, 3, 5, 16] {
         let (start, values) = sent_values(n);
-        let (mut one, mut two) = (start.clone(), start.clone());
+        let mut one = vec![start.clone(); AT_ONCE.div_ceil(values.len())];
+        let mut two = one.clone();
+        let at_once = one.len() * values.len();
+        let times = DELIVERIES / at_once;
         let t = Times::of(
-            || run_again::<Proved>(&mut one, &start, &values),
-            || run_again::<Plain>(&mut two, &start, &values),
+            || run_again::<Proved>(&mut one, &start, &values, times),
+            || run_again::<Plain>(&mut two, &start, &values, times),
         );
         assert!(one == two, "the sides differ");
-        let count = (DELIVERIES / values.len() * values.len()) as f64;
-        println!("{n:>6} {:>12.0} {:>12.0} {:>8.2}", count / t.proved, count / t.plain, t.ratio());
-        rows.add("events, new values", &nodes(n), t.proved, t.plain);
+        let count = (times * at_once) as f64;
+        println!("{n:>6} {:>12.0} {:>12.0} {t}", count / t.proved(), count / t.other());
+        rows.add("events, new values", &nodes(n), &t);
     }
 }

@@ -1,10 +1,14 @@
 //! What is made of views: figures and pages.
-use super::{best, nodes, Times, ROUNDS};
+use super::{nodes, ROUNDS};
 use crate::clock::seconds;
 use crate::dice::Dice;
 use crate::rows::Rows;
 use crate::side::{Plain, Proved, Side};
+use crate::times::Times;
 use std::hint::black_box;
+
+/// How often the same views are printed in one run: fewer times, since those by `write!` are slow.
+const PAGE_ROUNDS: usize = ROUNDS / 10;
 
 /// A view whose tags are at most `top`.
 pub fn some_view(dice: &mut Dice, n: usize, top: u64) -> Vec<u8> {
@@ -26,15 +30,15 @@ fn some_views(dice: &mut Dice, n: usize, absent: usize) -> Vec<Vec<u8>> {
 /// absent.
 pub fn figures(rows: &mut Rows) {
     println!("figures, views per second");
-    println!("{:>6} {:>12} {:>12} {:>12} {:>8}", "nodes", "reports", "proved", "plain", "ratio");
+    println!("{:>6} {:>12} {:>12} {:>12} {:>8} {:>8}", "nodes", "reports", "proved", "plain", "ratio", "worst");
     let mut dice = Dice::new(4);
     for n in [1, 3, 5, 16] {
         for (absent, name) in [(0, "all"), (250, "some absent")] {
             let views = some_views(&mut dice, n, absent);
             let t = Times::of(|| count_all::<Proved>(n, &views), || count_all::<Plain>(n, &views));
             let count = (ROUNDS * views.len()) as f64;
-            println!("{n:>6} {name:>12} {:>12.0} {:>12.0} {:>8.2}", count / t.proved, count / t.plain, t.ratio());
-            rows.add("figures", &format!("{}, {name}", nodes(n)), t.proved, t.plain);
+            println!("{n:>6} {name:>12} {:>12.0} {:>12.0} {t}", count / t.proved(), count / t.other());
+            rows.add("figures", &format!("{}, {name}", nodes(n)), &t);
         }
     }
 }
@@ -73,29 +77,27 @@ fn printed_views(dice: &mut Dice, n: usize) -> [(&'static str, Vec<Vec<u8>>); 3]
 pub fn pages(rows: &mut Rows) {
     println!("pages, views per second");
     println!(
-        "{:>6} {:>12} {:>12} {:>12} {:>8} {:>12} {:>8}",
-        "nodes", "reports", "proved", "plain", "ratio", "by write!", "ratio"
+        "{:>6} {:>12} {:>12} {:>12} {:>8} {:>8} {:>12} {:>8} {:>8}",
+        "nodes", "reports", "proved", "plain", "ratio", "worst", "by write!", "ratio", "worst"
     );
     let mut dice = Dice::new(5);
     for n in [1, 3, 5, 16] {
         for (name, views) in printed_views(&mut dice, n) {
-            let [proved, plain, write] = best([
+            let [by_hand, by_write] = Times::of_three([
                 &mut || print_all(Proved::page, n, &views),
                 &mut || print_all(Plain::page, n, &views),
                 &mut || print_all(Plain::page_by_write, n, &views),
             ]);
-            let count = (ROUNDS * views.len()) as f64;
+            let count = (PAGE_ROUNDS * views.len()) as f64;
             println!(
-                "{n:>6} {name:>12} {:>12.0} {:>12.0} {:>8.2} {:>12.0} {:>8.2}",
-                count / proved,
-                count / plain,
-                proved / plain,
-                count / write,
-                proved / write
+                "{n:>6} {name:>12} {:>12.0} {:>12.0} {by_hand} {:>12.0} {by_write}",
+                count / by_hand.proved(),
+                count / by_hand.other(),
+                count / by_write.other()
             );
             let row = format!("{}, {name}", nodes(n));
-            rows.add("pages", &row, proved, plain);
-            rows.add("pages beside write!", &row, proved, write);
+            rows.add("pages", &row, &by_hand);
+            rows.add("pages beside write!", &row, &by_write);
         }
     }
 }
@@ -103,7 +105,7 @@ pub fn pages(rows: &mut Rows) {
 fn print_all(page: impl Fn(usize, &[u8], &mut [u8], &mut usize) -> u8, n: usize, views: &[Vec<u8>]) -> f64 {
     let (mut out, mut length) = (vec![0; 35 * (n + 1)], 0);
     seconds(|| {
-        for _ in 0..ROUNDS {
+        for _ in 0..PAGE_ROUNDS {
             for view in views {
                 black_box(page(n, black_box(view), &mut out, &mut length));
                 black_box((&out, length));

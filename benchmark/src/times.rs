@@ -1,0 +1,106 @@
+//! How long works take: in turn, with the stack at several places, the best of several runs at each place.
+use std::fmt;
+use std::hint::black_box;
+
+/// How many places of the stack there are.
+pub const PLACES: usize = 16;
+
+/// How often each work runs at each place at least, and for how many seconds all together.
+pub const RUNS: usize = 5;
+pub const SECONDS: f64 = 0.3;
+
+/// Of so many runs at a place the best is left out: of some thousands of times the clock tells one that is some
+/// microseconds too short.
+pub const LEFT_OUT: usize = 20;
+
+/// The best time of a work at each place of the stack, in seconds.
+type Places = [f64; PLACES];
+
+/// The work, with the stack some 300 bytes further down for each step: a row moves with its place within lines of 64
+/// bytes, and beside the lent bytes modulo 4096.
+#[inline(never)]
+fn deeper(steps: usize, work: &mut dyn FnMut() -> f64) -> f64 {
+    let room = black_box([0u8; 240]);
+    let time = if steps == 0 { work() } else { deeper(steps - 1, work) };
+    black_box(&room);
+    time
+}
+
+/// The best times of each work. They run in turn, and go to the next place after each run.
+fn best<const K: usize>(mut works: [&mut dyn FnMut() -> f64; K]) -> [Places; K] {
+    let mut times = [const { [const { Vec::new() }; PLACES] }; K];
+    let (mut runs, mut spent) = (0, 0.0);
+    while runs < RUNS || spent < SECONDS {
+        for place in 0..PLACES {
+            for (times, work) in times.iter_mut().zip(&mut works) {
+                let time = deeper(place, work);
+                times[place].push(time);
+                spent += time;
+            }
+        }
+        runs += 1;
+    }
+    let best = |mut times: Vec<f64>| {
+        times.sort_unstable_by(f64::total_cmp);
+        times[runs / LEFT_OUT]
+    };
+    times.map(|places| places.map(best))
+}
+
+/// The best times of the proved code, and of what it is held against.
+pub struct Times {
+    proved: Places,
+    other: Places,
+}
+
+impl Times {
+    pub const NONE: Times = Times { proved: [0.0; PLACES], other: [0.0; PLACES] };
+
+    pub fn of(mut proved: impl FnMut() -> f64, mut plain: impl FnMut() -> f64) -> Times {
+        let [proved, other] = best([&mut proved, &mut plain]);
+        Times { proved, other }
+    }
+
+    /// The proved code, which comes first, held against each of two others.
+    pub fn of_three(works: [&mut dyn FnMut() -> f64; 3]) -> [Times; 2] {
+        let [proved, one, two] = best(works);
+        [one, two].map(|other| Times { proved, other })
+    }
+
+    /// Adds the times of another work, place by place.
+    pub fn add(&mut self, more: &Times) {
+        for (sum, more) in [(&mut self.proved, &more.proved), (&mut self.other, &more.other)] {
+            sum.iter_mut().zip(more).for_each(|(sum, more)| *sum += more);
+        }
+    }
+
+    /// The time of the proved code at its best place.
+    pub fn proved(&self) -> f64 {
+        smallest(&self.proved)
+    }
+
+    /// The time of the other at its best place.
+    pub fn other(&self) -> f64 {
+        smallest(&self.other)
+    }
+
+    pub fn ratio(&self) -> f64 {
+        self.proved() / self.other()
+    }
+
+    /// The largest ratio of the two at one place.
+    pub fn worst(&self) -> f64 {
+        self.proved.iter().zip(&self.other).map(|(proved, other)| proved / other).fold(0.0, f64::max)
+    }
+}
+
+fn smallest(times: &Places) -> f64 {
+    times.iter().copied().fold(f64::INFINITY, f64::min)
+}
+
+/// The last columns of a row: the ratio and the worst.
+impl fmt::Display for Times {
+    fn fmt(&self, f: &mut fmt::Formatter) -> fmt::Result {
+        write!(f, "{:>8.2} {:>8.2}", self.ratio(), self.worst())
+    }
+}
