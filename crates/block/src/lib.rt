@@ -68,7 +68,7 @@ pub fn copy_record(k: &[u8], r: &mut [u8])
     requires { ⌜ (length (now k) ≡ blockSize) × (length (now r) ≡ recordSize) ⌝ }
     ensures { λ _. ⌜ now (r .exit) ≡ recordIn (now (k .entry)) ⌝ }
 {
-    octets::put_bytes(r, 0, &k[RECORD_PLACE..CHANNELS_PLACE]);
+    octets::put_halves(r, 0, &k[RECORD_PLACE..CHANNELS_PLACE]);
 }
 
 // Writes another record, given in bytes.
@@ -77,7 +77,7 @@ pub fn keep_record(k: &mut [u8], r: &[u8])
         × (now r ≡ recordBytes (recordOf (now r))) ⌝ }
     ensures { λ _. ⌜ now (k .exit) ≡ keepRecord (recordOf (now (r .entry))) (now (k .entry)) ⌝ }
 {
-    octets::put_bytes(k, RECORD_PLACE, r);
+    octets::put_halves(k, RECORD_PLACE, r);
 }
 
 // Takes the oldest message off the channel from node a.

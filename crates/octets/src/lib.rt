@@ -132,6 +132,18 @@ pub fn put_run(b: &mut [u8], at: usize, s: &[u8])
     put_word(b, at + last, get_word(s, last));
 }
 
+// Writes the bytes of s into b, from a place on, one half after the other: the halves of a record are copied at the
+// same speed wherever the two stand, a whole record is not on every processor.
+pub fn put_halves(b: &mut [u8], at: usize, s: &[u8])
+    requires { ⌜ at + length (now s) ≤ length (now b) ⌝ }
+    ensures { λ _. ⌜ now (b .exit) ≡ put (now (b .entry)) at (now (s .entry)) ⌝ }
+{
+    let end = s.len();
+    let half = end / 2;
+    put_bytes(b, at, &s[0..half]);
+    put_bytes(b, at + half, &s[half..end]);
+}
+
 // Copies bytes, a word or more, from one place of b to another, which is the same or apart from it.
 pub fn copy_within(b: &mut [u8], from: usize, to: usize, len: usize)
     requires { ⌜ (wordSize ≤ len) × (from + len ≤ length (now b)) × (to + len ≤ length (now b))

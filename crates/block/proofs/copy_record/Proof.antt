@@ -20,7 +20,7 @@ returns c =
     let r = c .before .before .before .before .before .before .before .args .r .now in
     let l : length (part k recordPlace recordSize) ≡ length r = length-part k recordPlace recordSize (omega arith)
     ∙ sym (c .before .before .before .before .before .before .before .pre .1) in
-    c .before .before .put-bytes .ensures ∙ ap (λ (t : List ℕ). put r 0 t) (lent k recordPlace recordSize refl)
+    c .before .before .put-halves .ensures ∙ ap (λ (t : List ℕ). put r 0 t) (lent k recordPlace recordSize refl)
     ∙ put-over r (part k recordPlace recordSize) l
 
 pub copy-record-spec : {M : Type 1} → statement M

@@ -22,7 +22,7 @@ returns c =
     let l : length d ≡ length (part k recordPlace recordSize) =
     sym (ap (λ (t : List ℕ). length t) (c6 .pre .2)) ∙ c6 .pre .1 ∙ sym (length-part k recordPlace recordSize
     (omega arith)) in
-    c .before .before .put-bytes .ensures ∙ ap (λ (t : List ℕ). put k recordPlace t) (c6 .pre .2
+    c .before .before .put-halves .ensures ∙ ap (λ (t : List ℕ). put k recordPlace t) (c6 .pre .2
     ∙ sym (put-over (part k recordPlace recordSize) d l))
 
 pub keep-record-spec : {M : Type 1} → statement M
