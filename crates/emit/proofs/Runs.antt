@@ -1,12 +1,12 @@
 -- Laws of messages one after the other in bytes. Assumes nothing.
 use mathlib.Core.Path.{_≡_, refl, sym, ap, ap₂, _∙_, subst}
-use mathlib.Core.Bool.{Bool, true, false}
+use mathlib.Core.Bool.{Bool, true}
 use mathlib.Core.List.{List, [], _∷_, _++_, append-assoc, append-nil}
 use Prim.Native.Nat.{ℕ, _+_, _-_, _*_, _≤_}
 use native.Mathlib.Nat.{add-zero, add-assoc}
 use native.Mathlib.Omega.{arith}
 use lib.ListN.{length, take, drop, length-append, length-take, length-drop}
-use lib.Seq.{length-take-le, take-all, take-at}
+use lib.Seq.{length-take-le, take-at}
 use lib.Dec.{leb}
 use borrow.Author.Tests.{le-leb}
 use Rattle.octets.specs.Answer.{Answer, result, refused}
@@ -14,21 +14,19 @@ use Rattle.octets.specs.Bytes.{put}
 use Rattle.octets.specs.Test.{pick}
 use Rattle.octets.proofs.Lent.{lent-back}
 use Rattle.octets.proofs.Put.{length-put, put-inside, put-nil, put-over, put-then}
-use Rattle.octets.proofs.Test.{both-true, true-false}
+use Rattle.octets.proofs.Test.{both-true}
 use Rattle.view.specs.Size.{nodes, isSize}
 use Rattle.view.specs.View.{viewBytes}
 use Rattle.view.specs.declared.View.{View}
 use Rattle.view.proofs.ViewBytes.{length-viewBytes}
-use Rattle.table.specs.Loop.{either}
-use Rattle.wire.specs.Codec.{after, isGood}
+use Rattle.wire.specs.Codec.{after}
 use Rattle.wire.specs.Outcome.{written}
 use Rattle.wire.specs.declared.Written.{Written}
 use Rattle.wire.specs.declared.Written.the-variants.{Length, Refused as NotWritten}
-use Rattle.wire.specs.Layout.{kind, tag, view, encode, allowed, valueSize}
+use Rattle.wire.specs.Layout.{kind, tag, view, encode, allowed}
 use Rattle.wire.specs.declared.Message.{Message}
-use Rattle.wire.specs.declared.Message.the-variants.{Read, ReadAnswer, Write, WriteAnswer, Echo, Value, Good}
+use Rattle.wire.specs.declared.Message.the-variants.{Good}
 use Rattle.wire.proofs.Numbers.{length-encode}
-use Rattle.wire_put.proofs.Allowed.{any-view}
 use Rattle.step.specs.Claims.{AllLawful, sizes}
 use Rattle.step.specs.Step.{listed, messages}
 use Rattle.step.specs.declared.Outbox.{Outbox}
@@ -36,9 +34,6 @@ use Rattle.step.specs.declared.Sent.{Sent}
 use Rattle.step.specs.declared.Sent.the-variants.{Nothing, One, Two}
 use Rattle.step.proofs.Allowed.{lawful-allowed}
 use Rattle.calls.specs.Bytes.{run}
-use Rattle.step.specs.Forward.{isForward}
-use Rattle.emit.specs.Forward.{Received}
-use Rattle.emit.specs.Good.{anyGood}
 use Rattle.emit.specs.Room.{AllAllowed, Room}
 
 pub run-none : (v : List ℕ) → run v [] ≡ []
@@ -265,86 +260,8 @@ room-of n v w ms room e a b h k =
       enough = let q : length (run (viewBytes n v) ms) ≡ sizes n ms = run-length n (viewBytes n v) ms f in omega arith;
     })
 
--- ---- messages none of which is good
-
-pub either-none : (a b : Bool) → either a b ≡ false → (a ≡ false) × (b ≡ false)
-either-none false b h = (refl, h)
-either-none true b h = absurd (let z : _≡_ {A = ℕ} 0 1 = cc in omega arith)
-
-pub either-false : (a : Bool) → either a false ≡ a
-either-false true = refl
-either-false false = refl
-
-good-append : (a b : List Message) → anyGood (a ++ b) ≡ either (anyGood a) (anyGood b)
-good-append [] b = refl
-good-append (m ∷ a) b = ap (either (isGood m)) (good-append a b) ∙ sym (either-assoc (isGood m) (anyGood a) (anyGood b))
-  where
-    either-assoc : (x y z : Bool) → either (either x y) z ≡ either x (either y z)
-    either-assoc true y z = refl
-    either-assoc false y z = refl
-
-pub no-good : (o : Outbox)
-    → either (either (anyGood (listed (o .handler))) (anyGood (listed (o .reading)))) (anyGood (listed (o .comparing)))
-    ≡ false → anyGood (messages o) ≡ false
-no-good o h =
-    let a = listed (o .handler) in
-    let b = listed (o .reading) in
-    let d = listed (o .comparing) in
-    good-append (a ++ b) d ∙ ap (λ (x : Bool). either x (anyGood d)) (good-append a b) ∙ h
-
-module _ (n : ℕ) (v w : List ℕ) where
-  pub runs-alike : (ms : List Message) → anyGood ms ≡ false → run v ms ≡ run w ms
-  unfolding run
-  runs-alike [] h = refl
-  runs-alike (m ∷ ms) h =
-      let e = either-none (isGood m) (anyGood ms) h in
-      ap₂ (λ (x y : List ℕ). x ++ y) (any-view n m v w (e .0) .0) (runs-alike ms (e .1))
-
-  allowed-alike : (ms : List Message) → anyGood ms ≡ false → AllAllowed n v ms → AllAllowed n w ms
-  allowed-alike [] h a = tt
-  allowed-alike (m ∷ ms) h a =
-      let e = either-none (isGood m) (anyGood ms) h in
-      (sym (any-view n m v w (e .0) .1) ∙ a .0, allowed-alike ms (e .1) (a .1))
-
-  pub room-alike : (ms : List Message) (at room : ℕ) → anyGood ms ≡ false → Room n v ms at room → Room n w ms at room
-  room-alike ms at room h r =
-      record {
-        sized = r .sized;
-        fit = allowed-alike ms h (r .fit);
-        enough = subst (λ (x : List ℕ). at + length x ≤ room) (runs-alike ms h) (r .enough);
-      }
-
 -- ---- a step that sends nothing after what its handler sends
 
 pub handler-alone : (o : Outbox) → o .reading ≡ Nothing → o .comparing ≡ Nothing → messages o ≡ listed (o .handler)
 handler-alone o p q =
     rw (p, q) (append-nil (listed (o .handler) ++ []) ∙ append-nil (listed (o .handler)))
-
--- ---- a value that is forwarded
-
--- its bytes, beside any view, and their length
-forward-bytes : (m : Sent) (v : List ℕ) → isForward m ≡ true
-    → (run [] (listed m) ≡ run v (listed m)) × (length (run [] (listed m)) ≡ valueSize)
-unfolding run encode
-forward-bytes Nothing v h = true-false false h refl
-forward-bytes (One (Read q)) v h = true-false false h refl
-forward-bytes (One (ReadAnswer q t)) v h = true-false false h refl
-forward-bytes (One (Write q t)) v h = true-false false h refl
-forward-bytes (One (WriteAnswer q t)) v h = true-false false h refl
-forward-bytes (One (Echo t)) v h = true-false false h refl
-forward-bytes (One (Value t w p)) v h = (refl, refl)
-forward-bytes (One (Good t)) v h = true-false false h refl
-forward-bytes (Two a b) v h = true-false false h refl
-
-module _ (m : Sent) (b v : List ℕ) (h : isForward m ≡ true) (r : Received m b) where
-  pub forward-long : length (run v (listed m)) ≡ valueSize
-  forward-long = ap (λ (x : List ℕ). length x) (sym (forward-bytes m v h .0)) ∙ forward-bytes m v h .1
-
-  pub forward-length : length b ≡ valueSize
-  forward-length = ap (λ (x : List ℕ). length x) (r h) ∙ forward-bytes m v h .1
-
-  pub forward-run : take valueSize b ≡ run v (listed m)
-  forward-run = take-all valueSize b (omega (arith, forward-length)) ∙ r h ∙ forward-bytes m v h .0
-
-  pub forward-room : (n room : ℕ) → Room n v (listed m) 0 room → valueSize ≤ room
-  forward-room n room k = omega (arith, forward-long, k .enough)

@@ -17,7 +17,7 @@ use Rattle.step.specs.Step.{messages}
 use Rattle.step.proofs.Judged.{alike-stale}
 use Rattle.calls.specs.Bytes.{outBytes}
 use Rattle.calls.specs.Entry as N
-use Rattle.emit.proofs.Runs.{either-none}
+use Rattle.emit.proofs.NoGood.{either-none}
 use Rattle.region.specs.Record.{recordOf}
 use Rattle.calls_bytes.specs.Entry.{LentResult}
 use Rattle.calls_bytes.specs.Frame.{frameMost, frameOutput, packed, andThen, nextCall, inTurn}

@@ -31,7 +31,7 @@ use Rattle.step.proofs.Budget.{budget-most, message-pays}
 use Rattle.step.proofs.Judged.{Alike, alike-stale, alike-step}
 use Rattle.table.specs.Loop.{either}
 use Rattle.calls.specs.Entry as N
-use Rattle.emit.proofs.Runs.{either-none}
+use Rattle.emit.proofs.NoGood.{either-none}
 use Rattle.region.specs.Record.{recordSize, recordOf, codesKnown}
 use Rattle.calls_bytes.specs.Entry.{LentResult}
 use Rattle.calls_bytes.specs.Frame.{frameMost, frameOutput, packed, isEnding, firstStands, andThen, nextCall, inTurn}

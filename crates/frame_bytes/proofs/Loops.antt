@@ -22,7 +22,7 @@ use Rattle.record.specs.declared.Node.{Node}
 use Rattle.step.specs.React.{react}
 use Rattle.step.specs.Stale.{staleMessage, writerWithin}
 use Rattle.calls.proofs.Rim.{read-writer}
-use Rattle.emit.proofs.Runs.{either-false}
+use Rattle.emit.proofs.NoGood.{either-false}
 use Rattle.calls_bytes.specs.Walk.{Piece, walkBy, walk}
 use Rattle.calls_bytes.proofs.Walk.{walk-more, whole-none, whole-more}
 use Rattle.frame_bytes.specs.Judged.{anyStale, verdictAfter}

@@ -8,7 +8,8 @@ use Rattle.octets.specs.Bytes.{put}
 use Rattle.view.specs.View.{viewBytes}
 use Rattle.table.specs.Loop.{either}
 use Rattle.step.specs.Step.{messages}
-use Rattle.emit.proofs.Runs.{no-good, room-of, room-alike, runs-alike}
+use Rattle.emit.proofs.NoGood.{no-good, room-alike, runs-alike}
+use Rattle.emit.proofs.Runs.{room-of}
 use Rattle.emit.proofs.emit_all.Statement.{statement}
 use Rattle.emit.proofs.emit_all.Tie as tie
 

@@ -7,7 +7,7 @@ use lib.ListN.{length, length-take}
 use lib.Seq.{length-take-le}
 use Rattle.octets.specs.Bytes.{put}
 use Rattle.wire.specs.Layout.{valueSize}
-use Rattle.emit.proofs.Runs.{forward-long, forward-length, forward-run, forward-room}
+use Rattle.emit.proofs.Forwarded.{forward-long, forward-length, forward-run, forward-room}
 use Rattle.emit.proofs.emit_first.Statement.{statement}
 use Rattle.emit.proofs.emit_first.Tie as tie
 

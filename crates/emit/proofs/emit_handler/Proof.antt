@@ -7,7 +7,8 @@ use lib.ListN.{length}
 use Rattle.octets.specs.Bytes.{put}
 use Rattle.view.specs.View.{noView, viewBytes}
 use Rattle.step.specs.Step.{listed}
-use Rattle.emit.proofs.Runs.{room-of, room-alike, runs-alike}
+use Rattle.emit.proofs.NoGood.{room-alike, runs-alike}
+use Rattle.emit.proofs.Runs.{room-of}
 use Rattle.emit.proofs.emit_handler.Statement.{statement}
 use Rattle.emit.proofs.emit_handler.Tie as tie
 

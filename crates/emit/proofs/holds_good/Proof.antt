@@ -2,7 +2,7 @@
 use borrow.Author.Needs.{needs}
 use mathlib.Core.Path.{sym, ap₂, _∙_}
 use Rattle.table.specs.Loop.{either}
-use Rattle.emit.proofs.Runs.{either-false}
+use Rattle.emit.proofs.NoGood.{either-false}
 use Rattle.emit.proofs.holds_good.Statement.{statement}
 use Rattle.emit.proofs.holds_good.Tie as tie
 
