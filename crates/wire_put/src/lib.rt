@@ -1,5 +1,6 @@
 // Writing the fields of a message at the front of a buffer: its length, or 12 where there is no room. A message that is
-// known to be allowed and to have room is written by `short`, which judges nothing.
+// known to be allowed and to have room is written by `short`, which judges nothing. The heads of fields are written as
+// the bytes that they are: a word that the next field covers would be slow where it lies across the end of a page.
 use view::Report;
 use wire::ECHO;
 use wire::FIRST;
@@ -16,7 +17,7 @@ use wire::WRITE_ANSWER;
 use wire::Written;
 ghost use mathlib.Core.Path.{_≡_};
 ghost use mathlib.Core.Bool.{true};
-ghost use mathlib.Core.List.{[], _∷_, _++_};
+ghost use mathlib.Core.List.{[], _++_};
 ghost use Prim.Native.Nat.{_≤_};
 ghost use lib.ListN.{length};
 ghost use lib.Dec.{leb};
@@ -29,26 +30,13 @@ ghost use Rattle.wire.specs.Layout.{oneSize, twoSize, valueSize, encode, allowe
 ghost use Rattle.wire.specs.Codec.{after};
 ghost use Rattle.wire.specs.Outcome.{written};
 
-// The head of a tag as a word: the bytes 3, 0, 8, and five for what follows.
-const TAG_HEAD: u64 = 216181578206806016;
-
-// A field of one byte and the head of one of eight, as a word: seven bytes, and one for what follows.
-fn head_word(first: u8, x: u8, mark: u8) -> u64
-    ensures { λ r. ⌜ be 8 r ≡ first ∷ 0 ∷ 1 ∷ x ∷ mark ∷ 0 ∷ 8 ∷ 0 ∷ [] ⌝ }
-{
-    octets::wide(first) * 72057594037927936
-        + 1099511627776
-        + octets::wide(x) * 4294967296
-        + octets::wide(mark) * 16777216
-        + 2048
-}
-
 // Writes a message of two fields: its kind and a number.
 fn put_one(out: &mut [u8], k: u8, mark: u8, x: u64)
     requires { ⌜ oneSize ≤ length (now out) ⌝ }
     ensures { λ _. ⌜ now (out .exit) ≡ put (now (out .entry)) 0 (kind k ++ field mark (be numberSize x)) ⌝ }
 {
-    octets::put_word(out, 0, head_word(1, k, mark));
+    let h = [1u8, 0, 1, k, mark, 0, 8];
+    octets::put_bytes(out, 0, &h);
     octets::put_word(out, FIRST, x);
 }
 
@@ -58,7 +46,8 @@ fn put_two(out: &mut [u8], k: u8, r: u64, t: u64)
     ensures { λ _. ⌜ now (out .exit) ≡ put (now (out .entry)) 0 (kind k ++ request r ++ tag t) ⌝ }
 {
     put_one(out, k, 2, r);
-    octets::put_word(out, SECOND_HEAD, TAG_HEAD);
+    let h = [3u8, 0, 8];
+    octets::put_bytes(out, SECOND_HEAD, &h);
     octets::put_word(out, SECOND, t);
 }
 
@@ -68,7 +57,8 @@ fn put_value(out: &mut [u8], t: u64, w: u8, p: Report)
     ensures { λ _. ⌜ now (out .exit) ≡ put (now (out .entry)) 0 (kind 6 ++ tag t ++ writer w ++ report p) ⌝ }
 {
     put_one(out, 6, 3, t);
-    octets::put_word(out, SECOND_HEAD, head_word(4, w, 5));
+    let h = [4u8, 0, 1, w, 5, 0, 8];
+    octets::put_bytes(out, SECOND_HEAD, &h);
     let d = view::report_bytes(p);
     octets::put_bytes(out, THIRD, &d);
 }
