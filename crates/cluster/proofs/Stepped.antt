@@ -1,5 +1,5 @@
--- What the steps of a cluster send, and a delivery that is stepped where the record lies. The message is m, the oldest
--- from a to c in bytes b; t is the bytes when it was taken off and handled, y what the handler sends.
+-- What a delivery sends, and one that is stepped where the record lies. The message is m, the oldest from a to c in
+-- bytes b; t is the bytes when it was taken off and handled, y what the handler sends.
 use Prim.Native.Nat.{ℕ, _+_, _-_, _<_, _≤_}
 use native.Mathlib.Omega.{arith}
 use mathlib.Core.Path.{_≡_, refl, sym, ap, ap₂, _∙_, subst}
@@ -22,21 +22,18 @@ use Rattle.wire.specs.declared.Message.the-variants.{Read, ReadAnswer, Write, W
 use Rattle.wire.proofs.Laws.{lengths}
 use Rattle.wire.proofs.RoundTrip.{front-only}
 use Rattle.table.specs.Table.{cells}
-use Rattle.record.specs.Usable.{usable, isOpen, full}
+use Rattle.record.specs.Usable.{usable}
 use Rattle.record.specs.declared.Node.{Node}
-use Rattle.record.specs.declared.Operation.{Operation}
 use Rattle.step.specs.Allowed.{lawful}
 use Rattle.step.specs.Claims.{AllLawful}
-use Rattle.step.specs.Forward.{isForward}
-use Rattle.step.specs.Move.{moveOn, messageStep, begun}
+use Rattle.step.specs.Move.{moveOn, messageStep}
 use Rattle.step.specs.React.{react, isNew}
 use Rattle.step.specs.Step.{listed, messages, started}
 use Rattle.step.specs.declared.Sent.{Sent}
 use Rattle.step.specs.declared.Step.{Step}
 use Rattle.step.proofs.Exclusive.{handler-first}
 use Rattle.step.proofs.Numbers.{on-pick}
-use Rattle.step.proofs.Theorems.{message-lawful, begin-lawful}
-use Rattle.step.proofs.Waits.{begin-asks}
+use Rattle.step.proofs.Theorems.{message-lawful}
 use Rattle.region.specs.Channel.{slotSize, slotAt, oldest, first}
 use Rattle.region.specs.Record.{recordSize, recordBytes}
 use Rattle.region.proofs.Back.{Sized, sized-view, sized-of}
@@ -98,19 +95,6 @@ first-front b a c lo hi =
     let z : at + 0 ≡ at = omega arith in
     slot-in b a c lo hi (oldest t) valueSize (omega arith)
     ∙ sym (part-part t at slotSize 0 valueSize (omega arith) ∙ ap (λ (k : ℕ). part t k valueSize) z)
-
--- ---- the begin of an operation: a read goes out, which is lawful and forwards nothing
-
-pub begun-asks : (d : Node) (o : Operation) → isForward (begun d o .outbox .handler) ≡ false
-unfolding begun
-begun-asks d o = refl
-
-pub begun-lawful : (n : ℕ) (d : Node) (o : Operation) → 1 ≤ n → d .n ≡ n → usable d ≡ true → isOpen (d .wait) ≡ false
-    → full d ≡ false → AllLawful n (begun d o .outbox .view) (messages (begun d o .outbox))
-begun-lawful n d o some e u idle more =
-    subst (λ (k : ℕ). AllLawful k (begun d o .outbox .view) (messages (begun d o .outbox))) e
-    (subst (λ (s : Step). AllLawful (d .n) (s .outbox .view) (messages (s .outbox)))
-    (begin-asks 0 d o (omega (arith, e))) (begin-lawful 0 d o u idle more))
 
 -- ---- the step of a message
 

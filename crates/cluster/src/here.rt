@@ -1,4 +1,5 @@
-// The record of a node where it lies in the cluster's bytes: a message judged and handled there, and what comes next.
+// The record of a node where it lies in the cluster's bytes: an operation judged and begun there, a message judged and
+// handled, and what comes next.
 use block::BLOCK;
 use block::RECORD_PLACE;
 use layout::BLOCKS_PLACE;
@@ -7,11 +8,16 @@ use layout::take_off_at;
 use octets::put_bytes;
 use react_bytes::is_stale_in;
 use react_bytes::react_in;
+use record::Operation;
 use region::places::RECORD;
 use step::Sent;
 use step_bytes::Effect;
 use step_bytes::Plan;
+use step_bytes::ask_in;
+use step_bytes::asked_in;
 use step_bytes::follow_in;
+use step_bytes::is_full_in;
+use step_bytes::is_open_in;
 use step_bytes::plan_in;
 use view::ENTRY;
 use view::VIEW;
@@ -20,16 +26,19 @@ use wire::Message;
 use wire_parse::views::is_good;
 ghost use mathlib.Core.Path.{_≡_};
 ghost use mathlib.Core.Bool.{true};
-ghost use Prim.Native.Nat.{_<_, _≤_};
+ghost use Prim.Native.Nat.{_+_, _<_, _≤_};
 ghost use lib.ListN.{length, take};
 ghost use Rattle.octets.specs.Bytes.{put};
 ghost use Rattle.view.specs.Size.{limit, nodes, viewSize};
 ghost use Rattle.view.specs.View.{viewOf};
 ghost use Rattle.wire.specs.Codec.{viewAt};
-ghost use Rattle.record.specs.Usable.{usable};
+ghost use Rattle.wire.specs.declared.Message.the-variants.{Read};
+ghost use Rattle.record.specs.Usable.{usable, isOpen, full};
+ghost use Rattle.step.specs.Move.{begun};
 ghost use Rattle.step.specs.React.{react};
 ghost use Rattle.step.specs.Stale.{staleMessage, writerWithin};
 ghost use Rattle.step.specs.Step.{started};
+ghost use Rattle.step.specs.declared.Sent.the-variants.{One};
 ghost use Rattle.region.specs.Channel.{first};
 ghost use Rattle.region.specs.Record.{recordBytes};
 ghost use Rattle.block.specs.Block.{recordIn, takeOff};
@@ -44,6 +53,47 @@ fn record_at(c: usize) -> usize
     ensures { λ r. ⌜ r ≡ recordAt c ⌝ }
 {
     BLOCKS_PLACE + BLOCK * (c - 1) + RECORD_PLACE
+}
+
+// Whether an operation is open at node c (refusal 5).
+pub(crate) fn is_open_at(b: &[u8], c: usize) -> bool
+    requires { ⌜ (1 ≤ c) × (c ≤ nodes) × (clusterSize c ≤ length (now b)) ⌝ }
+    ensures { λ t. ⌜ t ≡ isOpen (node (now (b .entry)) c .wait) ⌝ }
+{
+    let at = record_at(c);
+    let end = at + RECORD;
+    is_open_in(&b[at..end])
+}
+
+// Whether fewer than five request numbers are left at node c (refusal 6).
+pub(crate) fn is_full_at(b: &[u8], c: usize) -> bool
+    requires { ⌜ (1 ≤ c) × (c ≤ nodes) × (clusterSize c ≤ length (now b)) ⌝ }
+    ensures { λ t. ⌜ t ≡ full (node (now (b .entry)) c) ⌝ }
+{
+    let at = record_at(c);
+    let end = at + RECORD;
+    is_full_in(&b[at..end])
+}
+
+// What node c will send when it begins an operation.
+pub(crate) fn asked_at(b: &[u8], c: usize) -> Sent
+    requires { ⌜ (1 ≤ c) × (c ≤ nodes) × (clusterSize c ≤ length (now b)) × (node (now b) c .request ≤ limit) ⌝ }
+    ensures { λ sent. ⌜ sent ≡ One (Read (node (now (b .entry)) c .request + 1)) ⌝ }
+{
+    let at = record_at(c);
+    let end = at + RECORD;
+    asked_in(&b[at..end])
+}
+
+// Node c begins an operation.
+pub(crate) fn ask_at(b: &mut [u8], c: usize, o: Operation)
+    requires { ⌜ (1 ≤ c) × (c ≤ nodes) × (clusterSize c ≤ length (now b)) × (node (now b) c .request ≤ limit) ⌝ }
+    ensures { λ _. ⌜ now (b .exit)
+        ≡ put (now (b .entry)) (recordAt c) (recordBytes (begun (node (now (b .entry)) c) o .node)) ⌝ }
+{
+    let at = record_at(c);
+    let end = at + RECORD;
+    ask_in(&mut b[at..end], o);
 }
 
 // Whether a message from a is refused with 9 by node c.

@@ -6,14 +6,16 @@ mod here;
 use block::BLOCK;
 pub use events::Outcome;
 pub use events::Reply;
-use events::answered;
 use events::given;
 use events::refused;
 use handing::hand_over;
+use here::ask_at;
+use here::asked_at;
+use here::is_full_at;
+use here::is_open_at;
 use layout::BLOCKS_PLACE;
 use layout::FAULTS_PLACE;
 use layout::STATED_PLACE;
-use layout::copy_record_at;
 use layout::first_at;
 use layout::halt_at;
 use layout::is_fit;
@@ -28,13 +30,10 @@ use outgoing::is_cut;
 use record::Operation;
 use record::blank_node;
 use region::channel::index;
-use region::places::RECORD;
+use release::can_send;
 use release::may_cut;
-use release::settle;
+use release::release_handled;
 use step::Ending;
-use step_bytes::begin_in;
-use step_bytes::is_full_in;
-use step_bytes::is_open_in;
 use table::quorum::can_be;
 use wire::Found;
 use wire_parse::parse_prefix;
@@ -44,7 +43,6 @@ ghost use lib.ListN.{length};
 ghost use Rattle.octets.specs.Loop.{upTo};
 ghost use Rattle.view.specs.Size.{nodes};
 ghost use Rattle.record.specs.Record.{blank};
-ghost use Rattle.region.specs.Record.{recordSize};
 ghost use Rattle.block.specs.Block.{keepRecord};
 ghost use Rattle.layout.specs.Layout.{clusterSize, onBlock};
 ghost use Rattle.events.specs.Event.{admission as admissionOf, openIn};
@@ -82,41 +80,28 @@ pub fn fresh(n: usize, f: usize, b: &mut [u8]) -> Reply
     given(false, Ending::None, view::absent())
 }
 
-// Opens an operation at node c, or refuses with 5, 6, 10, 11. `r` is the room for a copy of the record of c, on which
-// the step is done.
-fn open_on<'a>(
-    b: &'a mut [u8],
-    n: usize,
-    c: usize,
-    o: Operation,
-    x: Extent,
-    r: &'a mut [u8],
-) -> Reply
-    requires { ⌜ Ready n c c (now b) × (length (now r) ≡ recordSize) ⌝ }
-    ensures { λ t. ⌜ tells t (now (b .exit)) (openIn n c o x (now (b .entry))) ⌝ }
+// Opens an operation at node c, or refuses with 5, 6, 10, 11. What it sends is known before the step is done, so there
+// is no need of a copy of the record.
+fn open_at(b: &mut [u8], n: usize, c: usize, o: Operation, x: Extent) -> Reply
+    requires { ⌜ Ready n c c (now b) ⌝ }
+    ensures { λ r. ⌜ tells r (now (b .exit)) (openIn n c o x (now (b .entry))) ⌝ }
 {
-    copy_record_at(b, c, r);
-    if is_open_in(r) {
+    if is_open_at(b, c) {
         return refused(5);
     }
-    if is_full_in(r) {
+    if is_full_at(b, c) {
         return refused(6);
     }
     if !may_cut(b, n, is_cut(x)) {
         return refused(10);
     }
-    let e = begin_in(r, o);
-    let room = settle(b, n, c, r, e.outbox, x);
-    let ending = e.ending;
-    answered(room, is_cut(x), ending, e.view)
-}
-
-fn open_at(b: &mut [u8], n: usize, c: usize, o: Operation, x: Extent) -> Reply
-    requires { ⌜ Ready n c c (now b) ⌝ }
-    ensures { λ r. ⌜ tells r (now (b .exit)) (openIn n c o x (now (b .entry))) ⌝ }
-{
-    let mut r = [0u8; RECORD];
-    open_on(b, n, c, o, x, &mut r)
+    let sent = asked_at(b, c);
+    if !can_send(b, n, c, sent, x) {
+        return refused(11);
+    }
+    ask_at(b, c, o);
+    release_handled(b, n, c, c, sent, 0, x);
+    given(false, Ending::None, view::absent())
 }
 
 // The first of 12, 2, 3, 4 that refuses an event of node c, with a message from a; 0 where none does.

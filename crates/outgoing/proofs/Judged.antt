@@ -11,6 +11,7 @@ use Rattle.octets.specs.Word.{word, wordSize}
 use Rattle.octets.proofs.Table.{length-tab}
 use Rattle.table.specs.Table.{cells}
 use Rattle.view.specs.Size.{nodes}
+use Rattle.record.specs.declared.Node.{Node}
 use Rattle.step.specs.declared.Outbox.{Outbox}
 use Rattle.region.specs.Record.{heardPlace, recordOf}
 use Rattle.layout.specs.Layout.{clusterSize}
@@ -30,13 +31,13 @@ pub heard-read : (r : List ℕ) → length (recordOf r .heard) ≡ cells
 unfolding recordOf
 heard-read r = length-tab cells (λ i. word r (heardPlace + wordSize * i))
 
-pub judged : (took : Bool) (n a c : ℕ) (x : Extent) (r : List ℕ) (o : Outbox) (b : List ℕ) → n ≤ nodes → 1 ≤ a → a ≤ n
+-- the record that is written then does not matter
+pub judged : (took : Bool) (n a c : ℕ) (x : Extent) (o : Outbox) (b : List ℕ) → n ≤ nodes → 1 ≤ a → a ≤ n
     → 1 ≤ c → c ≤ n → length b ≡ clusterSize n → {t cut : Bool} {gone left : ℕ} → cut ≡ isCut x → gone ≡ goneIn took a c
     → left ≡ most x → t ≡ all n (roomBefore cut gone c (take left (entries n a o)) b)
-    → t ≡ hasRoom n a c x (recordOf r) o (foundIn took a c b)
-judged took n a c x r o b small a-lo a-hi lo hi size {t} {cut} {gone} {left} e g m q =
+    → (d : Node) → length (d .heard) ≡ cells → t ≡ hasRoom n a c x d o (foundIn took a c b)
+judged took n a c x o b small a-lo a-hi lo hi size {t} {cut} {gone} {left} e g m q d heard =
     q ∙ ap₂ (λ (y : Bool) (k : ℕ). all n (roomBefore y k c (take left (entries n a o)) b)) e g
     ∙ ap (λ (l : List Entry). all n (roomBefore (isCut x) (goneIn took a c) c l b))
     (ap (λ (k : ℕ). take k (entries n a o)) m ∙ shortened-most n a x o (omega arith) small)
-    ∙ room-before n a c b small a-lo a-hi lo hi size (recordOf r) (heard-read r) took (isCut x)
-    (shortened x (entries n a o))
+    ∙ room-before n a c b small a-lo a-hi lo hi size d heard took (isCut x) (shortened x (entries n a o))

@@ -1,6 +1,5 @@
-// A step of a node written into the cluster's bytes: refusals 10 and 11 judged, then the record kept and its entries
-// let out. The begin of an operation and the delivery of a message settle apart, so that each is compiled where the
-// copy of the record is a local array, which is then written back in one move.
+// A step of a node in the cluster's bytes: refusals 10 and 11 judged, the record kept where the step was done on a copy
+// of it, and its entries let out.
 mod judge;
 mod sending;
 
@@ -20,15 +19,16 @@ use sending::let_out;
 use step::Outbox;
 use step::Sent;
 ghost use mathlib.Core.Path.{_≡_};
-ghost use mathlib.Core.Bool.{true, false};
+ghost use mathlib.Core.Bool.{true};
 ghost use Prim.Native.Nat.{_≤_};
 ghost use lib.ListN.{length};
 ghost use Rattle.octets.specs.Test.{pick};
 ghost use Rattle.view.specs.Size.{nodes};
 ghost use Rattle.view.specs.View.{noView};
-ghost use Rattle.step.specs.Forward.{isForward};
+ghost use Rattle.table.specs.Table.{cells};
+ghost use Rattle.record.specs.declared.Node.{Node};
 ghost use Rattle.step.specs.Claims.{AllLawful};
-ghost use Rattle.step.specs.Step.{listed, messages};
+ghost use Rattle.step.specs.Step.{listed, messages, started};
 ghost use Rattle.region.specs.Channel.{oldest};
 ghost use Rattle.region.specs.Record.{recordSize, recordOf, recordBytes};
 ghost use Rattle.block.specs.Block.{takeOff};
@@ -89,25 +89,24 @@ pub fn release_handled(b: &mut [u8], n: usize, a: usize, c: usize, s: Sent, from
     let_handled(b, n, a, c, s, view::absent(), from, allowance(x));
 }
 
-// Node c begins an operation, after which `r` is its record and o goes out, or nothing is changed where a channel would
-// be full (refusal 11). There is no message that could be forwarded.
-pub fn settle(b: &mut [u8], n: usize, c: usize, r: &[u8], o: Outbox, x: Extent) -> bool
-    requires { ⌜ (n ≤ nodes) × (1 ≤ c) × (c ≤ n) × (length (now b) ≡ clusterSize n)
-        × (length (now r) ≡ recordSize) × (now r ≡ recordBytes (recordOf (now r)))
-        × (isForward (o .handler) ≡ false) × AllLawful n (o .view) (messages o) ⌝ }
-    ensures { λ t. ⌜ (t ≡ hasRoom n c c x (recordOf (now (r .entry))) o (now (b .entry)))
-        × (now (b .exit) ≡ pick t (released n c c x (recordOf (now (r .entry))) o (now (b .entry)))
-        (now (b .entry))) ⌝ }
+// Whether every node can hold what c sends when it begins an operation (refusal 11), whatever its record then is.
+pub fn can_send(b: &[u8], n: usize, c: usize, sent: Sent, x: Extent) -> bool
+    requires { ⌜ (n ≤ nodes) × (1 ≤ c) × (c ≤ n) × (length (now b) ≡ clusterSize n) ⌝ }
+    ensures { λ t. ⌜ ((d : Node) → length (d .heard) ≡ cells
+        → t ≡ hasRoom n c c x d (started d c sent .outbox) (now (b .entry))) ⌝ }
 {
-    if !has_room(b, n, c, c, is_cut(x), 0, o, allowance(x)) {
-        return false;
-    }
-    keep_record_at(b, c, r);
-    release(b, n, c, c, o, 0, x);
-    true
+    let o = Outbox {
+        to: c,
+        handler: sent,
+        reading: Sent::Nothing,
+        comparing: Sent::Nothing,
+        view: view::absent(),
+    };
+    has_room(b, n, c, c, is_cut(x), 0, o, allowance(x))
 }
 
-// The same where c has handled the oldest message from a, which is taken off.
+// Node c has handled the oldest message from a, which is taken off; then `r` is its record, and o goes out. Nothing is
+// changed where a channel would be full (refusal 11).
 pub fn settle_delivery(
     b: &mut [u8],
     n: usize,

@@ -155,10 +155,6 @@ begins r y l o q g z = (
       ∙ assembled (begun (recordOf r) o .node) (tables-of r y l),
 )
 
-pub own-of : (r : List ℕ) → word r ownPlace ≡ recordOf r .own
-unfolding recordOf
-own-of r = refl
-
 -- the tag of a round keeps the limit
 pub writing-most : (c : Node) {k : Kind} {i r a : ℕ} → Parts c → c .wait ≡ Writing k i r a → r ≤ limit
 writing-most c {k} {i} {r} {a} p e = writing-ok (c .n) k i r a (sym (ap (waitOk (c .n)) e) ∙ p .wait-ok) .1 .tag

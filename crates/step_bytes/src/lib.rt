@@ -18,7 +18,6 @@ use region::head::with_request;
 use region::head::with_wait;
 use region::places::KEPT_PLACE;
 use region::places::MAXTAG_PLACE;
-use region::places::OWN_PLACE;
 use region::places::REQUEST_PLACE;
 use rounds::failed_in;
 use rounds::good_in;
@@ -36,11 +35,13 @@ use view::View;
 use wire::Message;
 ghost use mathlib.Core.Path.{_≡_};
 ghost use mathlib.Core.Bool.{true};
-ghost use Prim.Native.Nat.{_≤_, _<_};
+ghost use Prim.Native.Nat.{_+_, _≤_, _<_};
 ghost use lib.ListN.{length};
 ghost use Rattle.view.specs.Size.{limit, nodes};
+ghost use Rattle.wire.specs.declared.Message.the-variants.{Read};
 ghost use Rattle.record.specs.Usable.{isOpen, full, usable};
 ghost use Rattle.step.specs.Step.{started};
+ghost use Rattle.step.specs.declared.Sent.the-variants.{One};
 ghost use Rattle.step.specs.Move.{begun};
 ghost use Rattle.region.specs.Record.{recordSize, recordOf, recordBytes};
 ghost use Rattle.step_bytes.specs.Moved.{isStep, restedOf, afterAgreement, followed, planTag, rests, Leads};
@@ -78,6 +79,15 @@ pub fn is_full_in(r: &[u8]) -> bool
     less(LIMIT, get_word(r, REQUEST_PLACE)) < 5
 }
 
+// What an operation that is begun will send: a read with the next request number.
+pub fn asked_in(r: &[u8]) -> Sent
+    requires { ⌜ (length (now r) ≡ recordSize) × (recordOf (now r) .request ≤ limit) ⌝ }
+    ensures { λ sent. ⌜ sent ≡ One (Read (recordOf (now (r .entry)) .request + 1)) ⌝ }
+{
+    let request = get_word(r, REQUEST_PLACE) + 1;
+    Sent::One(Message::Read { request: request })
+}
+
 // An operation is begun: its read goes out, with the next request number. That is what is sent.
 pub fn ask_in(r: &mut [u8], o: Operation) -> Sent
     requires { ⌜ (length (now r) ≡ recordSize) × (recordOf (now r) .request ≤ limit) ⌝ }
@@ -93,16 +103,6 @@ pub fn ask_in(r: &mut [u8], o: Operation) -> Sent
     };
     save_head(r, with_wait(with_request(h, request), wait));
     Sent::One(Message::Read { request: request })
-}
-
-// An operation is begun, with all that the step gives.
-pub fn begin_in(r: &mut [u8], o: Operation) -> Effect
-    requires { ⌜ (length (now r) ≡ recordSize) × (recordOf (now r) .request ≤ limit) ⌝ }
-    ensures { λ e. ⌜ isStep e (now (r .exit)) (begun (recordOf (now (r .entry))) o) ⌝ }
-{
-    let own = get_word(r, OWN_PLACE) as usize;
-    let sent = ask_in(r, o);
-    rested(own, sent)
 }
 
 // What comes next. The wait says which pass is the first to try; what a pass leads to, only a later one takes up.

@@ -24,10 +24,9 @@ returns c =
     let c8 = c4 .before .before .before .before in
     let a = c8 .args in
     let p = c8 .pre in
-    let j = judged true (a .n) (a .a) (a .c) (a .x) (a .r .now) (a .o) (a .b .now) (p .0) (p .1) (p .2) (p .3)
-    (p .4) (p .5)
+    let j = judged true (a .n) (a .a) (a .c) (a .x) (a .o) (a .b .now) (p .0) (p .1) (p .2) (p .3) (p .4) (p .5)
     (c4 .is-cut .ensures) (c .before .before .before .gone .ensures) (c .before .before .allowance .ensures)
-    (c .before .has-room .ensures) in
+    (c .before .has-room .ensures) (recordOf (a .r .now)) (heard-read (a .r .now)) in
     (sym (not-true _ (c .if1 .taken)) ∙ j, refl)
 
 keep-record-at-requires : tie.Need-keep-record-at-requires
@@ -70,9 +69,9 @@ returns-2 c =
     let c22 = c17 .before .before .before .before .before in
     let a = c22 .args in
     let p = c22 .pre in
-    let j = judged true (a .n) (a .a) (a .c) (a .x) (a .r .now) (a .o) (a .b .now) (p .0) (p .1) (p .2) (p .3)
-    (p .4) (p .5) (c17 .before .is-cut .ensures) (c17 .gone .ensures) (c14 .before .before .allowance .ensures)
-    (c14 .before .has-room .ensures) in (
+    let j = judged true (a .n) (a .a) (a .c) (a .x) (a .o) (a .b .now) (p .0) (p .1) (p .2) (p .3) (p .4) (p .5)
+    (c17 .before .is-cut .ensures) (c17 .gone .ensures) (c14 .before .before .allowance .ensures)
+    (c14 .before .has-room .ensures) (recordOf (a .r .now)) (heard-read (a .r .now)) in (
       sym (not-false _ (c14 .if1 .left)) ∙ j,
       c .before .before .release .ensures
           ∙ ap (λ (u : List ℕ). letOut (a .n) (a .c) (shortened (a .x) (entries (a .n) (a .a) (a .o)))
