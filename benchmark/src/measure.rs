@@ -1,4 +1,5 @@
-//! The measurements: both sides in turn on the same input, the best of several runs of each at each place of the stack.
+//! The measurements: both sides in turn on the same input and the same lent memory, the best of several runs of each at
+//! each place of the stack.
 mod codec;
 mod events;
 mod frame;
@@ -22,17 +23,25 @@ fn nodes(n: usize) -> String {
     format!("{n} {}", if n == 1 { "node" } else { "nodes" })
 }
 
-/// The inputs in turn at a node, from the record that is its start, with so many bytes for the output.
-fn give_all<S: Side>(start: &[u8], inputs: &[Input], room: usize, record: &mut Vec<u8>) -> f64 {
-    record.clear();
-    record.extend(start);
-    let mut lent = Lent::new(room);
+/// A node's record, and what is lent beside it.
+type Node = (Vec<u8>, Lent);
+
+/// The inputs in turn at a node, from the record that is its start.
+fn give_all<S: Side>((record, lent): &mut Node, start: &[u8], inputs: &[Input]) -> f64 {
+    record.copy_from_slice(start);
     seconds(|| {
         for input in inputs {
-            black_box(input.give::<S>(record, &mut lent));
-            black_box(&lent);
+            black_box(input.give::<S>(record, lent));
+            black_box(&*lent);
         }
     })
+}
+
+/// The same, where the record must come to the one that is its end.
+fn give_all_to<S: Side>(node: &mut Node, start: &[u8], inputs: &[Input], end: &[u8]) -> f64 {
+    let time = give_all::<S>(node, start, inputs);
+    assert!(node.0 == end, "the sides differ");
+    time
 }
 
 /// Everything, with a session of `longest` events at the end.

@@ -1,6 +1,8 @@
-//! How long works take: in turn, with the stack at several places, the best of several runs at each place.
+//! How long works take: in turn, on the same lent memory, with the stack at several places, the best of several runs at
+//! each place.
 use std::fmt;
 use std::hint::black_box;
+use std::mem::MaybeUninit;
 
 /// How many places of the stack there are.
 pub const PLACES: usize = 16;
@@ -13,27 +15,37 @@ pub const SECONDS: f64 = 0.3;
 /// microseconds too short.
 pub const LEFT_OUT: usize = 20;
 
+/// The bytes of a page.
+pub const PAGE: usize = 4096;
+
 /// The best time of a work at each place of the stack, in seconds.
 type Places = [f64; PLACES];
 
-/// The work, with the stack some 300 bytes further down for each step: a row moves with its place within lines of 64
-/// bytes, and beside the lent bytes modulo 4096.
+/// What is timed: it gets the memory that is lent and the number of its place, and answers its seconds.
+pub trait Work<T>: FnMut(&mut T, usize) -> f64 {}
+
+impl<T, W: FnMut(&mut T, usize) -> f64> Work<T> for W {}
+
+/// The work, with the stack a page and some 300 bytes further down for each step: a row moves with its place within
+/// lines of 64 bytes, beside the lent bytes modulo a page, and with the pages that the two are in.
 #[inline(never)]
 fn deeper(steps: usize, work: &mut dyn FnMut() -> f64) -> f64 {
-    let room = black_box([0u8; 240]);
+    let room = MaybeUninit::<[u8; PAGE + 240]>::uninit();
+    black_box(&room);
     let time = if steps == 0 { work() } else { deeper(steps - 1, work) };
     black_box(&room);
     time
 }
 
-/// The best times of each work. They run in turn, and go to the next place after each run.
-fn best<const K: usize>(mut works: [&mut dyn FnMut() -> f64; K]) -> [Places; K] {
+/// The best times of each work. They run in turn, and go to the next place after each run. The same memory is lent to
+/// all, so that they are held against each other at like places.
+fn best<T, const K: usize>(lent: &mut T, mut works: [&mut dyn Work<T>; K]) -> [Places; K] {
     let mut times = [const { [const { Vec::new() }; PLACES] }; K];
     let (mut runs, mut spent) = (0, 0.0);
     while runs < RUNS || spent < SECONDS {
         for place in 0..PLACES {
             for (times, work) in times.iter_mut().zip(&mut works) {
-                let time = deeper(place, work);
+                let time = deeper(place, &mut || work(lent, place));
                 times[place].push(time);
                 spent += time;
             }
@@ -56,14 +68,19 @@ pub struct Times {
 impl Times {
     pub const NONE: Times = Times { proved: [0.0; PLACES], other: [0.0; PLACES] };
 
-    pub fn of(mut proved: impl FnMut() -> f64, mut plain: impl FnMut() -> f64) -> Times {
-        let [proved, other] = best([&mut proved, &mut plain]);
+    pub fn of<T>(lent: &mut T, mut proved: impl Work<T>, mut plain: impl Work<T>) -> Times {
+        let [proved, other] = best(lent, [&mut proved, &mut plain]);
         Times { proved, other }
     }
 
-    /// The proved code, which comes first, held against each of two others.
-    pub fn of_three(works: [&mut dyn FnMut() -> f64; 3]) -> [Times; 2] {
-        let [proved, one, two] = best(works);
+    /// The proved code held against each of two others.
+    pub fn of_three<T>(
+        lent: &mut T,
+        mut proved: impl Work<T>,
+        mut one: impl Work<T>,
+        mut two: impl Work<T>,
+    ) -> [Times; 2] {
+        let [proved, one, two] = best(lent, [&mut proved, &mut one, &mut two]);
         [one, two].map(|other| Times { proved, other })
     }
 

@@ -5,7 +5,7 @@ use crate::clock::seconds;
 use crate::dice::Dice;
 use crate::rows::Rows;
 use crate::side::{Numbers, Plain, Proved, Report, Side, NO_REPORT};
-use crate::times::Times;
+use crate::times::{Times, PAGE};
 use std::hint::black_box;
 
 /// The nodes that messages are for.
@@ -36,13 +36,22 @@ pub fn messages(rows: &mut Rows) {
     println!("{:>14} {:>6} {:>12} {:>12} {:>8} {:>8}", "kind", "", "proved", "plain", "ratio", "worst");
     let kinds = ["read", "read answer", "write", "write answer", "echo", "value", "good"];
     let mut dice = Dice::new(3);
+    let (mut parts, mut out) = (([0; 4], NO_REPORT), (Box::new(Pages([0; 2 * PAGE])), 0));
     let mut sums = [("read", 0.0, Times::NONE), ("write", 0.0, Times::NONE)];
     for (kind, name) in (1..).zip(kinds) {
         let cases: Vec<Case> = (0..64).map(|_| some_message(&mut dice, kind)).collect();
         let bytes = (ROUNDS * cases.iter().map(|c| c.bytes.len()).sum::<usize>()) as f64;
         let times = [
-            Times::of(|| read_all::<Proved>(&cases), || read_all::<Plain>(&cases)),
-            Times::of(|| write_all::<Proved>(&cases), || write_all::<Plain>(&cases)),
+            Times::of(
+                &mut parts,
+                |parts, _| read_all::<Proved>(parts, &cases),
+                |parts, _| read_all::<Plain>(parts, &cases),
+            ),
+            Times::of(
+                &mut out,
+                |out, place| write_all::<Proved>(out, place, &cases),
+                |out, place| write_all::<Plain>(out, place, &cases),
+            ),
         ];
         for ((what, all_bytes, all), t) in sums.iter_mut().zip(times) {
             print_row(name, what, bytes, &t);
@@ -62,26 +71,37 @@ fn print_row(name: &str, what: &str, bytes: f64, t: &Times) {
     println!("{name:>14} {what:>6} {proved:>12.0} {plain:>12.0} {t}");
 }
 
-fn read_all<S: Side>(cases: &[Case]) -> f64 {
-    let (mut numbers, mut report) = ([0; 4], NO_REPORT);
+/// What a message is read to.
+type Parts = (Numbers, Report);
+
+fn read_all<S: Side>((numbers, report): &mut Parts, cases: &[Case]) -> f64 {
     seconds(|| {
         for _ in 0..ROUNDS {
             for case in cases {
-                black_box(S::read(NODES, black_box(&case.bytes), &mut numbers, &mut report));
-                black_box((&numbers, &report));
+                black_box(S::read(NODES, black_box(&case.bytes), numbers, report));
+                black_box((&*numbers, &*report));
             }
         }
     })
 }
 
-fn write_all<S: Side>(cases: &[Case]) -> f64 {
-    let (mut out, mut size) = ([0; 274], 0);
+/// Two pages, the first of which begins where a page begins.
+#[repr(align(4096))]
+struct Pages([u8; 2 * PAGE]);
+
+/// What a message is written to: its bytes, and its length.
+type Output = (Box<Pages>, usize);
+
+/// A message begins two bytes further before the end of a page for each place, up to the length of a value: a word that
+/// is stored across the end is slow.
+fn write_all<S: Side>((pages, length): &mut Output, place: usize, cases: &[Case]) -> f64 {
+    let out = &mut pages.0[PAGE - 2 * place..][..274];
     seconds(|| {
         for _ in 0..ROUNDS {
             for case in cases {
                 let Case { numbers, report, view, .. } = black_box(case);
-                black_box(S::write(NODES, numbers, report, view, &mut out, &mut size));
-                black_box((&out, size));
+                black_box(S::write(NODES, numbers, report, view, out, length));
+                black_box((&*out, &*length));
             }
         }
     })

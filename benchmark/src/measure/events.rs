@@ -10,15 +10,25 @@ use std::hint::black_box;
 /// No event: every cluster refuses it.
 pub const NONE: Event = Event::Stop { node: 0 };
 
-pub fn apply_all<S: Side>(bytes: &mut [u8], events: &[Event]) {
-    let mut view: View = [0; 256];
+pub fn apply_all<S: Side>(bytes: &mut [u8], events: &[Event], view: &mut View) {
     for event in events {
-        black_box(S::apply(bytes, event, &mut view));
+        black_box(S::apply(bytes, event, view));
     }
 }
 
-fn run<S: Side>(bytes: &mut [u8], events: &[Event]) -> f64 {
-    seconds(|| apply_all::<S>(bytes, events))
+fn run<S: Side>(bytes: &mut [u8], events: &[Event], view: &mut View) -> f64 {
+    seconds(|| apply_all::<S>(bytes, events, view))
+}
+
+/// A cluster, and the view that is lent beside it.
+type Cluster = (Vec<u8>, View);
+
+/// The events from the bytes that are their start, which must come to those that are their end.
+fn run_from<S: Side>((bytes, view): &mut Cluster, start: &[u8], events: &[Event], end: &[u8]) -> f64 {
+    bytes.copy_from_slice(start);
+    let time = run::<S>(bytes, events, view);
+    assert!(bytes == end, "the sides differ");
+    time
 }
 
 /// The times of the same events from the same bytes on both sides.
@@ -28,19 +38,12 @@ fn time_events(n: usize, order: Order, seed: u64, count: usize) -> Times {
     workload.fill(&mut events);
     let start = workload.bytes().to_vec();
     workload.fill(&mut events);
-    let (mut one, mut two) = (start.clone(), start.clone());
-    let times = Times::of(
-        || {
-            one.copy_from_slice(&start);
-            run::<Proved>(&mut one, &events)
-        },
-        || {
-            two.copy_from_slice(&start);
-            run::<Plain>(&mut two, &events)
-        },
-    );
-    assert!(one == two, "the sides differ");
-    times
+    let end = workload.bytes();
+    Times::of(
+        &mut (start.clone(), [0; 256]),
+        |cluster, _| run_from::<Proved>(cluster, &start, &events, end),
+        |cluster, _| run_from::<Plain>(cluster, &start, &events, end),
+    )
 }
 
 /// Prints events per second.
@@ -109,14 +112,15 @@ pub fn growth_with_length(longest: usize) {
     println!("{:>10} {:>12} {:>12} {:>8} {:>14}", "events", "proved", "plain", "ratio", "resident KiB");
     let mut workload = Workload::new(3, Order::Random, 5);
     let (mut one, mut two) = (workload.bytes().to_vec(), workload.bytes().to_vec());
+    let mut view = [0; 256];
     let mut events = vec![NONE; 1000];
     let (mut proved, mut plain) = (Lots::new(), Lots::new());
     let (mut done, mut mark) = (0, 1000);
     while done < longest {
         while done < mark {
             workload.fill(&mut events);
-            proved.add(run::<Proved>(&mut one, &events));
-            plain.add(run::<Plain>(&mut two, &events));
+            proved.add(run::<Proved>(&mut one, &events, &mut view));
+            plain.add(run::<Plain>(&mut two, &events, &mut view));
             assert!(one == two, "the sides differ");
             done += events.len();
         }
@@ -130,12 +134,12 @@ pub fn growth_with_length(longest: usize) {
 /// Runs one side alone.
 pub fn replay(side: &str, n: usize, count: usize) {
     let mut workload = Workload::new(n, Order::Random, 7);
-    let mut bytes = workload.bytes().to_vec();
+    let (mut bytes, mut view) = (workload.bytes().to_vec(), [0; 256]);
     let mut events = vec![NONE; count];
     workload.fill(&mut events);
     let time = match side {
-        "proved" => run::<Proved>(&mut bytes, &events),
-        _ => run::<Plain>(&mut bytes, &events),
+        "proved" => run::<Proved>(&mut bytes, &events, &mut view),
+        _ => run::<Plain>(&mut bytes, &events, &mut view),
     };
     println!("{:.0} ns per event", time * 1e9 / count as f64);
 }

@@ -1,6 +1,6 @@
 //! One node: a begin, a stream of messages, and one of new values.
 use super::values::{check_forwarded, new_values};
-use super::{give_all, nodes};
+use super::{give_all, give_all_to, nodes};
 use crate::clock::seconds;
 use crate::network::{Input, Lent, Network, Packing};
 use crate::rows::Rows;
@@ -53,25 +53,34 @@ fn only_values(n: usize, stream: &mut Stream) {
 
 fn time_inputs(stream: &Stream) -> Times {
     let Stream { start, inputs, .. } = stream;
-    let (mut one, mut two) = (Vec::new(), Vec::new());
-    let times = Times::of(
-        || give_all::<Proved>(start, inputs, 512, &mut one),
-        || give_all::<Plain>(start, inputs, 512, &mut two),
-    );
-    assert!(one == two, "the sides differ");
-    times
+    let mut node = (start.clone(), Lent::new(512));
+    give_all::<Plain>(&mut node, start, inputs);
+    let end = node.0.clone();
+    Times::of(
+        &mut node,
+        |node, _| give_all_to::<Proved>(node, start, inputs, &end),
+        |node, _| give_all_to::<Plain>(node, start, inputs, &end),
+    )
 }
 
 /// Each begin on the record of its own that it came upon.
-fn run_begins<S: Side>(stream: &Stream) -> f64 {
-    let mut begins = stream.begins.clone();
-    let mut lent = Lent::new(512);
+fn run_begins<S: Side>((records, lent): &mut (Vec<Vec<u8>>, Lent), begins: &[(Vec<u8>, Input)]) -> f64 {
+    records.iter_mut().zip(begins).for_each(|(record, (before, _))| record.copy_from_slice(before));
     seconds(|| {
-        for (record, input) in &mut begins {
-            black_box(input.give::<S>(record, &mut lent));
-            black_box(&lent);
+        for (record, (_, input)) in records.iter_mut().zip(begins) {
+            black_box(input.give::<S>(record, lent));
+            black_box(&*lent);
         }
     })
+}
+
+fn time_begins(begins: &[(Vec<u8>, Input)]) -> Times {
+    let records = begins.iter().map(|(before, _)| before.clone()).collect();
+    Times::of(
+        &mut (records, Lent::new(512)),
+        |lent, _| run_begins::<Proved>(lent, begins),
+        |lent, _| run_begins::<Plain>(lent, begins),
+    )
 }
 
 /// Prints nanoseconds per call.
@@ -82,7 +91,7 @@ pub fn calls(rows: &mut Rows) {
     println!("{:>6} {:>12} {:>12} {:>12} {:>8} {:>8}", "nodes", "", "proved", "plain", "ratio", "worst");
     for n in [1, 3, 5, 16] {
         let mut stream = stream(n);
-        let begins = Times::of(|| run_begins::<Proved>(&stream), || run_begins::<Plain>(&stream));
+        let begins = time_begins(&stream.begins);
         let messages = time_inputs(&stream);
         only_values(n, &mut stream);
         let values = time_inputs(&stream);

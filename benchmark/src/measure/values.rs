@@ -6,7 +6,7 @@ use crate::network::{Input, Lent};
 use crate::plain::bytes::put_word;
 use crate::plain::record::MAXTAG;
 use crate::rows::Rows;
-use crate::side::{Event, Plain, Proved, Side};
+use crate::side::{Event, Plain, Proved, Side, View};
 use crate::times::Times;
 use crate::workload::waiting;
 
@@ -56,35 +56,47 @@ fn all_waiting(n: usize, bytes: &[u8]) -> usize {
     (0..n * n).map(|i| usize::from(waiting(bytes, i / n + 1, i % n + 1))).sum()
 }
 
-/// A cluster in which each node has begun an update and sent its value to all, and the deliveries of these values.
-fn sent_values(n: usize) -> (Vec<u8>, Vec<Event>) {
+/// Values that wait in a cluster: its bytes, the deliveries of the values, and its bytes after them.
+struct Sent {
+    start: Vec<u8>,
+    values: Vec<Event>,
+    end: Vec<u8>,
+}
+
+/// Each node has begun an update and sent its value to all.
+fn sent_values(n: usize) -> Sent {
     let from_each = |i| Event::Deliver { from: i / n + 1, to: i % n + 1, cut: None };
     let begins = (1..=n).map(|node| Event::Update { node, report: [node as u8; 8], cut: None });
     // One message of each channel is a read, the next its answer.
     let reads_and_answers = (0..2 * n * n).map(|i| from_each(i % (n * n)));
     let values: Vec<Event> = (0..n * n.min(WRITERS)).map(from_each).collect();
-    let (mut bytes, mut view) = (vec![0; Plain::size(n)], [0; 256]);
-    Plain::fresh(n, Plain::most_faults(n), &mut bytes);
+    let (mut start, mut view) = (vec![0; Plain::size(n)], [0; 256]);
+    Plain::fresh(n, Plain::most_faults(n), &mut start);
     for event in begins.chain(reads_and_answers) {
-        assert_eq!(Plain::apply(&mut bytes, &event, &mut view), 0, "no values");
+        assert_eq!(Plain::apply(&mut start, &event, &mut view), 0, "no values");
     }
-    let mut after = bytes.clone();
-    apply_all::<Plain>(&mut after, &values);
-    assert_eq!(all_waiting(n, &after), all_waiting(n, &bytes) + values.len() * (n - 1), "not every value was new");
-    (bytes, values)
+    let mut end = start.clone();
+    apply_all::<Plain>(&mut end, &values, &mut view);
+    assert_eq!(all_waiting(n, &end), all_waiting(n, &start) + values.len() * (n - 1), "not every value was new");
+    Sent { start, values, end }
 }
 
-/// The deliveries in each cluster, from the same start again and again. An event that is refused goes before them: it
+/// Clusters, and the view that is lent beside them.
+type Clusters = (Vec<Vec<u8>>, View);
+
+/// The deliveries in each cluster, so many times from the same start. An event that is refused goes before them: it
 /// judges every record, and so brings it into the cache.
-fn run_again<S: Side>(clusters: &mut [Vec<u8>], start: &[u8], values: &[Event], times: usize) -> f64 {
+fn run_again<S: Side>((clusters, view): &mut Clusters, sent: &Sent, times: usize) -> f64 {
     let once = |_| {
         for bytes in &mut *clusters {
-            bytes.copy_from_slice(start);
-            S::apply(bytes, &NONE, &mut [0; 256]);
+            bytes.copy_from_slice(&sent.start);
+            S::apply(bytes, &NONE, view);
         }
-        seconds(|| clusters.iter_mut().for_each(|bytes| apply_all::<S>(bytes, values)))
+        seconds(|| clusters.iter_mut().for_each(|bytes| apply_all::<S>(bytes, &sent.values, view)))
     };
-    (0..times).map(once).sum()
+    let time = (0..times).map(once).sum();
+    assert!(clusters.iter().all(|bytes| *bytes == sent.end), "the sides differ");
+    time
 }
 
 /// Prints deliveries per second. With one node it is its own value that comes back to it, and is forwarded to itself.
@@ -92,16 +104,15 @@ pub fn deliveries(rows: &mut Rows) {
     println!("deliveries of new values per second, by nodes");
     println!("{:>6} {:>12} {:>12} {:>8} {:>8}", "nodes", "proved", "plain", "ratio", "worst");
     for n in [1, 3, 5, 16] {
-        let (start, values) = sent_values(n);
-        let mut one = vec![start.clone(); AT_ONCE.div_ceil(values.len())];
-        let mut two = one.clone();
-        let at_once = one.len() * values.len();
+        let sent = sent_values(n);
+        let clusters = AT_ONCE.div_ceil(sent.values.len());
+        let at_once = clusters * sent.values.len();
         let times = DELIVERIES / at_once;
         let t = Times::of(
-            || run_again::<Proved>(&mut one, &start, &values, times),
-            || run_again::<Plain>(&mut two, &start, &values, times),
+            &mut (vec![sent.start.clone(); clusters], [0; 256]),
+            |clusters, _| run_again::<Proved>(clusters, &sent, times),
+            |clusters, _| run_again::<Plain>(clusters, &sent, times),
         );
-        assert!(one == two, "the sides differ");
         let count = (times * at_once) as f64;
         println!("{n:>6} {:>12.0} {:>12.0} {t}", count / t.proved(), count / t.other());
         rows.add("events, new values", &nodes(n), &t);

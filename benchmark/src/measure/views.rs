@@ -35,7 +35,11 @@ pub fn figures(rows: &mut Rows) {
     for n in [1, 3, 5, 16] {
         for (absent, name) in [(0, "all"), (250, "some absent")] {
             let views = some_views(&mut dice, n, absent);
-            let t = Times::of(|| count_all::<Proved>(n, &views), || count_all::<Plain>(n, &views));
+            let t = Times::of(
+                &mut [0; 4],
+                |figures, _| count_all::<Proved>(figures, n, &views),
+                |figures, _| count_all::<Plain>(figures, n, &views),
+            );
             let count = (ROUNDS * views.len()) as f64;
             println!("{n:>6} {name:>12} {:>12.0} {:>12.0} {t}", count / t.proved(), count / t.other());
             rows.add("figures", &format!("{}, {name}", nodes(n)), &t);
@@ -43,13 +47,12 @@ pub fn figures(rows: &mut Rows) {
     }
 }
 
-fn count_all<S: Side>(n: usize, views: &[Vec<u8>]) -> f64 {
-    let mut figures = [0; 4];
+fn count_all<S: Side>(figures: &mut [u32; 4], n: usize, views: &[Vec<u8>]) -> f64 {
     seconds(|| {
         for _ in 0..ROUNDS {
             for view in views {
-                black_box(S::figures(n, black_box(view), &mut figures));
-                black_box(&figures);
+                black_box(S::figures(n, black_box(view), figures));
+                black_box(&*figures);
             }
         }
     })
@@ -83,11 +86,12 @@ pub fn pages(rows: &mut Rows) {
     let mut dice = Dice::new(5);
     for n in [1, 3, 5, 16] {
         for (name, views) in printed_views(&mut dice, n) {
-            let [by_hand, by_write] = Times::of_three([
-                &mut || print_all(Proved::page, n, &views),
-                &mut || print_all(Plain::page, n, &views),
-                &mut || print_all(Plain::page_by_write, n, &views),
-            ]);
+            let [by_hand, by_write] = Times::of_three(
+                &mut (vec![0; 35 * (n + 1)], 0),
+                |printed, _| print_all(Proved::page, printed, n, &views),
+                |printed, _| print_all(Plain::page, printed, n, &views),
+                |printed, _| print_all(Plain::page_by_write, printed, n, &views),
+            );
             let count = (PAGE_ROUNDS * views.len()) as f64;
             println!(
                 "{n:>6} {name:>12} {:>12.0} {:>12.0} {by_hand} {:>12.0} {by_write}",
@@ -102,13 +106,20 @@ pub fn pages(rows: &mut Rows) {
     }
 }
 
-fn print_all(page: impl Fn(usize, &[u8], &mut [u8], &mut usize) -> u8, n: usize, views: &[Vec<u8>]) -> f64 {
-    let (mut out, mut length) = (vec![0; 35 * (n + 1)], 0);
+/// What a page is printed to: its bytes, and its length.
+type Printed = (Vec<u8>, usize);
+
+fn print_all(
+    page: impl Fn(usize, &[u8], &mut [u8], &mut usize) -> u8,
+    (out, length): &mut Printed,
+    n: usize,
+    views: &[Vec<u8>],
+) -> f64 {
     seconds(|| {
         for _ in 0..PAGE_ROUNDS {
             for view in views {
-                black_box(page(n, black_box(view), &mut out, &mut length));
-                black_box((&out, length));
+                black_box(page(n, black_box(view), out, length));
+                black_box((&*out, &*length));
             }
         }
     })
