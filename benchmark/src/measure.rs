@@ -1,5 +1,5 @@
-//! The measurements: both sides in turn on the same input and the same lent memory, the best of several runs of each at
-//! each place of the stack.
+//! The measurements: both sides in turn on the same input and, but for a session that grows, the same lent memory; the
+//! best of several runs of each at each place of the stack.
 mod codec;
 mod events;
 mod frame;
@@ -11,7 +11,7 @@ use crate::clock::seconds;
 use crate::machine;
 use crate::network::{Input, Lent};
 use crate::rows::Rows;
-use crate::side::Side;
+use crate::side::{Plain, Side};
 use crate::times::{LEFT_OUT, PLACES, RUNS, SECONDS};
 use std::hint::black_box;
 
@@ -37,7 +37,15 @@ fn give_all<S: Side>((record, lent): &mut Node, start: &[u8], inputs: &[Input]) 
     })
 }
 
-/// The same, where the record must come to the one that is its end.
+/// A node that has the record, with so many bytes for the output, and the record that it comes to.
+fn node_and_end(start: &[u8], inputs: &[Input], room: usize) -> (Node, Vec<u8>) {
+    let mut node = (start.to_vec(), Lent::new(room));
+    give_all::<Plain>(&mut node, start, inputs);
+    let end = node.0.clone();
+    (node, end)
+}
+
+/// The inputs, where the record must come to the one that is its end.
 fn give_all_to<S: Side>(node: &mut Node, start: &[u8], inputs: &[Input], end: &[u8]) -> f64 {
     let time = give_all::<S>(node, start, inputs);
     assert!(node.0 == end, "the sides differ");

@@ -4,7 +4,7 @@ use std::fmt;
 use std::hint::black_box;
 use std::mem::MaybeUninit;
 
-/// How many places of the stack there are.
+/// How many places there are, of the stack and, where a message is written, of its output.
 pub const PLACES: usize = 16;
 
 /// How often each work runs at each place at least, and for how many seconds all together.

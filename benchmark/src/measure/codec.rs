@@ -92,10 +92,11 @@ struct Pages([u8; 2 * PAGE]);
 /// What a message is written to: its bytes, and its length.
 type Output = (Box<Pages>, usize);
 
-/// A message begins two bytes further before the end of a page for each place, up to the length of a value: a word that
+/// A message begins 0, 1, 4, 5, .. bytes before the end of a page, by its place, up to the length of a value: a word that
 /// is stored across the end is slow.
 fn write_all<S: Side>((pages, length): &mut Output, place: usize, cases: &[Case]) -> f64 {
-    let out = &mut pages.0[PAGE - 2 * place..][..274];
+    let before = 4 * (place / 2) + place % 2;
+    let out = &mut pages.0[PAGE - before..][..274];
     seconds(|| {
         for _ in 0..ROUNDS {
             for case in cases {

@@ -1,7 +1,7 @@
 //! Frames: one call for several messages, beside a call for each of them.
 use super::values::{check_forwarded, message, new_values, HIGH};
-use super::{give_all, give_all_to, nodes};
-use crate::network::{Input, Lent, Network, Packing, READ};
+use super::{give_all_to, node_and_end, nodes};
+use crate::network::{Input, Network, Packing, READ};
 use crate::rows::Rows;
 use crate::side::{is_refusal, Plain, Proved, Side};
 use crate::times::Times;
@@ -145,9 +145,7 @@ pub fn frames(rows: &mut Rows) {
 /// The frames beside a proved call for each message, and beside plain Rust.
 fn time(stream: &Stream) -> [Times; 2] {
     let Stream { start, frames, messages, .. } = stream;
-    let mut node = (start.clone(), Lent::new(8192));
-    give_all::<Plain>(&mut node, start, frames);
-    let end = node.0.clone();
+    let (mut node, end) = node_and_end(start, frames, 8192);
     Times::of_three(
         &mut node,
         |node, _| give_all_to::<Proved>(node, start, frames, &end),

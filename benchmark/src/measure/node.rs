@@ -1,6 +1,6 @@
 //! One node: a begin, a stream of messages, and one of new values.
 use super::values::{check_forwarded, new_values};
-use super::{give_all, give_all_to, nodes};
+use super::{give_all_to, node_and_end, nodes};
 use crate::clock::seconds;
 use crate::network::{Input, Lent, Network, Packing};
 use crate::rows::Rows;
@@ -53,9 +53,7 @@ fn only_values(n: usize, stream: &mut Stream) {
 
 fn time_inputs(stream: &Stream) -> Times {
     let Stream { start, inputs, .. } = stream;
-    let mut node = (start.clone(), Lent::new(512));
-    give_all::<Plain>(&mut node, start, inputs);
-    let end = node.0.clone();
+    let (mut node, end) = node_and_end(start, inputs, 512);
     Times::of(
         &mut node,
         |node, _| give_all_to::<Proved>(node, start, inputs, &end),

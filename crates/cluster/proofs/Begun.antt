@@ -1,5 +1,5 @@
--- An operation begun at node c where its record lies, in bytes b: 5 and 6 do not come up. Its step is known before it is
--- done, and so is what it sends, the read y; t is the bytes when it is done.
+-- An operation begun at node c where its record lies, in bytes b, where 5 and 6 do not come up. What it sends, the read
+-- y, is known before the step is done; t is the bytes when it is done.
 use Prim.Native.Nat.{ℕ, _+_, _-_, _≤_}
 use native.Mathlib.Omega.{arith}
 use mathlib.Core.Path.{_≡_, refl, sym, ap, ap₂, _∙_, subst}
@@ -39,7 +39,7 @@ use Rattle.outgoing.specs.Forward.{ReceivedAt}
 use Rattle.outgoing.specs.Outgoing.{shortened, isCut, mayCut, haltIf, letOut, hasRoom, released}
 use Rattle.outgoing.specs.declared.Extent.{Extent}
 use Rattle.outgoing.proofs.Forwarded.{handled-entries}
-use Rattle.events.specs.Event.{refuse, settle, openIn}
+use Rattle.events.specs.Event.{refuse, openIn}
 use Rattle.events.specs.Outcome.{answerOf, tells}
 use Rattle.events.specs.Ready.{Ready}
 use Rattle.events.specs.declared.Reply.{Reply}
@@ -88,8 +88,8 @@ module _ (n c : ℕ) (o : Operation) (x : Extent) (b : List ℕ) (h : Ready n c 
         → r ≡ hasRoom n c c x d (started d c y .outbox) b) where
       room : r ≡ hasRoom n c c x (step .node) (step .outbox) b
       unfolding begun
-      room = judged (step .node) heard ∙ ap (λ (s : Sent). hasRoom n c c x (step .node) (started (step .node) c s .outbox)
-          b) q
+      room = judged (step .node) heard
+          ∙ ap (λ (s : Sent). hasRoom n c c x (step .node) (started (step .node) c s .outbox) b) q
 
       pub opens-not : mayCut n x b ≡ true → r ≡ false → openIn n c o x b ≡ refuse 11 b
       opens-not cut e = open-settles n c o x b (node b c) refl idle more cut (h .same) (h .half) refl

@@ -117,7 +117,7 @@ fn step_here(b: &mut [u8], n: usize, a: usize, c: usize, m: Message, x: Extent) 
     given(is_cut(x), ending, e.view)
 }
 
-// Does so on a copy of its own.
+// Hands it on a copy of the record, which is made here.
 fn hand_apart(b: &mut [u8], n: usize, a: usize, c: usize, m: Message, x: Extent) -> Reply
     requires { ⌜ Ready n a c (now b) × (lawful n m (viewOf n (viewAt n (first (channel (now b) a c)))) ≡ true)
         × Oldest n a c m (now b) ⌝ }

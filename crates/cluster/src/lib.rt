@@ -81,7 +81,7 @@ pub fn fresh(n: usize, f: usize, b: &mut [u8]) -> Reply
 }
 
 // Opens an operation at node c, or refuses with 5, 6, 10, 11. What it sends is known before the step is done, so there
-// is no need of a copy of the record.
+// is no need of a copy of the record. It forwards nothing, so that the place 0 is never read.
 fn open_at(b: &mut [u8], n: usize, c: usize, o: Operation, x: Extent) -> Reply
     requires { ⌜ Ready n c c (now b) ⌝ }
     ensures { λ r. ⌜ tells r (now (b .exit)) (openIn n c o x (now (b .entry))) ⌝ }

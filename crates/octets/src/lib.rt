@@ -11,7 +11,7 @@ ghost use Rattle.octets.specs.Word.{wordSize, word, wordBytes};
 pub const WORD: usize = 8;
 
 // A byte as a wide number.
-pub fn wide(x: u8) -> u64
+fn wide(x: u8) -> u64
     ensures { λ r. ⌜ (r ≡ x) × (r < 256) ⌝ }
 {
     x as u64

@@ -78,7 +78,7 @@ pub fn release(b: &mut [u8], n: usize, a: usize, c: usize, o: Outbox, from: usiz
     let_out(b, n, a, c, o, from, allowance(x));
 }
 
-// The same where only the handler sends.
+// The same where only the handler sends, or a begin.
 pub fn release_handled(b: &mut [u8], n: usize, a: usize, c: usize, s: Sent, from: usize, x: Extent)
     requires { ⌜ (n ≤ nodes) × (1 ≤ a) × (a ≤ n) × (1 ≤ c) × (c ≤ n) × (length (now b) ≡ clusterSize n)
         × ReceivedAt n a c noView s (now b) from × AllLawful n noView (listed s) ⌝ }
@@ -89,7 +89,7 @@ pub fn release_handled(b: &mut [u8], n: usize, a: usize, c: usize, s: Sent, from
     let_handled(b, n, a, c, s, view::absent(), from, allowance(x));
 }
 
-// Whether every node can hold what c sends when it begins an operation (refusal 11), whatever its record then is.
+// Whether every node can hold what c sends when it begins an operation (refusal 11): so with any record of c after it.
 pub fn can_send(b: &[u8], n: usize, c: usize, sent: Sent, x: Extent) -> bool
     requires { ⌜ (n ≤ nodes) × (1 ≤ c) × (c ≤ n) × (length (now b) ≡ clusterSize n) ⌝ }
     ensures { λ t. ⌜ ((d : Node) → length (d .heard) ≡ cells
