@@ -1,5 +1,6 @@
 //! The differential run of pages: the proved call and both plain ones get the same views and buffers.
-use super::{odd_number, some_view, Tally};
+use super::codec::some_view;
+use super::{odd_number, Tally};
 use crate::dice::Dice;
 use crate::side::{Plain, Proved, Side};
 
