@@ -7,17 +7,9 @@
  *
  * There are three groups of calls, and snapshot_most_faults, which serves the first two:
  *   one node         snapshot_node_..: a cabinet, in a record that you lend. You send and receive its messages.
- *   a cluster        snapshot_fresh, .._begin_.., .._propose, .._deliver, .._stop: n nodes and the channels between
- *                    them, in one run of lent bytes, to try out a whole house in one program.
- *   bytes            snapshot_next, snapshot_read, snapshot_write, snapshot_figures, snapshot_flags, snapshot_page:
- *                    messages and views.
- *
- * A house may be used for paging groups, and then for nothing else: no update is begun in it but by snapshot_propose or
- * snapshot_node_propose. A group is 64 flags, one for each paging speaker; a report is then the flags that its node has
- * proposed, and the answer of a proposal is the union of the reports shown, which snapshot_flags gives of the view of
- * its ending. Each answer holds its own proposal, all that ended, not spent, before it began, all that was answered
- * before it began, and nothing that was not proposed before its own end; of two answers one contains the other. A
- * proposal of a node that has stopped since may be in answers or not. This is proved of a cluster.
+ *   a cluster        snapshot_fresh, .._begin_.., .._deliver, .._stop: n nodes and the channels between them, in one
+ *                    run of lent bytes, to try out a whole house in one program.
+ *   bytes            snapshot_next, snapshot_read, snapshot_write, snapshot_figures, snapshot_page: messages and views.
  *
  * WHAT LINKS OWE, where each node runs by itself. That all operations have one single order rests on it:
  *   1. A link, from one node to another or to itself, loses no message, repeats none, alters none and keeps their
@@ -47,8 +39,7 @@
  *     many bytes as its length says, or to a whole array of the length that stands in the prototype.
  *   - The memory has been written before, with anything at all: clear a local array or what malloc gave once.
  *   - No two regions that are lent to one call overlap, the numbers behind pointers among them, unless both are const.
- *   - Bytes may stand at any address. A size_t, a uint64_t, a uint64_t[4] and a uint32_t[4] are aligned as their type
- *     is.
+ *   - Bytes may stand at any address. A size_t, a uint64_t[4] and a uint32_t[4] are aligned as their type is.
  *   - A bool is 0 or 1, as every bool of C99 and C++ is.
  *   - Nobody else reads or writes what is lent while the call runs, but for regions that are const, which others may
  *     read. So calls on different memory may run at the same time on different threads, and calls on one record or one
@@ -134,8 +125,8 @@ enum snapshot_refusal {
  * took the view of a good message; or the number of its good round. */
 enum snapshot_ending {
     SNAPSHOT_TAKEN = 0,             /* done, and no operation has ended */
-    SNAPSHOT_SPENT = 13,            /* an update ended without effect, and without a view: no tag was left for it */
-    SNAPSHOT_DONE_BORROWED = 100,   /* an update is done, and its view is written */
+    SNAPSHOT_SPENT = 13,            /* an update ended without effect: no tag was left for it */
+    SNAPSHOT_DONE_BORROWED = 100,   /* an update is done */
     SNAPSHOT_DONE_ROUND_1 = 101,
     SNAPSHOT_DONE_ROUND_2 = 102,
     SNAPSHOT_DONE_ROUND_3 = 103,
@@ -176,13 +167,6 @@ static inline bool snapshot_is_scan(uint8_t code)
 static inline bool snapshot_is_refusal(uint8_t code)
 {
     return 0 < code && code < SNAPSHOT_DONE_BORROWED && code != SNAPSHOT_SPENT;
-}
-
-/* Whether an operation has ended with a view, which is written. That of an update is what a scan shows that stands
- * after the update in the single order, within the same call: it has the update's own report. */
-static inline bool snapshot_has_view(uint8_t code)
-{
-    return snapshot_is_done(code) || snapshot_is_scan(code);
 }
 
 #ifdef __cplusplus
@@ -228,13 +212,6 @@ uint8_t snapshot_node_fresh(size_t n, size_t f, size_t own, uint8_t *state, size
 uint8_t snapshot_node_begin_update(uint8_t *state, size_t state_len, const uint8_t report[SNAPSHOT_REPORT],
                                    uint8_t *out, size_t out_len, size_t *length);
 
-/* Begins a proposal: an update whose report is these flags and all that this node has proposed so far, spent ones
- * aside. These are read from the record; where no update but proposals was begun, its last report is just them. A
- * report's flags are its eight bytes as one number, high byte first. Where the proposal ends done, its answer is
- * snapshot_flags of the view. All else, the refusals among it, is as for an update. */
-uint8_t snapshot_node_propose(uint8_t *state, size_t state_len, uint64_t flags, uint8_t *out, size_t out_len,
-                              size_t *length);
-
 /* Begins a scan; all else is as for an update. */
 uint8_t snapshot_node_begin_scan(uint8_t *state, size_t state_len, uint8_t *out, size_t out_len, size_t *length);
 
@@ -249,8 +226,8 @@ uint8_t snapshot_node_begin_scan(uint8_t *state, size_t state_len, uint8_t *out,
  * Where all nodes and links keep what they owe, none of 2, 3, 7 and 9 is to be expected here. A node that meets one
  * should stop for good, which the others bear: to go on would be to lose a message, which they do not.
  * Answers 0, SNAPSHOT_SPENT, or 100 to 103, an update done, or 110 to 113, a scan ended. Writes the record, the first
- * *length bytes of out, *length (0 where nothing is to be sent), and, only where an update is done or a scan ended, the
- * view: n entries, then zeros. */
+ * *length bytes of out, *length (0 where nothing is to be sent), and, only where a scan ended, the view: n entries,
+ * then zeros. */
 uint8_t snapshot_node_message(uint8_t *state, size_t state_len, size_t sender, const uint8_t *bytes, size_t bytes_len,
                               uint8_t *out, size_t out_len, size_t *length, uint8_t view[SNAPSHOT_VIEW]);
 
@@ -265,7 +242,7 @@ uint8_t snapshot_node_message(uint8_t *state, size_t state_len, size_t sender, c
  *   9   one of them is a value that cannot come now, as above, on the record as those before it have left it
  * One fault anywhere in a frame, and nothing of it takes effect. A node that meets one should stop for good, as above.
  * Answers 0 or the code of the ending, as above: a frame ends one operation at the most. Writes the record, the first
- * *length bytes of out, *length, and, only where an update is done or a scan ended, the view. */
+ * *length bytes of out, *length, and, only where a scan ended, the view. */
 uint8_t snapshot_node_frame(uint8_t *state, size_t state_len, size_t sender, const uint8_t *frame, size_t frame_len,
                             uint8_t *out, size_t out_len, size_t *length, uint8_t view[SNAPSHOT_VIEW]);
 
@@ -310,10 +287,6 @@ uint8_t snapshot_fresh(size_t n, size_t f, uint8_t *cluster, size_t cluster_len)
 uint8_t snapshot_begin_update(uint8_t *cluster, size_t cluster_len, size_t node, const uint8_t report[SNAPSHOT_REPORT],
                               bool cut, size_t entries);
 
-/* Begins a proposal at a node: an update whose report is these flags and all that the node has proposed so far, spent
- * ones aside, as for one node. All else, the refusals among it, is as for an update. */
-uint8_t snapshot_propose(uint8_t *cluster, size_t cluster_len, size_t node, uint64_t flags, bool cut, size_t entries);
-
 /* Begins a scan at a node; all else is as for an update. */
 uint8_t snapshot_begin_scan(uint8_t *cluster, size_t cluster_len, size_t node, bool cut, size_t entries);
 
@@ -327,7 +300,7 @@ uint8_t snapshot_begin_scan(uint8_t *cluster, size_t cluster_len, size_t node, b
  *   10  the event is cut and f nodes are stopped
  *   11  a channel would hold more than 16 messages
  * Answers 0, SNAPSHOT_SPENT, or 100 to 103, an update done, or 110 to 113, a scan ended. Writes the cluster and, only
- * where an update is done or a scan ended, the view: n entries, then zeros. */
+ * where a scan ended, the view: n entries, then zeros. */
 uint8_t snapshot_deliver(uint8_t *cluster, size_t cluster_len, size_t from, size_t to, bool cut, size_t entries,
                          uint8_t view[SNAPSHOT_VIEW]);
 
@@ -371,14 +344,6 @@ uint8_t snapshot_write(size_t n, const uint64_t numbers[4], const uint8_t report
  *   7   a tag above its limit, or bytes that are not zero beside tag 0
  * Answers 0. Writes the figures: extensions busy, outside lines busy, calls waiting, wake-up calls set. */
 uint8_t snapshot_figures(size_t n, const uint8_t *view, size_t view_len, uint32_t figures[4]);
-
-/* The flags of a view of n entries: the union of the reports that it shows, each as one number, high byte first; 0
- * where no node has reported. Of the view of a proposal's ending it is the answer.
- *   12  view_len is not 16 n
- *   1   n is not 1 to 16
- *   7   a tag above its limit, or bytes that are not zero beside tag 0
- * Answers 0. Writes *flags. */
-uint8_t snapshot_flags(size_t n, const uint8_t *view, size_t view_len, uint64_t *flags);
 
 /* The desk's page of a view of n entries, as text: a line for each node, then one with == and the house figures. A line
  * has the node right in 2 columns, then each of the four counts right in 7 after one space; where there is no report,

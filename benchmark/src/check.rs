@@ -8,7 +8,7 @@ use crate::dice::Dice;
 use crate::plain::bytes::{put_word, LIMIT};
 use crate::plain::cluster::{block_at, channel_at, CAPACITY, SLOT};
 use crate::plain::record::{F, HEARD, LAST, MAXTAG, REQUEST, SIZE as RECORD, WAIT};
-use crate::side::{Event, Plain, Proved, Side, View, DONE};
+use crate::side::{Event, Plain, Proved, Side, View, SCAN};
 use crate::workload::waiting;
 
 /// Numbers near the limits.
@@ -148,7 +148,7 @@ impl Pair {
             Plain::apply(&mut self.plain, event, &mut self.views.1),
         );
         let past = 16 * self.proved.first().map_or(0, |&n| n as usize);
-        if told.0 >= DONE {
+        if told.0 >= SCAN {
             assert!(self.views.0[past..].iter().all(|&x| x == 0), "a report past n after {event:?}");
         }
         self.same(told, event)

@@ -31,7 +31,7 @@ impl Input {
     }
 }
 
-/// What is lent to a call beside the record: the output, its length, and the view of an operation that ends.
+/// What is lent to a call beside the record: the output, its length, and the view of a scan.
 #[derive(Clone, PartialEq)]
 pub struct Lent {
     pub out: Vec<u8>,

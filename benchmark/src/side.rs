@@ -24,8 +24,8 @@ pub type View = [u8; 256];
 /// The codes of an ending: spent, and the first for done and for a scan, to which the rule is added. A refusal is its
 /// own code, and 0 is for all else.
 const SPENT: u8 = 13;
-pub const DONE: u8 = 100;
-const SCAN: u8 = 110;
+const DONE: u8 = 100;
+pub const SCAN: u8 = 110;
 
 pub fn is_refusal(code: u8) -> bool {
     code != 0 && code != SPENT && code < DONE

@@ -13,10 +13,10 @@
  * brings from cabinet s, one message or some in a frame, goes in as 'm', s, length, frame. Go on reading while you
  * write, or the two may wait for each other. Both ends block: a read waits for input, a write for room.
  *
- * Endings with their views, and refusals of a begin, are told in a line each on standard error, after all messages of
- * the step are out. A frame that is refused was not sent so by a cabinet of this house, or a link has lost something.
- * Then the cabinet stops, which the others can bear, for to go on without a message is what they cannot. The record is
- * nowhere but in this process: a cabinet that has ended does not come back.
+ * Endings, and refusals of a begin, are told in a line each on standard error, after all messages of the step are out.
+ * A frame that is refused was not sent so by a cabinet of this house, or a link has lost something. Then the cabinet
+ * stops, which the others can bear, for to go on without a message is what they cannot. The record is nowhere but in
+ * this process: a cabinet that has ended does not come back.
  *
  * Exit status: 0 at the end of input, 1 for wrong arguments, 2 where input is broken (another command, an end within a
  * command, a frame too long, a frame that is refused, a failed read), 3 where output cannot be written.
@@ -162,10 +162,12 @@ static void messages(void)
     send_output(head[0]);
     if (code == SNAPSHOT_SPENT)
         fprintf(stderr, "spent: no tag is left for an update\n");
-    if (snapshot_has_view(code)) {
-        fputs(snapshot_is_done(code) ? "done" : "scan", stderr);
+    if (snapshot_is_done(code))
+        fprintf(stderr, "done\n");
+    if (snapshot_is_scan(code)) {
+        fprintf(stderr, "scan");
         print_view(stderr, n, view);
-        fputs("\n", stderr);
+        fprintf(stderr, "\n");
     }
 }
 

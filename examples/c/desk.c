@@ -3,8 +3,7 @@
  *
  * A scan line is one whose second word is `scan`: EVENT scan NODE R R .., one space between words, where EVENT and NODE
  * are decimal numbers and each R, for nodes 1 to n, is a report in 16 hexadecimal digits with small letters, or - where
- * there is none. Every other line is passed over, whatever its bytes and its length, that of an update with its view
- * among them.
+ * there is none. Every other line is passed over, whatever its bytes and its length.
  *
  * Exit status: 0 with the page, 1 where there was no scan, 2 where input is broken (a scan line of another form, or one
  * that input ended in, a failed read), 3 where output cannot be written. With 1 and 2 nothing is printed.

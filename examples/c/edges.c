@@ -22,9 +22,9 @@ struct region {
     uint8_t before[ROOM]; /* what it held before the call */
 };
 
-static struct region record, out, length, view, bytes, report, route, numbers, figures, flags, cluster;
-static struct region *const regions[] = {&record, &out,     &length,  &view,  &bytes,  &report,
-                                         &route,  &numbers, &figures, &flags, &cluster};
+static struct region record, out, length, view, bytes, report, route, numbers, figures, cluster;
+static struct region *const regions[] = {&record, &out,   &length,  &view,    &bytes,
+                                         &report, &route, &numbers, &figures, &cluster};
 
 #define REGIONS (sizeof regions / sizeof *regions)
 
@@ -34,13 +34,11 @@ static uint8_t node[SNAPSHOT_RECORD], link[SNAPSHOT_FRAME_OUTPUT], house[SNAPSHO
 static size_t waiting; /* bytes on the link */
 static size_t front;   /* the length of its first message */
 
-enum { NODE_FRESH, NODE_UPDATE, NODE_PROPOSE, NODE_SCAN, NODE_MESSAGE, NODE_FRAME };
-enum { NEXT = NODE_FRAME + 1, READ, WRITE, FIGURES, FLAGS, PAGE };
-enum { FRESH = PAGE + 1, UPDATE, PROPOSE, SCAN, DELIVER, STOP };
+enum { NODE_FRESH, NODE_UPDATE, NODE_SCAN, NODE_MESSAGE, NODE_FRAME, NEXT, READ, WRITE, FIGURES, PAGE };
+enum { FRESH = PAGE + 1, UPDATE, SCAN, DELIVER, STOP };
 
-static const char *const names[] = {"node fresh", "node update", "node propose", "node scan", "node message",
-                                    "node frame", "next", "read", "write", "figures", "flags", "page",
-                                    "fresh", "update", "propose", "scan", "deliver", "stop"};
+static const char *const names[] = {"node fresh", "node update", "node scan", "node message", "node frame", "next",
+                                    "read", "write", "figures", "page", "fresh", "update", "scan", "deliver", "stop"};
 
 #define CALLS (sizeof names / sizeof *names)
 
@@ -157,16 +155,15 @@ static void call_node_fresh(void)
     }
 }
 
-static void call_node_begin(size_t call)
+static void call_node_begin(bool scan)
 {
     size_t size = about_length(SNAPSHOT_RECORD), room = about_length(SNAPSHOT_OUTPUT);
     uint8_t *r = lend(&record, size, node, sizeof node), *o = lend_any(&out, room);
     uint8_t *posted = lend_any(&report, SNAPSHOT_REPORT);
     size_t *count = lend_any(&length, sizeof *count);
-    uint8_t code = call == NODE_SCAN      ? snapshot_node_begin_scan(r, size, o, room, count)
-                   : call == NODE_PROPOSE ? snapshot_node_propose(r, size, below(UINT8_MAX), o, room, count)
-                                          : snapshot_node_begin_update(r, size, posted, o, room, count);
-    if (accepted(call, code)) {
+    uint8_t code = scan ? snapshot_node_begin_scan(r, size, o, room, count)
+                        : snapshot_node_begin_update(r, size, posted, o, room, count);
+    if (accepted(scan ? NODE_SCAN : NODE_UPDATE, code)) {
         memcpy(node, record.at, sizeof node);
         kept(&report, 0);
         send_output();
@@ -180,24 +177,14 @@ static void take(size_t count)
     memmove(link, link + count, waiting);
 }
 
-/* Looks at the view that a call has left: as it was, or that of so many nodes, and zeros. */
-static void look_at_view(uint8_t code, size_t nodes)
-{
-    if (!snapshot_has_view(code))
-        kept(&view, 0);
-    for (size_t i = SNAPSHOT_ENTRY * nodes; snapshot_has_view(code) && i < SNAPSHOT_VIEW; i++) {
-        if (view.at[i] != 0)
-            fail("a view has more nodes than there are");
-    }
-}
-
 /* Looks at what a call has left that hands messages over. */
 static void look_at_message(size_t call, uint8_t code)
 {
     if (accepted(call, code)) {
         memcpy(node, record.at, sizeof node);
         kept(&bytes, 0);
-        look_at_view(code, n);
+        if (!snapshot_is_scan(code))
+            kept(&view, 0);
         send_output();
     }
 }
@@ -300,15 +287,6 @@ static void call_figures(void)
         kept(&bytes, 0);
 }
 
-static void call_flags(void)
-{
-    size_t right = any_nodes(), nodes = about(right), given = 0;
-    uint8_t *shown = lend_view(right, &given);
-    uint64_t *all = lend_any(&flags, sizeof *all);
-    if (accepted(FLAGS, snapshot_flags(nodes, shown, given, all)))
-        kept(&bytes, 0);
-}
-
 /* A page with just its bytes lent, or a line more. */
 static void call_page(void)
 {
@@ -333,14 +311,14 @@ static void call_cluster(size_t call)
     uint8_t *shown = lend_any(&view, SNAPSHOT_VIEW);
     uint8_t code = call == FRESH     ? snapshot_fresh(nodes, f, b, size)
                    : call == UPDATE  ? snapshot_begin_update(b, size, c, posted, cut, m)
-                   : call == PROPOSE ? snapshot_propose(b, size, c, below(UINT8_MAX), cut, m)
                    : call == SCAN    ? snapshot_begin_scan(b, size, c, cut, m)
                    : call == DELIVER ? snapshot_deliver(b, size, a, c, cut, m, shown)
                                      : snapshot_stop(b, size, c);
     if (accepted(call, code)) {
         memcpy(house, cluster.at, sizeof house);
         kept(&report, 0);
-        look_at_view(code, NODES);
+        if (!snapshot_is_scan(code))
+            kept(&view, 0);
     }
 }
 
@@ -350,7 +328,7 @@ static void call_some(void)
     if (some < 5 || (some < 200 && waiting == 0))
         call_node_fresh();
     else if (some < 20 || (some < 700 && waiting == 0))
-        call_node_begin(NODE_UPDATE + below(3));
+        call_node_begin(below(2) == 0);
     else if (some < 80)
         call_node_frame();
     else if (some < 700)
@@ -361,16 +339,14 @@ static void call_some(void)
         call_read();
     else if (some < 850)
         call_write();
-    else if (some < 865)
+    else if (some < 875)
         call_figures();
-    else if (some < 880)
-        call_flags();
     else if (some < 900)
         call_page();
     else if (some < 902)
         call_cluster(below(2) == 0 ? FRESH : STOP);
     else
-        call_cluster(some < 908 ? UPDATE : some < 914 ? PROPOSE : some < 920 ? SCAN : DELIVER);
+        call_cluster(some < 910 ? UPDATE : some < 918 ? SCAN : DELIVER);
 }
 
 static void take_back(void)

@@ -19,7 +19,6 @@ struct lent {
     size_t length; /* of the messages in out */
 };
 
-static const uint8_t report[SNAPSHOT_REPORT] = {0, 1, 0, 2, 0, 3, 0, 4}; /* that of every value */
 static struct lent node;
 static uint8_t frame[2 * SNAPSHOT_FRAME]; /* has room for frames that are too long */
 static size_t frame_length;
@@ -46,7 +45,7 @@ static void start(void)
 /* Puts the message of these numbers at the end of the frame. */
 static void add(uint64_t kind, uint64_t request, uint64_t writer, uint64_t tag)
 {
-    static const uint8_t no_reports[SNAPSHOT_ENTRY * NODES];
+    static const uint8_t report[SNAPSHOT_REPORT] = {0, 1, 0, 2, 0, 3, 0, 4}, no_reports[SNAPSHOT_ENTRY * NODES];
     const uint64_t numbers[4] = {kind, request, writer, tag};
     size_t count = 0;
     uint8_t code = snapshot_write(NODES, numbers, report, no_reports, sizeof no_reports, frame + frame_length,
@@ -110,16 +109,6 @@ static uint8_t show(const char *what, size_t sender)
     uint8_t code = hand_over(sender, sizeof node.record, sizeof node.out);
     tell(what, code);
     return code;
-}
-
-/* The same of a frame from OTHER that ends the open operation: tells its view too. */
-static void show_view(const char *what)
-{
-    uint8_t code = show(what, OTHER);
-    expect("nothing has ended", snapshot_has_view(code));
-    printf("%s %d", snapshot_is_done(code) ? "done" : "scan", OWN);
-    print_view(stdout, NODES, node.view);
-    printf("\n");
 }
 
 static void show_one_message(void)
@@ -210,7 +199,7 @@ static void show_values(void)
 
 /* A scan that is ended by the second message of four. What comes after it is handled like anything else; with a fault
  * after it, it has not ended. */
-static void show_scan(void)
+static void show_ending(void)
 {
     start();
     add_value(OTHER, 1);
@@ -238,46 +227,11 @@ static void show_scan(void)
     show("the other answer, and an older value", OTHER);
     frame_length = whole;
     add(SNAPSHOT_KIND_READ, 2, 0, 0);
-    show_view("the other answer among others");
-}
-
-/* An update that is ended so: its view is in what was lent, as a scan's is. */
-static void show_done(void)
-{
-    start();
-    expect("begin", snapshot_node_begin_update(node.record, sizeof node.record, report, node.out, sizeof node.out,
-                                               &node.length) == SNAPSHOT_TAKEN);
-    add(SNAPSHOT_KIND_READ, 1, 0, 0);
-    add(SNAPSHOT_KIND_READ_ANSWER, 1, 0, 0);
-    show("an update's read, and an answer", OWN);
-    frame_length = 0;
-    add(SNAPSHOT_KIND_READ_ANSWER, 1, 0, 0);
-    show("the other answer", OTHER);
-    frame_length = 0;
-    add_value(OWN, 1);
-    add(SNAPSHOT_KIND_WRITE, 2, 0, 0);
-    add_value(OWN, 1);
-    add(SNAPSHOT_KIND_WRITE_ANSWER, 2, 0, 0);
-    show("its value and write, and an answer", OWN);
-    frame_length = 0;
-    add_value(OWN, 1);
-    add(SNAPSHOT_KIND_WRITE_ANSWER, 2, 0, 0);
-    show("its value back, and the other answer", OTHER);
-    frame_length = 0;
-    add(SNAPSHOT_KIND_GOOD, 0, 0, 0);
-    add(SNAPSHOT_KIND_WRITE, 3, 0, 1);
-    add(SNAPSHOT_KIND_ECHO, 0, 0, 1);
-    add(SNAPSHOT_KIND_WRITE_ANSWER, 3, 0, 1);
-    show("its next write, and an answer to it", OWN);
-    frame_length = 0;
-    add(SNAPSHOT_KIND_READ, 1, 0, 0);
-    add(SNAPSHOT_KIND_WRITE_ANSWER, 3, 0, 1);
-    add_value(OTHER, 2);
-    add(SNAPSHOT_KIND_READ, 2, 0, 0);
-    frame_length--;
-    show("the other answer, and a broken read", OTHER);
-    frame_length++;
-    show_view("the other answer among others");
+    uint8_t code = show("the other answer among others", OTHER);
+    expect("no scan has ended", snapshot_is_scan(code));
+    printf("scan %d", OWN);
+    print_view(stdout, NODES, node.view);
+    printf("\n");
 }
 
 /* The refusals in their order, by every set of faults: the first is answered. */
@@ -320,8 +274,7 @@ int main(void)
     show_hundred_reads();
     show_lengths();
     show_values();
-    show_scan();
-    show_done();
+    show_ending();
     show_order();
     return 0;
 }

@@ -1,7 +1,7 @@
 /* A house of three cabinets in one program, each a node with a record of its own, and the links between them as queues:
  * what links owe (include/snapshot.h), in code. Nodes 1 and 2 update; when that is done, node 3 scans. Which link hands
  * over next is random, from a fixed seed, and so is how many of its oldest messages it packs in a frame. It prints the
- * endings with their views, and the house figures. */
+ * endings and the house figures. */
 #include "print.h"
 #include "snapshot.h"
 #include <stdio.h>
@@ -97,8 +97,10 @@ static void hand_over(size_t from, size_t to)
         snapshot_node_frame(records[to], SNAPSHOT_RECORD, from, frame, packed, out, sizeof out, &length, view);
     expect_taken("frame", code);
     send_output(to, from);
-    if (snapshot_has_view(code)) {
-        printf("%s %zu", snapshot_is_done(code) ? "done" : "scan", to);
+    if (snapshot_is_done(code))
+        printf("done %zu\n", to);
+    if (snapshot_is_scan(code)) {
+        printf("scan %zu", to);
         print_view(stdout, NODES, view);
         printf("\n");
     }

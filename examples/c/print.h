@@ -1,4 +1,4 @@
-/* What the examples print of a view. */
+/* What the examples print of a scan's view. */
 #ifndef PRINT_H
 #define PRINT_H
 

@@ -17,12 +17,14 @@ static void tell(uint8_t code)
     events++;
     if (code == SNAPSHOT_TAKEN)
         return;
-    if (snapshot_is_refusal(code))
+    if (snapshot_is_refusal(code)) {
         printf("%d no %d", events, code);
-    else
-        printf("%d %s 1", events, snapshot_is_scan(code) ? "scan" : snapshot_is_done(code) ? "done" : "spent");
-    if (snapshot_has_view(code))
+    } else if (snapshot_is_scan(code)) {
+        printf("%d scan 1", events);
         print_view(stdout, NODES, view);
+    } else {
+        printf("%d %s 1", events, snapshot_is_done(code) ? "done" : "spent");
+    }
     printf("\n");
 }
 

@@ -1,8 +1,8 @@
 /* How much stack each call takes, held against what is stated of it. Each call runs on a stack of its own that was
- * filled with a pattern, and the lowest byte that it changed is looked for. The calls of events run through an update,
- * a proposal and a scan, to the end of each: of one node, of sixteen, and of a cluster of sixteen; and into refusals.
- * The most that any of them took is printed beside what is stated. This is measured, and no proved bound. Exit status 1
- * where a call took more than is stated, or answered otherwise than it should. */
+ * filled with a pattern, and the lowest byte that it changed is looked for. The calls of events run through an update
+ * and a scan, to the end of both: of one node, of sixteen, and of a cluster of sixteen; and into refusals. The most
+ * that any of them took is printed beside what is stated. This is measured, and no proved bound. Exit status 1 where a
+ * call took more than is stated, or answered otherwise than it should. */
 #define _XOPEN_SOURCE 700
 #include "snapshot.h"
 #include <stdio.h>
@@ -29,7 +29,6 @@ static uint8_t route;
 static uint64_t numbers[4];
 static uint8_t read_report[SNAPSHOT_REPORT];
 static uint32_t house_figures[4];
-static uint64_t shown_flags;
 
 static uint8_t code; /* what the last call answered */
 
@@ -40,10 +39,6 @@ static void node_fresh(void) { code = snapshot_node_fresh(n, f, own, records[own
 static void node_update(void)
 {
     code = snapshot_node_begin_update(records[own - 1], SNAPSHOT_RECORD, report, out, sizeof out, &length);
-}
-static void node_propose(void)
-{
-    code = snapshot_node_propose(records[own - 1], SNAPSHOT_RECORD, 1, out, sizeof out, &length);
 }
 static void node_scan(void)
 {
@@ -62,7 +57,6 @@ static void node_frame(void)
 static void size(void) { code = snapshot_size(SNAPSHOT_NODES) != sizeof cluster; }
 static void fresh(void) { code = snapshot_fresh(SNAPSHOT_NODES, MOST_FAULTS, cluster, sizeof cluster); }
 static void update(void) { code = snapshot_begin_update(cluster, sizeof cluster, 1, report, false, 0); }
-static void propose(void) { code = snapshot_propose(cluster, sizeof cluster, 1, 1, false, 0); }
 static void scan(void) { code = snapshot_begin_scan(cluster, sizeof cluster, 2, false, 0); }
 static void deliver(void) { code = snapshot_deliver(cluster, sizeof cluster, from, to, false, 0, view); }
 static void halt(void) { code = snapshot_stop(cluster, sizeof cluster, 3); }
@@ -73,7 +67,6 @@ static void write_one(void)
 }
 static void next(void) { code = snapshot_next(SNAPSHOT_NODES, out, length, &message_length, &route); }
 static void figures(void) { code = snapshot_figures(SNAPSHOT_NODES, view, sizeof view, house_figures); }
-static void flags(void) { code = snapshot_flags(SNAPSHOT_NODES, view, sizeof view, &shown_flags); }
 static void page(void) { code = snapshot_page(SNAPSHOT_NODES, view, sizeof view, out, sizeof out, &length); }
 
 /* The calls, what is stated of each in snapshot.h and README.md, and the most stack that each has taken. */
@@ -86,14 +79,12 @@ static struct call {
     {"snapshot_node_size", node_size, 200, 0},
     {"snapshot_node_fresh", node_fresh, 200, 0},
     {"snapshot_node_begin_update", node_update, 500, 0},
-    {"snapshot_node_propose", node_propose, 500, 0},
     {"snapshot_node_begin_scan", node_scan, 500, 0},
     {"snapshot_node_message", node_message, 4200, 0},
     {"snapshot_node_frame", node_frame, 4200, 0},
     {"snapshot_size", size, 200, 0},
     {"snapshot_fresh", fresh, 2200, 0},
     {"snapshot_begin_update", update, 3300, 0},
-    {"snapshot_propose", propose, 3300, 0},
     {"snapshot_begin_scan", scan, 3300, 0},
     {"snapshot_deliver", deliver, 7700, 0},
     {"snapshot_stop", halt, 400, 0},
@@ -101,7 +92,6 @@ static struct call {
     {"snapshot_write", write_one, 200, 0},
     {"snapshot_next", next, 200, 0},
     {"snapshot_figures", figures, 200, 0},
-    {"snapshot_flags", flags, 200, 0},
     {"snapshot_page", page, 200, 0},
 };
 
@@ -167,7 +157,7 @@ static void expect_refusal(void (*run)(void), uint8_t refusal)
         fail();
 }
 
-/* What the nodes have sent, oldest first: more than an update, a proposal or a scan of sixteen sends. */
+/* What the nodes have sent, oldest first: more than an update or a scan of sixteen sends. */
 static struct {
     size_t from, to, length;
     uint8_t bytes[SNAPSHOT_LONGEST];
@@ -219,7 +209,6 @@ static void call_nodes(size_t nodes, void (*hand_over)(void))
     for (own = 1; own <= n; own++)
         expect(node_fresh);
     exchange(node_update, hand_over);
-    exchange(node_propose, hand_over);
     exchange(node_scan, hand_over);
 }
 
@@ -265,9 +254,6 @@ static void call_all(void)
     expect(update);
     expect_refusal(update, SNAPSHOT_REFUSED_OPEN);
     deliver_all();
-    expect(propose);
-    expect_refusal(propose, SNAPSHOT_REFUSED_OPEN);
-    deliver_all();
     expect(scan);
     expect_refusal(scan, SNAPSHOT_REFUSED_OPEN);
     deliver_all();
@@ -276,12 +262,11 @@ static void call_all(void)
 
     /* A good message of sixteen nodes, with the view of the scan. */
     numbers[0] = SNAPSHOT_KIND_GOOD;
-    numbers[3] = 2; /* node 1 has updated and proposed */
+    numbers[3] = 1;
     expect(write_one);
     expect(read_one);
     expect(next);
     expect(figures);
-    expect(flags);
     expect(page);
 }
 

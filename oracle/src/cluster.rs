@@ -3,8 +3,6 @@
 //!
 //! An event is accepted or refused. A refused one leaves everything as it was.
 
-#[cfg(test)]
-use crate::message::Tag;
 use crate::message::{Message, NodeId};
 use crate::node::{Ending, Node, Operation, Step, To};
 use crate::record::{BAD_NUMBER, NODES};
@@ -106,16 +104,6 @@ impl Cluster {
             stopped: vec![false; n + 1],
             channels: vec![vec![VecDeque::new(); n + 1]; n + 1],
         })
-    }
-
-    /// A cluster without a report, whose nodes have come to these max_tags.
-    #[cfg(test)]
-    pub(crate) fn old(n: usize, f: usize, max_tags: &[Tag]) -> Result<Cluster, Refusal> {
-        let mut cluster = Cluster::fresh(n, f)?;
-        for (id, &max_tag) in (1..=n).zip(max_tags) {
-            cluster.nodes[id] = Node::old(n, f, id, max_tag, 0);
-        }
-        Ok(cluster)
     }
 
     pub fn n(&self) -> usize {

@@ -1,6 +1,5 @@
 //! The oracle: Algorithm 1 with document 01's amendments over sets that never forget, run from session text; and
-//! beside it a node's bounded record, its messages in bytes, what makes a lent cluster unusable, the desk's page, and
-//! houses used for paging groups.
+//! beside it a node's bounded record, its messages in bytes, what makes a lent cluster unusable, and the desk's page.
 //! It shares no code with the proved crates, so that agreement with them says something.
 
 pub mod cluster;
@@ -13,7 +12,6 @@ pub mod node;
 mod oddities;
 pub mod order;
 pub mod page;
-pub mod paging;
 pub mod picture;
 pub mod random;
 pub mod record;

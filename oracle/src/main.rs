@@ -1,7 +1,7 @@
 //! The oracle as a program.
 
 use oracle::session::Played;
-use oracle::{feed, order, page, paging, picture, random, session, stats, text};
+use oracle::{feed, order, page, picture, random, session, stats, text};
 use std::env;
 use std::io::{self, BufWriter, Read, Write};
 use std::process::{Command, ExitCode};
@@ -13,10 +13,6 @@ const USAGE: &str = "usage:
   oracle picture                  < session   prints a picture of a session, as SVG
   oracle page                     < session   plays a session and prints the page of its last scan that ended
   oracle random SEED EVENTS [N]               prints a random session
-  oracle paging run               < session   plays a session of flags and prints its answers
-  oracle paging check             < session   plays a session of flags and tries on it what is promised of answers
-  oracle paging picture           < session   prints a picture of a session of flags, as SVG
-  oracle paging random SEED EVENTS [N]        prints a random session of flags
   oracle feed SIZE.. -- PROGRAM   < session   runs a program whose reads get pieces of these sizes, in turn";
 
 fn main() -> ExitCode {
@@ -28,13 +24,8 @@ fn main() -> ExitCode {
         ["stats"] => stats(),
         ["picture"] => picture(),
         ["page"] => page(),
-        ["random", seed, events] => random_session(random::session, seed, events, None),
-        ["random", seed, events, n] => random_session(random::session, seed, events, Some(n)),
-        ["paging", "run"] => paging::session::run(io::stdin().lock(), BufWriter::new(io::stdout().lock())),
-        ["paging", "check"] => check_paging(),
-        ["paging", "picture"] => picture_paging(),
-        ["paging", "random", seed, events] => random_session(paging::random::session, seed, events, None),
-        ["paging", "random", seed, events, n] => random_session(paging::random::session, seed, events, Some(n)),
+        ["random", seed, events] => random_session(seed, events, None),
+        ["random", seed, events, n] => random_session(seed, events, Some(n)),
         ["feed", ref sizes @ .., "--", program] => feed_program(sizes, program),
         _ => Err(io::Error::new(io::ErrorKind::InvalidInput, USAGE)),
     };
@@ -73,7 +64,7 @@ fn whole() -> io::Result<(usize, Vec<Played>)> {
 fn check() -> io::Result<()> {
     let (n, all) = whole()?;
     let passed = order::check(n, &all).map_err(io::Error::other)?;
-    writeln!(io::stdout().lock(), "one order: {} items of {} operations in the line", passed.items, passed.operations)
+    writeln!(io::stdout().lock(), "one order: {} of {} operations in the line", passed.in_line, passed.operations)
 }
 
 fn picture() -> io::Result<()> {
@@ -96,10 +87,7 @@ fn stats() -> io::Result<()> {
     write!(io::stdout().lock(), "{stats}")
 }
 
-/// The text of a random session, from a seed, with so many events and, where it is given, n.
-type Maker = fn(u64, usize, Option<usize>) -> Vec<u8>;
-
-fn random_session(make: Maker, seed: &str, events: &str, n: Option<&str>) -> io::Result<()> {
+fn random_session(seed: &str, events: &str, n: Option<&str>) -> io::Result<()> {
     let bad = |_| io::Error::new(io::ErrorKind::InvalidInput, USAGE);
     let seed: u64 = seed.parse().map_err(bad)?;
     let events: usize = events.parse().map_err(bad)?;
@@ -107,23 +95,7 @@ fn random_session(make: Maker, seed: &str, events: &str, n: Option<&str>) -> io:
     if n.is_some_and(|n| !(1..=5).contains(&n)) {
         return Err(io::Error::new(io::ErrorKind::InvalidInput, "N is 1 to 5"));
     }
-    io::stdout().lock().write_all(&make(seed, events, n))
-}
-
-/// What is promised of answers, and demand 3.
-fn check_paging() -> io::Result<()> {
-    let run = paging::session::whole(io::stdin().lock())?;
-    let calls = paging::agreement::calls(&run).map_err(io::Error::other)?;
-    paging::agreement::check(&calls).map_err(io::Error::other)?;
-    order::check(run.n, &run.played).map_err(io::Error::other)?;
-    let answers = paging::agreement::answers(&calls).count();
-    writeln!(io::stdout().lock(), "agreement: {answers} of {} proposals and scans answered", calls.len())
-}
-
-fn picture_paging() -> io::Result<()> {
-    let run = paging::session::whole(io::stdin().lock())?;
-    let svg = paging::picture::svg(&run).map_err(io::Error::other)?;
-    io::stdout().lock().write_all(svg.as_bytes())
+    io::stdout().lock().write_all(&random::session(seed, events, n))
 }
 
 fn feed_program(sizes: &[&str], program: &str) -> io::Result<()> {

@@ -36,20 +36,11 @@ pub enum Rule {
 /// How an operation ends.
 #[derive(Clone, Debug, PartialEq, Eq)]
 pub enum Ending {
-    /// An update has a view too (line 9), which the client is given, as document 02 has it.
+    /// An update has a view too (line 9), which the client is not given.
     Done(Rule, View),
     Scan(Rule, View),
-    /// Amendment 5: the update found no tag left. It has no view.
+    /// Amendment 5: the update found no tag left.
     Spent,
-}
-
-impl Ending {
-    pub fn view(&self) -> Option<&View> {
-        match self {
-            Ending::Done(_, view) | Ending::Scan(_, view) => Some(view),
-            Ending::Spent => None,
-        }
-    }
 }
 
 /// Who gets a message.

@@ -1,17 +1,12 @@
 //! Demand 3 of document 01, checked on one session from what is seen from outside: events, answers, entries let out.
-//! As document 02 has it, an update that is done counts twice in the single order: as the update and as a look.
 //!
-//! A single line is built, and then its conditions are tried on it one by one, so a slip in the building cannot hide.
-
-mod line;
-mod quiet;
+//! A single line of operations is built, and then the four conditions are tried on it one by one, so a slip in the
+//! building cannot hide.
 
 use crate::cluster::Event;
 use crate::message::{Message, NodeId, Report, Tag, View};
 use crate::node::{Ending, Operation};
 use crate::session::Played;
-pub use line::{check_line, line, Half, Item};
-pub use quiet::check_quiet;
 
 /// An accepted begin and what became of it.
 #[derive(Debug)]
@@ -27,9 +22,12 @@ pub struct Op {
 }
 
 impl Op {
-    /// What it shows: a finished scan, or an update that is done.
+    /// What a finished scan shows.
     pub fn view(&self) -> Option<&View> {
-        self.end.as_ref().and_then(|(_, ending)| ending.view())
+        match &self.end {
+            Some((_, Ending::Scan(_, view))) => Some(view),
+            _ => None,
+        }
     }
 
     fn ended_before(&self, other: &Op) -> bool {
@@ -44,19 +42,17 @@ impl Op {
         }
     }
 
-    /// What it shows of a node.
-    fn entry(&self, node: NodeId) -> Option<(Tag, Report)> {
-        self.view()?.get(node - 1).copied().flatten()
+    fn shown_by(&self, scan: &Op) -> bool {
+        match (scan.view(), self.written()) {
+            (Some(view), Some(written)) => view[self.node - 1] == Some(written),
+            _ => false,
+        }
     }
 
-    fn shown_by(&self, look: &Op) -> bool {
-        self.written().is_some_and(|written| look.entry(self.node) == Some(written))
-    }
-
-    /// Whether the other's view has this update or a later one of its node.
-    fn held_by(&self, look: &Op) -> bool {
-        match (look.entry(self.node), self.tag) {
-            (Some(shown), Some(tag)) => shown.0 >= tag,
+    /// Whether the scan's view has this update or a later one of its node.
+    fn held_by(&self, scan: &Op) -> bool {
+        match (scan.view(), self.tag) {
+            (Some(view), Some(tag)) => view[self.node - 1].is_some_and(|shown| shown.0 >= tag),
             _ => false,
         }
     }
@@ -123,11 +119,112 @@ fn tag(op: &Op, played: &[Played]) -> Result<Option<Tag>, String> {
     Ok(tag)
 }
 
+/// What the line must hold: finished scans, finished updates that are not spent, and unfinished updates that a finished
+/// scan shows.
+fn belongs(op: &Op, ops: &[Op]) -> bool {
+    match &op.end {
+        Some((_, Ending::Spent)) => false,
+        Some(_) => true,
+        None => ops.iter().any(|scan| op.shown_by(scan)),
+    }
+}
+
+/// The sum of a view's tags, wide enough for tags near their limit. Views that grow have growing sums.
+fn size(view: &View) -> u128 {
+    view.iter().flatten().map(|shown| u128::from(shown.0)).sum()
+}
+
+/// The single line, as places in the list of operations. Scans stand by the size of their views, equal ones by their
+/// ends; an update stands right after the largest scan that does not hold it, and of these by tag.
+pub fn line(ops: &[Op]) -> Vec<usize> {
+    let key = |&place: &usize| {
+        let op = &ops[place];
+        match (op.operation, op.view()) {
+            (Operation::Scan, Some(view)) => (size(view), 1, op.end.as_ref().map_or(0, |end| end.0 as Tag)),
+            _ => {
+                let missing = ops.iter().filter(|scan| !op.held_by(scan)).filter_map(|scan| scan.view());
+                (missing.map(|view| 1 + size(view)).max().unwrap_or(0), 0, op.tag.unwrap_or(0))
+            }
+        }
+    };
+    let mut line: Vec<usize> = (0..ops.len()).filter(|&place| belongs(&ops[place], ops)).collect();
+    line.sort_by_key(key);
+    line
+}
+
+/// The four conditions on a line of operations of n nodes.
+pub fn check_line(n: usize, ops: &[Op], line: &[usize]) -> Result<(), String> {
+    let begin = |place: usize| ops[place].begin;
+    for (place, op) in ops.iter().enumerate() {
+        let times = line.iter().filter(|&&other| other == place).count();
+        let owed = usize::from(belongs(op, ops));
+        if times != owed {
+            return Err(format!("the operation of event {} stands {times} times in the line, not {owed}", op.begin));
+        }
+    }
+    for (k, &place) in line.iter().enumerate() {
+        let Some(view) = ops[place].view() else { continue };
+        for node in 1..=n {
+            let earlier = line[..k].iter().rev().map(|&other| &ops[other]);
+            let last = earlier.into_iter().find(|op| op.node == node && op.operation != Operation::Scan);
+            if view[node - 1] != last.and_then(Op::written) {
+                let of = last.map_or("none".to_string(), |op| format!("that of event {}", op.begin));
+                return Err(format!(
+                    "the scan of event {} does not show node {node}'s last update before it: {of}",
+                    begin(place)
+                ));
+            }
+        }
+    }
+    for (k, &later) in line.iter().enumerate() {
+        for &earlier in &line[..k] {
+            if ops[later].ended_before(&ops[earlier]) {
+                return Err(format!(
+                    "the operation of event {} ended before that of event {} began and stands after it",
+                    begin(later),
+                    begin(earlier)
+                ));
+            }
+        }
+    }
+    Ok(())
+}
+
+/// Demand 3's second half, after every event: while no message waits for a standing node, no operation is open.
+pub fn check_quiet(n: usize, played: &[Played]) -> Result<(), String> {
+    let mut stands = vec![true; n + 1];
+    let mut open: Vec<Option<usize>> = vec![None; n + 1];
+    let mut waiting = vec![vec![0usize; n + 1]; n + 1];
+    for Played { number, event, outcome } in played {
+        let (Some(event), Ok(accepted)) = (event, outcome) else { continue };
+        let node = event.node();
+        match *event {
+            Event::Begin { .. } => open[node] = Some(*number),
+            Event::Deliver { from, .. } => waiting[from][node] -= 1,
+            Event::Stop { .. } => (),
+        }
+        for (to, _) in &accepted.let_out {
+            waiting[node][*to] += 1;
+        }
+        if accepted.ending.is_some() {
+            open[node] = None;
+        }
+        if event.stops() {
+            stands[node] = false;
+        }
+        let quiet = (1..=n).filter(|&to| stands[to]).all(|to| (1..=n).all(|from| waiting[from][to] == 0));
+        if let Some(left) = (1..=n).find(|&other| quiet && stands[other] && open[other].is_some()) {
+            let begin = open[left].unwrap_or(0);
+            return Err(format!("after event {number} no message waits, and the operation of event {begin} is open"));
+        }
+    }
+    Ok(())
+}
+
 /// What a session that passes has.
 pub struct Passed {
     pub operations: usize,
-    /// How many items the line has.
-    pub items: usize,
+    pub in_line: usize,
 }
 
 /// Demand 3 of a whole session of n nodes.
@@ -136,5 +233,5 @@ pub fn check(n: usize, played: &[Played]) -> Result<Passed, String> {
     let line = line(&ops);
     check_line(n, &ops, &line)?;
     check_quiet(n, played)?;
-    Ok(Passed { operations: ops.len(), items: line.len() })
+    Ok(Passed { operations: ops.len(), in_line: line.len() })
 }

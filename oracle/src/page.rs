@@ -11,16 +11,12 @@ pub const SHORT_BUFFER: Refusal = Refusal(15);
 /// The page of the view that the bytes are, among n nodes, at the front of a buffer, and its length. A refusal writes
 /// nothing.
 pub fn write(n: usize, view: &[u8], out: &mut [u8]) -> Result<usize, Refusal> {
-    let page = page(&read(n, view)?);
-    out.get_mut(..page.len()).ok_or(SHORT_BUFFER)?.copy_from_slice(page.as_bytes());
-    Ok(page.len())
-}
-
-/// The view that the bytes are, among n nodes, with the refusals of the figures.
-pub fn read(n: usize, view: &[u8]) -> Result<View, Refusal> {
     demand(n.checked_mul(wire::ENTRY) == Some(view.len()), BAD_LENGTH)?;
     demand((1..=NODES).contains(&n), BAD_NUMBER)?;
-    wire::view(n, LIMIT, view).ok_or(NOT_OF_THE_LAYOUT)
+    let view = wire::view(n, LIMIT, view).ok_or(NOT_OF_THE_LAYOUT)?;
+    let page = page(&view);
+    out.get_mut(..page.len()).ok_or(SHORT_BUFFER)?.copy_from_slice(page.as_bytes());
+    Ok(page.len())
 }
 
 /// The page of a view.

@@ -105,12 +105,6 @@ impl Record {
         Ok(step)
     }
 
-    /// Begins a proposal of these flags: an update with them and with the own report, as far as one has come.
-    pub fn propose(&mut self, flags: Report, output: usize) -> Result<Step, Refusal> {
-        let own = self.last.get(&self.own).map_or(0, |(_, report)| *report);
-        self.begin(Operation::Update(own | flags), output)
-    }
-
     /// Handles a message, with an output buffer of this many bytes. A refused message changes nothing.
     pub fn message(&mut self, sender: NodeId, bytes: &[u8], output: usize) -> Result<Step, Refusal> {
         demand(output >= LEAST_OUTPUT, BAD_LENGTH)?;

@@ -1,17 +1,14 @@
 //! What the oracle is trusted for, told as small stories.
 
-mod agreement;
 mod faults;
 mod frame;
-mod order;
 mod page;
-mod paging;
 mod record;
 
 use crate::cluster::{Event, Extent, Refusal};
 use crate::message::{Message, Value, LIMIT};
-use crate::node::{Ending, Node, Operation, To};
-use crate::order::check;
+use crate::node::{Ending, Node, Operation, Rule, To};
+use crate::order::{check, check_line, line, operations};
 use crate::picture::{self, Scene};
 use crate::random;
 use crate::session::{play, Played};
@@ -40,8 +37,7 @@ fn printed(session: &[u8]) -> String {
 #[test]
 fn document_01_session() {
     let session = format!("1 0\nu 1 0001000200030004\n{}s 1\n{}", "d 1 1\n".repeat(11), "d 1 1\n".repeat(6));
-    let answers = "11 done 1 0001000200030004\n17 scan 1 0001000200030004\n19 no 8\n";
-    assert_eq!(printed(session.as_bytes()), answers);
+    assert_eq!(printed(session.as_bytes()), "11 done 1\n17 scan 1 0001000200030004\n19 no 8\n");
 }
 
 #[test]
@@ -63,9 +59,48 @@ fn written_sessions_print_what_is_stored() {
 }
 
 #[test]
+fn random_sessions_have_one_order() {
+    for seed in 0..150 {
+        let (n, all) = played(&random::session(seed, 300, None));
+        if let Err(why) = check(n, &all) {
+            panic!("seed {seed}: {why}");
+        }
+    }
+}
+
+#[test]
 fn a_seed_gives_the_same_session_again() {
     assert_eq!(random::session(7, 100, Some(3)), random::session(7, 100, Some(3)));
     assert_ne!(random::session(7, 100, Some(3)), random::session(8, 100, Some(3)));
+}
+
+/// The check of the line is worth something only if it refuses wrong lines.
+#[test]
+fn wrong_lines_are_refused() {
+    let update = |report: u64| format!("u 1 {report:016x}\n{}", "d 1 1\n".repeat(11));
+    let scan = format!("s 1\n{}", "d 1 1\n".repeat(5));
+    let (n, all) = played(format!("1 0\n{scan}{}{scan}{}{scan}", update(1), update(2)).as_bytes());
+    let ops = operations(&all).expect("each ending has its begin");
+    let right = line(&ops);
+    assert_eq!(right, [0, 1, 2, 3, 4]);
+    assert!(check_line(n, &ops, &right).is_ok());
+    let wrong: [&[usize]; 6] =
+        [&[1, 0, 2, 3, 4], &[0, 2, 1, 3, 4], &[0, 1, 2, 4, 3], &[0, 1, 2, 3], &[0, 1, 2, 3, 4, 4], &[0, 3, 2, 1, 4]];
+    for line in wrong {
+        assert!(check_line(n, &ops, line).is_err(), "{line:?}");
+    }
+}
+
+/// A scan that shows an update too late, or none where there is one, has no place in any line.
+#[test]
+fn a_false_view_breaks_the_order() {
+    let update = format!("u 1 {:016x}\n{}", 5, "d 1 1\n".repeat(11));
+    let (n, mut all) = played(format!("1 0\n{update}s 1\n{}", "d 1 1\n".repeat(4)).as_bytes());
+    assert!(check(n, &all).is_ok());
+    let last = all.last_mut().and_then(|played| played.outcome.as_mut().ok()).expect("the scan has ended");
+    assert_eq!(last.ending, Some(Ending::Scan(Rule::Round(1), vec![Some((1, 5))])));
+    last.ending = Some(Ending::Scan(Rule::Round(1), vec![None]));
+    assert!(check(n, &all).is_err());
 }
 
 /// Amendment 5 needs the last tag, which no session reaches; here a write brings it.
@@ -136,8 +171,8 @@ fn the_stored_picture_is_the_one_that_is_drawn() {
     assert!(picture::svg(n, &all) == Ok(stored), "docs/run.svg is not the picture of sessions/picture.txt");
 }
 
-/// What a picture shows is true of the run: each delivery ends the way of one message, and each item of the order has
-/// its moment between begin and end of its operation, later than the one before.
+/// What a picture shows is true of the run: each delivery ends the way of one message, and each operation of the order
+/// has its moment between begin and end, later than the one before.
 #[test]
 fn a_picture_is_true_of_its_run() {
     for seed in 0..100 {
@@ -153,8 +188,8 @@ fn a_picture_is_true_of_its_run() {
         assert!(ends.into_iter().eq(deliveries.map(|played| played.number)), "seed {seed}");
 
         assert!(scene.moments.windows(2).all(|pair| pair[0] < pair[1]), "seed {seed}");
-        for (item, &moment) in scene.line.iter().zip(&scene.moments) {
-            let op = &scene.ops[item.place];
+        for (&place, &moment) in scene.line.iter().zip(&scene.moments) {
+            let op = &scene.ops[place];
             let end = op.end.as_ref().map_or(scene.last, |end| end.0);
             assert!(op.begin as f64 <= moment && moment <= end as f64, "seed {seed}");
         }

@@ -128,17 +128,16 @@ fn report(word: &[u8]) -> Option<Report> {
 pub fn answer(number: usize, node: Option<NodeId>, outcome: &Outcome) -> Option<String> {
     match (outcome, node) {
         (Err(refusal), _) => Some(format!("{number} no {}", refusal.0)),
-        (Ok(accepted), Some(node)) => accepted.ending.as_ref().map(|ending| {
-            let word = match ending {
-                Ending::Done(..) => "done",
-                Ending::Scan(..) => "scan",
-                Ending::Spent => "spent",
-            };
-            let shown = ending.view().into_iter().flatten().map(|place| match place {
-                Some((_, report)) => format!(" {report:016x}"),
-                None => " -".to_string(),
-            });
-            format!("{number} {word} {node}{}", shown.collect::<String>())
+        (Ok(accepted), Some(node)) => accepted.ending.as_ref().map(|ending| match ending {
+            Ending::Done(..) => format!("{number} done {node}"),
+            Ending::Spent => format!("{number} spent {node}"),
+            Ending::Scan(_, view) => {
+                let shown = view.iter().map(|place| match place {
+                    Some((_, report)) => format!(" {report:016x}"),
+                    None => " -".to_string(),
+                });
+                format!("{number} scan {node}{}", shown.collect::<String>())
+            }
         }),
         (Ok(_), None) => None,
     }

@@ -69,38 +69,9 @@ impl Cluster {
         })
     }
 
-    /// Begins a proposal of these flags at a node, in a cluster that is used for flags only: an update that posts them
-    /// and all that the node has proposed so far, spent ones aside. Where it ends done, its answer is
-    /// [`View::flags`](crate::View::flags) of its view. Refusals: as for [`Cluster::begin`].
-    ///
-    /// Each answer holds its own proposal, all that ended, not spent, before it began, all that was answered before it
-    /// began, and nothing that was not proposed before its own end; of two answers one contains the other.
-    ///
-    /// ```
-    /// use snapshot::{Cluster, Ending, Extent, Refusal};
-    ///
-    /// let mut cluster = Cluster::fresh(1, 0)?;
-    /// let mut answers = Vec::new();
-    /// for flags in [0b001, 0b100] {
-    ///     cluster.propose(1, flags, Extent::Whole)?;
-    ///     for _ in 0..11 {
-    ///         if let Some(Ending::Done(_, view)) = cluster.deliver(1, 1, Extent::Whole)? {
-    ///             answers.push(view.flags());
-    ///         }
-    ///     }
-    /// }
-    /// assert_eq!(answers, [0b001, 0b101]);
-    /// # Ok::<(), Refusal>(())
-    /// ```
-    pub fn propose(&mut self, node: usize, flags: u64, extent: Extent) -> Result<(), Refusal> {
-        let (cut, m) = extent.cut();
-        accepted(lent::propose(&mut self.bytes, node, flags, cut, m))
-    }
-
-    /// Hands over what has waited longest on a channel, and answers the ending of an operation that ended by it, with
-    /// its view. Refusals: 12, 2 (the bytes), 3 (no such node), 4 (the receiver has stopped), 8 (nothing waits), 7
-    /// (what waits is no message), 9 (a value that cannot come now), 10 (a cut, and no more may stop), 11 (a channel
-    /// would be full).
+    /// Hands over what has waited longest on a channel, and answers the ending of an operation that ended by it.
+    /// Refusals: 12, 2 (the bytes), 3 (no such node), 4 (the receiver has stopped), 8 (nothing waits), 7 (what waits is
+    /// no message), 9 (a value that cannot come now), 10 (a cut, and no more may stop), 11 (a channel would be full).
     pub fn deliver(&mut self, from: usize, to: usize, extent: Extent) -> Result<Option<Ending>, Refusal> {
         let (cut, m) = extent.cut();
         let mut view = [0; VIEW];

@@ -6,8 +6,8 @@
 //! | 0, [`TAKEN`] | no operation has ended | what was lent holds the result |
 //! | 1 to 12, 14, 15 | refused: [`Refusal`](crate::Refusal) | the same |
 //! | 13, [`SPENT`] | an update is spent | – |
-//! | 100 to 103, from [`DONE`] on | an update is done; its view is in what was lent | – |
-//! | 110 to 113, from [`SCAN`] on | a scan has ended, likewise | – |
+//! | 100 to 103, from [`DONE`] on | an update is done | – |
+//! | 110 to 113, from [`SCAN`] on | a scan has ended | – |
 //!
 //! The last digit of 100 to 113 is the rule: 0 for a view borrowed from a good message, or the round, 1 to 3. A refusal
 //! leaves all that is lent as it was.
@@ -89,14 +89,6 @@ pub fn begin_update(cluster: &mut [u8], node: usize, report: &[u8; REPORT], cut:
     unsafe { raw::snapshot_begin_update(cluster.as_mut_ptr(), cluster.len(), node, report, cut, entries) }
 }
 
-/// Begins a proposal of these flags at a node, whole or cut: an update that posts them and all that the node has
-/// proposed so far. Refusals: 12, 2, 3, 4, 5, 6, 10, 11.
-#[inline]
-pub fn propose(cluster: &mut [u8], node: usize, flags: u64, cut: bool, entries: usize) -> u8 {
-    // SAFETY: pointer and length of one slice.
-    unsafe { raw::snapshot_propose(cluster.as_mut_ptr(), cluster.len(), node, flags, cut, entries) }
-}
-
 /// Begins a scan at a node, whole or cut. Refusals: 12, 2, 3, 4, 5, 6, 10, 11.
 #[inline]
 pub fn begin_scan(cluster: &mut [u8], node: usize, cut: bool, entries: usize) -> u8 {
@@ -104,8 +96,8 @@ pub fn begin_scan(cluster: &mut [u8], node: usize, cut: bool, entries: usize) ->
     unsafe { raw::snapshot_begin_scan(cluster.as_mut_ptr(), cluster.len(), node, cut, entries) }
 }
 
-/// Delivers what has waited longest on the channel between two nodes, whole or cut. Where an update is done or a scan
-/// ends, its view goes to `view`: n entries, then zeros. Refusals: 12, 2, 3, 4, 8, 7, 9, 10, 11.
+/// Delivers what has waited longest on the channel between two nodes, whole or cut. The view of a scan that ends goes
+/// to `view`: n entries, then zeros. Refusals: 12, 2, 3, 4, 8, 7, 9, 10, 11.
 #[inline]
 pub fn deliver(cluster: &mut [u8], from: usize, to: usize, cut: bool, entries: usize, view: &mut [u8; VIEW]) -> u8 {
     // SAFETY: pointer and length of one slice; the array is another region, since both are lent by `&mut`.
@@ -152,13 +144,6 @@ pub fn figures(n: usize, view: &[u8], figures: &mut [u32; 4]) -> u8 {
     unsafe { raw::snapshot_figures(n, view.as_ptr(), view.len(), figures) }
 }
 
-/// The flags of a view of n nodes, the union of the reports that it shows, go to `flags`. Refusals: 12, 1, 7.
-#[inline]
-pub fn flags(n: usize, view: &[u8], flags: &mut u64) -> u8 {
-    // SAFETY: pointer and length of one slice; the number is lent by `&mut`, so it is apart from it.
-    unsafe { raw::snapshot_flags(n, view.as_ptr(), view.len(), flags) }
-}
-
 /// Writes the desk's page of a view of n nodes at the front of `out`, and its length to `length`. Refusals: 12, 1, 7,
 /// 15.
 #[inline]
@@ -191,15 +176,6 @@ pub fn node_begin_update(state: &mut [u8], report: &[u8; REPORT], out: &mut [u8]
     unsafe { raw::snapshot_node_begin_update(state.as_mut_ptr(), state.len(), report, at, room, length) }
 }
 
-/// Begins a proposal of these flags at the node, likewise: it posts them and all that the node has proposed so far.
-/// Refusals: 12, 2, 5, 6.
-#[inline]
-pub fn node_propose(state: &mut [u8], flags: u64, out: &mut [u8], length: &mut usize) -> u8 {
-    let (at, room) = (out.as_mut_ptr(), out.len());
-    // SAFETY: each pointer with the length of its own slice; all are lent by `&mut`, so no two overlap.
-    unsafe { raw::snapshot_node_propose(state.as_mut_ptr(), state.len(), flags, at, room, length) }
-}
-
 /// Begins a scan at the node, likewise. Refusals: 12, 2, 5, 6.
 #[inline]
 pub fn node_begin_scan(state: &mut [u8], out: &mut [u8], length: &mut usize) -> u8 {
@@ -209,7 +185,7 @@ pub fn node_begin_scan(state: &mut [u8], out: &mut [u8], length: &mut usize) -> 
 }
 
 /// Handles a message from node `sender`; the messages to send go to the front of `out`, their length to `length`, and
-/// where an update is done or a scan ends its view to `view`: n entries, then zeros. Refusals: 12, 2, 3, 7, 9.
+/// the view of a scan that ends to `view`: n entries, then zeros. Refusals: 12, 2, 3, 7, 9.
 #[inline]
 pub fn node_message(
     state: &mut [u8],

@@ -1,14 +1,11 @@
 //! The proved atomic snapshot for Rust: an exchange of up to sixteen nodes posts reports, and a scan shows all of them
 //! together, never one node's present with another's past, although messages arrive in any order and some nodes may
-//! stop for good. An update that is done shows them too, its own report among them. What is proved, and of what, is in
-//! the project's README; this crate calls that code, which `rt staticlib snapshot` builds, and needs no `unsafe` of its
-//! users.
+//! stop for good. What is proved, and of what, is in the project's README; this crate calls that code, which
+//! `rt staticlib snapshot` builds, and needs no `unsafe` of its users.
 //!
 //! - [`Node`] is one node, for nodes that are apart: the caller's links carry the messages of its [`Output`].
 //! - [`Cluster`] is all nodes and the channels between them in one run of bytes.
 //! - [`Message`], [`View`], [`Report`] and [`figures`] read and write what crosses; [`page`] prints a view.
-//! - [`Node::propose`] and [`Cluster::propose`] are for houses that are used for paging groups, and for nothing else;
-//!   [`View::flags`] is the answer of a proposal.
 //! - [`lent`] has the calls one by one, on lent bytes.
 //!
 //! Every call takes any numbers and any bytes, and gives its result or one [`Refusal`]. A refusal leaves the record,
@@ -18,7 +15,7 @@
 //! The session of document 01, on a cluster of one: an update, eleven deliveries, a scan, six deliveries.
 //!
 //! ```
-//! use snapshot::{Cluster, Ending, Extent, Operation, Refusal, Report, View};
+//! use snapshot::{Cluster, Ending, Extent, Operation, Refusal, Report};
 //!
 //! let mut cluster = Cluster::fresh(1, 0)?; // of one node none may stop
 //! let report = Report { extensions: 1, lines: 2, waiting: 3, wakeups: 4 };
@@ -29,16 +26,19 @@
 //!         13 => cluster.begin(1, Operation::Scan, Extent::Whole).map(|()| None),
 //!         _ => cluster.deliver(1, 1, Extent::Whole),
 //!     };
-//!     let shown = |view: View| format!("{:016x}", u64::from_be_bytes(view.entry(1).unwrap().report.to_bytes()));
 //!     match ending {
 //!         Ok(None) => (),
-//!         Ok(Some(Ending::Done(_, view))) => told.push(format!("{event} done 1 {}", shown(view))),
-//!         Ok(Some(Ending::Scan(_, view))) => told.push(format!("{event} scan 1 {}", shown(view))),
+//!         Ok(Some(Ending::Done(_))) => told.push(format!("{event} done 1")),
 //!         Ok(Some(Ending::Spent)) => told.push(format!("{event} spent 1")),
+//!         Ok(Some(Ending::Scan(_, view))) => {
+//!             let shown = view.entry(1).unwrap().report;
+//!             assert_eq!(shown, report);
+//!             told.push(format!("{event} scan 1 {:016x}", u64::from_be_bytes(shown.to_bytes())));
+//!         }
 //!         Err(refusal) => told.push(format!("{event} no {}", refusal.number())),
 //!     }
 //! }
-//! assert_eq!(told, ["11 done 1 0001000200030004", "17 scan 1 0001000200030004", "19 no 8"]);
+//! assert_eq!(told, ["11 done 1", "17 scan 1 0001000200030004", "19 no 8"]);
 //! # Ok::<(), Refusal>(())
 //! ```
 //!
@@ -76,7 +76,6 @@ pub mod lent;
 mod message;
 mod node;
 mod operation;
-mod output;
 mod raw;
 mod refusal;
 mod view;
@@ -84,11 +83,10 @@ mod view;
 pub use cluster::{Cluster, Extent};
 pub use lent::most_faults;
 pub use message::Message;
-pub use node::Node;
+pub use node::{Messages, Node, Output, To};
 pub use operation::{Ending, Operation, Rule};
-pub use output::{Messages, Output, To};
 pub use refusal::Refusal;
-pub use view::{figures, flags, page, page_size, Entry, Figures, Report, View};
+pub use view::{figures, page, page_size, Entry, Figures, Report, View};
 
 /// The bytes of a node's record.
 pub const RECORD: usize = 3176;

@@ -1,9 +1,8 @@
-//! One node.
+//! One node, and what it sends.
 use crate::lent;
 use crate::operation::{ending, Ending, Operation};
-use crate::output::Output;
 use crate::refusal::{accepted, Refusal};
-use crate::{RECORD, VIEW};
+use crate::{FRAME_OUTPUT, RECORD, VIEW};
 use std::fmt;
 
 /// One node (document 01's cabinet), by its record. It handles begins and messages, these one by one or in frames; what
@@ -64,10 +63,9 @@ use std::fmt;
 ///
 /// let mut nodes = (1..=N).map(|own| Node::fresh(N, most_faults(N), own)).collect::<Result<Vec<_>, _>>()?;
 /// let report = Report { extensions: 1, lines: 2, waiting: 3, wakeups: 4 };
-/// let Some(Ending::Done(_, posted)) = run(&mut nodes, 1, Operation::Update(report))? else { panic!("not done") };
-/// assert_eq!(posted.entry(1).map(|entry| entry.report), Some(report));
+/// assert!(matches!(run(&mut nodes, 1, Operation::Update(report))?, Some(Ending::Done(_))));
 /// let Some(Ending::Scan(_, view)) = run(&mut nodes, 2, Operation::Scan)? else { panic!("no view") };
-/// assert_eq!(view, posted); // nobody has posted since
+/// assert_eq!(view.entry(1).map(|entry| entry.report), Some(report));
 /// assert_eq!(view.entry(3), None);
 /// # Ok::<(), Refusal>(())
 /// ```
@@ -124,58 +122,19 @@ impl Node {
     /// Begins an operation; what is to be sent is in `out`. Refusals: 2 (the record is not usable), 5 (an operation is
     /// open), 6 (fewer than five request numbers are left); `out` is empty then.
     pub fn begin(&mut self, operation: Operation, out: &mut Output) -> Result<(), Refusal> {
-        self.begin_by(out, |record, bytes, length| match operation {
+        out.length = 0;
+        let (record, bytes, length) = (&mut self.record, &mut out.bytes, &mut out.length);
+        accepted(match operation {
             Operation::Update(report) => lent::node_begin_update(record, &report.to_bytes(), bytes, length),
             Operation::Scan => lent::node_begin_scan(record, bytes, length),
-        })
-    }
-
-    /// Begins a proposal of these flags, where all nodes are used for flags only: an update that posts them and all
-    /// that this node has proposed so far, spent ones aside. Where it ends done, its answer is
-    /// [`View::flags`](crate::View::flags) of its view. Refusals, and what is to be sent: as for [`Node::begin`].
-    ///
-    /// One node, whose only link leads to itself:
-    ///
-    /// ```
-    /// use snapshot::{Ending, Node, Output, Refusal};
-    /// use std::collections::VecDeque;
-    ///
-    /// fn answer(node: &mut Node, link: &mut VecDeque<Vec<u8>>, flags: u64) -> Result<u64, Refusal> {
-    ///     let (mut out, mut told) = (Output::new(), None);
-    ///     node.propose(flags, &mut out)?;
-    ///     loop {
-    ///         link.extend(out.messages().map(|(bytes, _)| bytes.to_vec())); // first send all, then see what has ended
-    ///         if let Some(Ending::Done(_, view)) = told {
-    ///             return Ok(view.flags());
-    ///         }
-    ///         told = node.message(1, &link.pop_front().unwrap(), &mut out)?;
-    ///     }
-    /// }
-    ///
-    /// let (mut node, mut link) = (Node::fresh(1, 0, 1)?, VecDeque::new());
-    /// assert_eq!(answer(&mut node, &mut link, 0b001)?, 0b001);
-    /// assert_eq!(answer(&mut node, &mut link, 0b100)?, 0b101);
-    /// # Ok::<(), Refusal>(())
-    /// ```
-    pub fn propose(&mut self, flags: u64, out: &mut Output) -> Result<(), Refusal> {
-        self.begin_by(out, |record, bytes, length| lent::node_propose(record, flags, bytes, length))
-    }
-
-    /// Begins by this call on the record, the output and its length.
-    fn begin_by(
-        &mut self,
-        out: &mut Output,
-        call: impl FnOnce(&mut [u8], &mut [u8], &mut usize) -> u8,
-    ) -> Result<(), Refusal> {
-        out.length = 0;
-        accepted(call(&mut self.record, &mut out.bytes, &mut out.length))?;
+        })?;
         out.nodes = self.nodes();
         Ok(())
     }
 
     /// Handles a message from node `sender`; what is to be sent is in `out`. Answers the ending of an operation that
-    /// ended by it, with its view. Refusals: 2 (the record is not usable), 3 (the sender is not 1 to n), 7 (the bytes
-    /// are not one message), 9 (a value that cannot come now); `out` is empty then.
+    /// ended by it. Refusals: 2 (the record is not usable), 3 (the sender is not 1 to n), 7 (the bytes are not one
+    /// message), 9 (a value that cannot come now); `out` is empty then.
     ///
     /// Where all keep the rules, none of these is to be expected. A node that meets one should stop for good, which the
     /// others bear: to go on would be to lose a message, which they do not.
@@ -233,5 +192,95 @@ type Call = fn(&mut [u8], usize, &[u8], &mut [u8], &mut usize, &mut [u8; VIEW]) 
 impl fmt::Debug for Node {
     fn fmt(&self, f: &mut fmt::Formatter) -> fmt::Result {
         f.debug_struct("Node").finish_non_exhaustive()
+    }
+}
+
+/// Whom a message goes to.
+#[derive(Clone, Copy, Debug, PartialEq, Eq)]
+pub enum To {
+    /// All nodes, 1 to n in turn, the own one too.
+    All,
+    /// The sender of the message, or of the frame, that was handled.
+    Sender,
+}
+
+/// What a node sends: the messages of its last begin, message or frame, each once, in the order in which they leave. It
+/// is lent to each call and may serve again: it has the [`FRAME_OUTPUT`] bytes that a frame asks, so any call of a node
+/// takes it. Where memory is short, [`lent`] takes [`OUTPUT`](crate::OUTPUT) bytes for a begin or a message.
+///
+/// ```
+/// use snapshot::{Message, Node, Operation, Output, Refusal, To};
+///
+/// let mut out = Output::new();
+/// Node::fresh(3, 1, 1)?.begin(Operation::Scan, &mut out)?;
+/// let (bytes, to) = out.messages().next().unwrap();
+/// assert_eq!(Message::read(3, bytes)?.0, Message::Read { request: 1 });
+/// assert_eq!(to, To::All);
+/// # Ok::<(), Refusal>(())
+/// ```
+pub struct Output {
+    nodes: usize,
+    bytes: [u8; FRAME_OUTPUT],
+    length: usize,
+}
+
+impl Output {
+    /// One with nothing to send.
+    pub fn new() -> Output {
+        Output { nodes: 0, bytes: [0; FRAME_OUTPUT], length: 0 }
+    }
+
+    /// The messages one after the other, as they stand in memory.
+    pub fn as_bytes(&self) -> &[u8] {
+        &self.bytes[..self.length]
+    }
+
+    /// Each message with whom it goes to.
+    pub fn messages(&self) -> Messages<'_> {
+        Messages { nodes: self.nodes, rest: self.as_bytes() }
+    }
+}
+
+impl fmt::Debug for Output {
+    fn fmt(&self, f: &mut fmt::Formatter) -> fmt::Result {
+        f.debug_list().entries(self).finish()
+    }
+}
+
+impl Default for Output {
+    fn default() -> Output {
+        Output::new()
+    }
+}
+
+impl<'a> IntoIterator for &'a Output {
+    type Item = (&'a [u8], To);
+    type IntoIter = Messages<'a>;
+
+    fn into_iter(self) -> Messages<'a> {
+        self.messages()
+    }
+}
+
+/// The messages of an [`Output`], in their order.
+#[derive(Clone, Debug)]
+pub struct Messages<'a> {
+    nodes: usize,
+    rest: &'a [u8],
+}
+
+impl<'a> Iterator for Messages<'a> {
+    type Item = (&'a [u8], To);
+
+    fn next(&mut self) -> Option<(&'a [u8], To)> {
+        if self.rest.is_empty() {
+            return None;
+        }
+        let (mut length, mut route) = (0, 0);
+        accepted(lent::next(self.nodes, self.rest, &mut length, &mut route)).expect("an output is messages");
+        let (message, rest) = self.rest.split_at(length);
+        self.rest = rest;
+        let to = if route == lent::TO_ALL { To::All } else { To::Sender };
+        Some((message, to))
     }
 }

@@ -27,23 +27,12 @@ pub enum Rule {
 #[allow(clippy::large_enum_variant)]
 #[derive(Clone, Copy, Debug, PartialEq, Eq)]
 pub enum Ending {
-    /// An update is done, with this view: what a scan shows that stands after the update in the single order, within
-    /// the same call. It has the update's own report.
-    Done(Rule, View),
+    /// An update is done.
+    Done(Rule),
     /// A scan has ended, with this view.
     Scan(Rule, View),
-    /// An update found no tag left (document 01's 13). Its report went to nobody, and it has no view.
+    /// An update found no tag left (document 01's 13). Its report went to nobody.
     Spent,
-}
-
-impl Ending {
-    /// The view that it came with.
-    pub fn view(&self) -> Option<&View> {
-        match self {
-            Ending::Done(_, view) | Ending::Scan(_, view) => Some(view),
-            Ending::Spent => None,
-        }
-    }
 }
 
 // The codes of endings by the last rule, that of round 3.
@@ -59,7 +48,7 @@ pub(crate) fn ending(code: u8, n: usize, view: &[u8; VIEW]) -> Result<Option<End
     match code {
         TAKEN => Ok(None),
         SPENT => Ok(Some(Ending::Spent)),
-        DONE..=DONE_LAST => Ok(Some(Ending::Done(rule(code - DONE), View::shown(n, view)))),
+        DONE..=DONE_LAST => Ok(Some(Ending::Done(rule(code - DONE)))),
         SCAN..=SCAN_LAST => Ok(Some(Ending::Scan(rule(code - SCAN), View::shown(n, view)))),
         _ => Err(Refusal::of_code(code)),
     }
@@ -77,12 +66,9 @@ mod tests {
         let rules = [Rule::Borrowed, Rule::Direct(1), Rule::Direct(2), Rule::Direct(3)];
         assert_eq!(ending(0, 2, &bytes), Ok(None));
         assert_eq!(ending(13, 2, &bytes), Ok(Some(Ending::Spent)));
-        assert_eq!(Ending::Spent.view(), None);
         for (i, rule) in (0..).zip(rules) {
-            for (code, told) in [(100 + i, Ending::Done(rule, view)), (110 + i, Ending::Scan(rule, view))] {
-                assert_eq!(ending(code, 2, &bytes), Ok(Some(told)));
-                assert_eq!(told.view(), Some(&view));
-            }
+            assert_eq!(ending(100 + i, 2, &bytes), Ok(Some(Ending::Done(rule))));
+            assert_eq!(ending(110 + i, 2, &bytes), Ok(Some(Ending::Scan(rule, view))));
         }
         for refusal in Refusal::ALL {
             assert_eq!(ending(refusal.number(), 2, &bytes), Err(refusal));

@@ -14,14 +14,6 @@ extern "C" {
         cut: bool,
         entries: usize,
     ) -> u8;
-    pub fn snapshot_propose(
-        cluster: *mut u8,
-        cluster_len: usize,
-        node: usize,
-        flags: u64,
-        cut: bool,
-        entries: usize,
-    ) -> u8;
     pub fn snapshot_begin_scan(cluster: *mut u8, cluster_len: usize, node: usize, cut: bool, entries: usize) -> u8;
     pub fn snapshot_deliver(
         cluster: *mut u8,
@@ -51,7 +43,6 @@ extern "C" {
         length: *mut usize,
     ) -> u8;
     pub fn snapshot_figures(n: usize, view: *const u8, view_len: usize, figures: *mut [u32; 4]) -> u8;
-    pub fn snapshot_flags(n: usize, view: *const u8, view_len: usize, flags: *mut u64) -> u8;
     pub fn snapshot_page(
         n: usize,
         view: *const u8,
@@ -66,14 +57,6 @@ extern "C" {
         state: *mut u8,
         state_len: usize,
         report: *const [u8; REPORT],
-        out: *mut u8,
-        out_len: usize,
-        length: *mut usize,
-    ) -> u8;
-    pub fn snapshot_node_propose(
-        state: *mut u8,
-        state_len: usize,
-        flags: u64,
         out: *mut u8,
         out_len: usize,
         length: *mut usize,

@@ -1,4 +1,4 @@
-//! Reports, views of all nodes' reports, and figures, flags and pages of them.
+//! Reports, views of all nodes' reports, and figures and pages of them.
 use crate::lent;
 use crate::refusal::{accepted, Refusal};
 use crate::{LINE, REPORT, VIEW};
@@ -54,7 +54,7 @@ pub struct Entry {
 /// The bytes of an entry: tag and report.
 const ENTRY: usize = 16;
 
-/// The reports of all nodes together, as a scan shows them, or an update that is done.
+/// The reports of all nodes together, as a scan shows them.
 ///
 /// ```
 /// use snapshot::{Refusal, View};
@@ -110,20 +110,6 @@ impl View {
     /// The house figures over its reports.
     pub fn figures(&self) -> Figures {
         figures(self.nodes, self.as_bytes()).expect("a view has figures")
-    }
-
-    /// The union of its reports as [`flags`]: of the view of a proposal's ending it is the answer.
-    ///
-    /// ```
-    /// use snapshot::{Refusal, View};
-    ///
-    /// let entry = |tag: u64, flags: u64| [tag.to_be_bytes(), flags.to_be_bytes()].concat();
-    /// let view = View::from_bytes(2, &[entry(9, 0b011), entry(8, 0b110)].concat())?;
-    /// assert_eq!(view.flags(), 0b111);
-    /// # Ok::<(), Refusal>(())
-    /// ```
-    pub fn flags(&self) -> u64 {
-        flags(self.nodes, self.as_bytes()).expect("a view has flags")
     }
 
     /// Its page for the desk, with a line feed after each line; [`page`] says what a line has.
@@ -185,25 +171,6 @@ pub fn figures(n: usize, view: &[u8]) -> Result<Figures, Refusal> {
     accepted(lent::figures(n, view, &mut figures))?;
     let [extensions, lines, waiting, wakeups] = figures;
     Ok(Figures { extensions, lines, waiting, wakeups })
-}
-
-/// The flags of a view of n nodes in these bytes, where nodes are used for flags only: the union of the reports that it
-/// shows, each as one number, high byte first; 0 where no node has reported.
-///
-/// Refusals: as for [`figures`], 12, 1, 7.
-///
-/// ```
-/// use snapshot::{flags, Refusal};
-///
-/// let bytes = [0, 0, 0, 0, 0, 0, 0, 9, 0, 1, 0, 2, 0, 3, 0, 4];
-/// assert_eq!(flags(1, &bytes)?, 0x0001_0002_0003_0004);
-/// assert_eq!(flags(2, &bytes), Err(Refusal::Length));
-/// # Ok::<(), Refusal>(())
-/// ```
-pub fn flags(n: usize, view: &[u8]) -> Result<u64, Refusal> {
-    let mut flags = 0;
-    accepted(lent::flags(n, view, &mut flags))?;
-    Ok(flags)
 }
 
 /// The bytes of the desk's page of n nodes, a line for each and one for the figures; 0 where n is not 1 to 16.

@@ -88,7 +88,6 @@ fn bytes_of_a_wrong_length() {
     for length in [0, 1, bytes.len() - 1] {
         let mut cluster = Cluster::from_bytes(bytes[..length].to_vec());
         assert_eq!(refused_in(&mut cluster, |c| c.begin(1, UPDATE, WHOLE)), Refusal::Length);
-        assert_eq!(refused_in(&mut cluster, |c| c.propose(1, 1, WHOLE)), Refusal::Length);
         assert_eq!(refused_in(&mut cluster, |c| c.deliver(1, 1, WHOLE)), Refusal::Length);
         assert_eq!(refused_in(&mut cluster, |c| c.stop(1)), Refusal::Length);
     }
@@ -99,7 +98,6 @@ fn unusable_at(record: &[u8]) {
     let mut node = Node::from_bytes(record).unwrap();
     assert_eq!(refused_at(&mut node, |node, out| node.begin(UPDATE, out)), Refusal::Unusable);
     assert_eq!(refused_at(&mut node, |node, out| node.begin(Operation::Scan, out)), Refusal::Unusable);
-    assert_eq!(refused_at(&mut node, |node, out| node.propose(1, out)), Refusal::Unusable);
     assert_eq!(refused_at(&mut node, |node, out| node.message(1, &value(3, 1, 1), out)), Refusal::Unusable);
     assert_eq!(refused_at(&mut node, |node, out| node.frame(1, &value(3, 1, 1), out)), Refusal::Unusable);
 }
@@ -108,7 +106,6 @@ fn unusable_at(record: &[u8]) {
 fn unusable_in(mut cluster: Cluster) {
     assert_eq!(refused_in(&mut cluster, |c| c.begin(1, UPDATE, WHOLE)), Refusal::Unusable);
     assert_eq!(refused_in(&mut cluster, |c| c.begin(1, Operation::Scan, WHOLE)), Refusal::Unusable);
-    assert_eq!(refused_in(&mut cluster, |c| c.propose(1, 1, WHOLE)), Refusal::Unusable);
     assert_eq!(refused_in(&mut cluster, |c| c.deliver(1, 1, WHOLE)), Refusal::Unusable);
     assert_eq!(refused_in(&mut cluster, |c| c.stop(1)), Refusal::Unusable);
 }
@@ -206,7 +203,6 @@ fn nodes_that_are_not_there() {
         assert_eq!(refused_at(&mut node, |node, out| node.message(k, &value(3, 1, 1), out)), Refusal::Node);
         assert_eq!(refused_at(&mut node, |node, out| node.frame(k, &value(3, 1, 1), out)), Refusal::Node);
         assert_eq!(refused_in(&mut cluster, |c| c.begin(k, Operation::Scan, WHOLE)), Refusal::Node);
-        assert_eq!(refused_in(&mut cluster, |c| c.propose(k, 1, WHOLE)), Refusal::Node);
         assert_eq!(refused_in(&mut cluster, |c| c.deliver(k, 1, WHOLE)), Refusal::Node);
         assert_eq!(refused_in(&mut cluster, |c| c.deliver(1, k, WHOLE)), Refusal::Node);
         assert_eq!(refused_in(&mut cluster, |c| c.stop(k)), Refusal::Node);
@@ -254,17 +250,14 @@ fn request_numbers_are_used_up() {
     let mut node = Node::from_bytes(&record).unwrap();
     assert_eq!(refused_at(&mut node, |node, out| node.begin(UPDATE, out)), Refusal::Requests);
     assert_eq!(refused_at(&mut node, |node, out| node.begin(Operation::Scan, out)), Refusal::Requests);
-    assert_eq!(refused_at(&mut node, |node, out| node.propose(1, out)), Refusal::Requests);
     record[REQUEST + 7] -= 1;
     assert_eq!(Node::from_bytes(&record).unwrap().begin(UPDATE, &mut Output::new()), Ok(()));
-    assert_eq!(Node::from_bytes(&record).unwrap().propose(1, &mut Output::new()), Ok(()));
 
     let mut bytes = Cluster::fresh(1, 0).unwrap().as_bytes().to_vec();
     let at = place(&bytes, Node::fresh(1, 0, 1).unwrap().as_bytes()) + REQUEST;
     bytes[at..at + 8].copy_from_slice(&(i64::MAX as u64).to_be_bytes());
     let mut cluster = Cluster::from_bytes(bytes);
     assert_eq!(refused_in(&mut cluster, |c| c.begin(1, UPDATE, WHOLE)), Refusal::Requests);
-    assert_eq!(refused_in(&mut cluster, |c| c.propose(1, 1, WHOLE)), Refusal::Requests);
 }
 
 /// The last place at which these bytes stand in all.

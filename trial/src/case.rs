@@ -7,7 +7,6 @@ use oracle::cluster::Refusal;
 use oracle::dice::Dice;
 use oracle::node::{Ending, Operation, Rule, Step, To};
 use oracle::page;
-use oracle::paging::house::shown;
 use oracle::record::{
     Fault, Record, BAD_LENGTH, BAD_NUMBER, LEAST_FRAME_OUTPUT, LEAST_OUTPUT, NODES, NOT_OF_THE_LAYOUT, UNUSABLE,
 };
@@ -15,11 +14,10 @@ use oracle::wire;
 use snapshot::{lent, VIEW};
 use std::fmt::Write;
 
-/// A begin, a proposal, a message or a frame at a node.
+/// A begin, a message or a frame at a node.
 #[derive(Clone, Debug)]
 pub enum Call {
     Begin(Operation),
-    Propose(u64),
     Message { sender: usize, bytes: Vec<u8> },
     Frame { sender: usize, bytes: Vec<u8> },
 }
@@ -28,7 +26,7 @@ impl Call {
     /// The shortest output buffer that it takes.
     pub fn least_output(&self) -> usize {
         match self {
-            Call::Begin(_) | Call::Propose(_) | Call::Message { .. } => LEAST_OUTPUT,
+            Call::Begin(_) | Call::Message { .. } => LEAST_OUTPUT,
             Call::Frame { .. } => LEAST_FRAME_OUTPUT,
         }
     }
@@ -57,7 +55,7 @@ pub struct Agreed {
     pub record: Vec<u8>,
     /// The bytes of output.
     pub length: usize,
-    /// The oracle's steps, one for each message, where the call was not refused; a begin or a proposal is one too.
+    /// The oracle's steps, one for each message, where the call was not refused; a begin is one too.
     pub steps: Option<Vec<Step>>,
     /// The record before, where its bytes are one, and the clauses by which it is unusable.
     pub before: Option<(Record, Vec<Fault>)>,
@@ -93,7 +91,6 @@ impl Case {
                 lent::node_begin_update(record, &report.to_be_bytes(), out, length)
             }
             Call::Begin(Operation::Scan) => lent::node_begin_scan(record, out, length),
-            Call::Propose(flags) => lent::node_propose(record, *flags, out, length),
             Call::Message { sender, bytes } => lent::node_message(record, *sender, bytes, out, length, view),
             Call::Frame { sender, bytes } => lent::node_frame(record, *sender, bytes, out, length, view),
         };
@@ -114,7 +111,7 @@ impl Case {
                 let sent: Vec<u8> = step.sent.iter().flat_map(|(_, message)| wire::write(message)).collect();
                 lent.out[..sent.len()].copy_from_slice(&sent);
                 lent.length = sent.len();
-                if let Some(view) = step.ending.as_ref().and_then(Ending::view) {
+                if let Some(Ending::Scan(_, view)) = &step.ending {
                     let shown = wire::view_bytes(view);
                     lent.view = [0; VIEW];
                     lent.view[..shown.len()].copy_from_slice(&shown);
@@ -131,7 +128,6 @@ impl Case {
         let mut record = before.ok_or(UNUSABLE)?;
         let steps = match &self.call {
             Call::Begin(operation) => vec![record.begin(*operation, self.output)?],
-            Call::Propose(flags) => vec![record.propose(*flags, self.output)?],
             Call::Message { sender, bytes } => vec![record.message(*sender, bytes, self.output)?],
             Call::Frame { sender, bytes } => record.frame(*sender, bytes, self.output)?,
         };
@@ -240,22 +236,6 @@ pub fn compare_next(dice: &mut Dice, n: usize, bytes: &[u8]) -> Result<u8, Strin
         Ok(code)
     } else {
         Err(format!("next {n} {bytes:02x?}: {:?}, expected {expected:?}", (code, length, route)))
-    }
-}
-
-/// The flags of any bytes. Gives the code.
-pub fn compare_flags(dice: &mut Dice, n: usize, view: &[u8]) -> Result<u8, String> {
-    let before = dice.number();
-    let expected = match page::read(n, view) {
-        Err(Refusal(number)) => (number, before),
-        Ok(view) => (0, shown(&view)),
-    };
-    let mut flags = before;
-    let code = lent::flags(n, view, &mut flags);
-    if (code, flags) == expected {
-        Ok(code)
-    } else {
-        Err(format!("flags {n} {view:02x?}: {:x?}, expected {expected:x?}", (code, flags)))
     }
 }
 

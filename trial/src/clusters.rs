@@ -17,7 +17,7 @@ use oracle::cluster::{most_faults, Cluster, Event, Extent, Outcome, Refusal, CAP
 use oracle::dice::Dice;
 use oracle::habits::faults;
 use oracle::message::NodeId;
-use oracle::node::Operation;
+use oracle::node::{Ending, Operation};
 use oracle::record::{Record, BAD_LENGTH, NODES};
 use oracle::stated::{Stated, StatedNode};
 use oracle::wire;
@@ -30,9 +30,6 @@ const BLOCK: usize = 1 + SIZE + NODES * CHANNEL;
 
 /// Events of a run.
 const EVENTS: usize = 80;
-
-/// What a lent view holds before an event.
-const BEFORE: u8 = 0xa5;
 
 /// What is changed in a copy. "Another" may be the same by chance.
 pub const NOTHING: &str = "nothing";
@@ -157,10 +154,9 @@ pub fn cluster(trial: &mut Trial) {
 fn compare(cluster: &mut Cluster, bytes: &mut [u8], event: &Event) -> Result<u8, String> {
     let before = bytes.to_vec();
     let outcome = cluster.event(event);
-    let mut due = (code_of(&outcome), [BEFORE; VIEW]);
-    if let Some(view) = outcome.as_ref().ok().and_then(|accepted| accepted.ending.as_ref()?.view()) {
+    let mut due = (code_of(&outcome), [0; VIEW]);
+    if let Some(Ending::Scan(_, view)) = outcome.as_ref().ok().and_then(|accepted| accepted.ending.as_ref()) {
         let shown = wire::view_bytes(view);
-        due.1 = [0; VIEW];
         due.1[..shown.len()].copy_from_slice(&shown);
     }
     let proved = play(bytes, event);
@@ -178,13 +174,13 @@ fn compare(cluster: &mut Cluster, bytes: &mut [u8], event: &Event) -> Result<u8,
     }
 }
 
-/// An event by the proved calls: the code, and what it leaves of the lent view.
+/// An event by the proved calls: the code, and the view where a scan ended.
 fn play(bytes: &mut [u8], event: &Event) -> (u8, [u8; VIEW]) {
     let cut = |extent: Extent| match extent {
         Extent::Whole => (false, 0),
         Extent::Cut(m) => (true, m),
     };
-    let mut view = [BEFORE; VIEW];
+    let mut view = [0; VIEW];
     let code = match *event {
         Event::Begin { node, operation, extent } => {
             let (cut, m) = cut(extent);

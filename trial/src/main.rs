@@ -1,9 +1,9 @@
-//! A million cases thrown at the calls for C of one node, of flags and of the desk's page, records, messages, frames
-//! and views that are drawn, damaged or made up, and beside them the steps of the runs that they are drawn from. What
-//! the proved code makes of each is compared, byte for byte, with what the oracle does. A run is one of a network on
-//! the proved calls, some of its messages in frames, beside the oracle's nodes over sets; its order is one case more.
-//! After each network a cluster in lent bytes runs beside the oracle's, with copies that state another n, f, number or
-//! stop than they should. First of all, fresh records and clusters are made with every kind of n and f.
+//! A million cases thrown at the calls for C of one node and of the desk's page, records, messages, frames and views
+//! that are drawn, damaged or made up, and beside them the steps of the runs that they are drawn from. What the proved
+//! code makes of each is compared, byte for byte, with what the oracle does. A run is one of a network on the proved
+//! calls, some of its messages in frames, beside the oracle's nodes over sets; its order is one case more. After each
+//! network a cluster in lent bytes runs beside the oracle's, with copies that state another n, f, number or stop than
+//! they should. First of all, fresh records and clusters are made with every kind of n and f.
 //!
 //! `trial [THROWN [SEED]]`
 

@@ -48,7 +48,6 @@ impl Tally {
     pub fn see(&mut self, case: &Case, agreed: &Agreed) {
         let name = match case.call {
             Call::Begin(_) => "begin",
-            Call::Propose(_) => "propose",
             Call::Message { .. } => "message",
             Call::Frame { .. } => "frame",
         };
@@ -131,12 +130,10 @@ fn needed() -> Vec<String> {
         codes("frame", &ENDINGS),
         frame::needed(),
         codes("begin", &[0, 12, 2, 5, 6]),
-        codes("propose", &[0, 12, 2, 5, 6]),
         codes("fresh", &[0, 1, 12]),
         cluster::needed(),
         (0..=most_faults(NODES)).map(with_f).collect(),
         codes("next", &[0, 1, 7]),
-        codes("flags", &[0, 12, 1, 7]),
         codes("page", &[0, 12, 1, 7, 15]),
         page::needed(),
         codes(RUN, &ENDINGS),

@@ -1,6 +1,6 @@
 //! Throws cases: each starts from a record of a run and a message or a view, or from made ones; most are damaged.
 
-use crate::case::{compare_flags, compare_fresh, compare_next, compare_page, Agreed, Call, Case};
+use crate::case::{compare_fresh, compare_next, compare_page, Agreed, Call, Case};
 use crate::chance::report;
 use crate::records::{crowded, nodes, other_f, set_wait, wild};
 use crate::stored::{self, Words, CODE, IDLE, SIZE};
@@ -109,10 +109,6 @@ impl Trial {
         if let Some(code) = self.keep(shown) {
             self.tally.see_page(&page, code);
         }
-        let union = compare_flags(&mut self.dice, page.n, &page.view);
-        if let Some(code) = self.keep(union) {
-            self.tally.count(format!("flags: {code}"));
-        }
     }
 
     fn throw_call(&mut self, record: &[u8], waiting: &[(usize, Message)]) {
@@ -138,17 +134,13 @@ impl Trial {
         self.call(&Case { record, call, output });
     }
 
-    /// A begin or a proposal, mostly at an idle node.
+    /// A begin, mostly at an idle node.
     fn begin(&mut self, words: &mut Words) -> Call {
         let dice = &mut self.dice;
         if dice.chance(700) {
             words[CODE] = IDLE;
         }
-        match dice.below(3) {
-            0 => Call::Begin(Operation::Scan),
-            1 => Call::Begin(Operation::Update(report(dice))),
-            _ => Call::Propose(dice.number() & dice.number()),
-        }
+        Call::Begin(if dice.chance(500) { Operation::Scan } else { Operation::Update(report(dice)) })
     }
 
     /// A sender, mostly one of the nodes.

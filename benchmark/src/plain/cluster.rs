@@ -175,7 +175,7 @@ pub fn begin(b: &mut [u8], c: usize, operation: Operation, cut: Option<usize>) -
 }
 
 /// Delivers what has waited longest on the channel from a to c, or refuses with 12, 2, 3, 4, 8, 7, 9, 10, 11.
-/// The view of an operation that ends goes to `view`; a spent update has none.
+/// The view of a scan that ends goes to `view`.
 pub fn deliver(b: &mut [u8], a: usize, c: usize, cut: Option<usize>, view: &mut [u8; VIEW]) -> Result<Ending, Refusal> {
     let (n, f) = stated(b)?;
     if !(1..=n).contains(&a) || !(1..=n).contains(&c) {
@@ -209,7 +209,7 @@ pub fn deliver(b: &mut [u8], a: usize, c: usize, cut: Option<usize>, view: &mut 
     if cut.is_some() {
         return Ok(Ending::None);
     }
-    if step.ending.has_view() {
+    if let Ending::Scan(_) = step.ending {
         *view = step.view;
     }
     Ok(step.ending)

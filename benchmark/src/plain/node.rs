@@ -61,8 +61,8 @@ pub fn begin(b: &mut [u8], operation: Operation, out: &mut [u8]) -> Result<usize
     Ok(write_all(n, &step, out))
 }
 
-/// Handles a message: the ending and the length of the messages in `out`, or 12, 2, 3, 7, 9. The view of an operation
-/// that ends goes to `view`; a spent update has none.
+/// Handles a message: the ending and the length of the messages in `out`, or 12, 2, 3, 7, 9. The view of a scan that
+/// ends goes to `view`.
 pub fn message(
     b: &mut [u8],
     sender: usize,
@@ -96,7 +96,7 @@ fn take(
     let wait = Record(&*b).wait().unwrap_or(Wait::Idle);
     let mut step = Step::new(b, wait);
     step.message(sender, m, bytes.get(18..).unwrap_or(&[]));
-    if step.ending.has_view() {
+    if let Ending::Scan(_) = step.ending {
         *view = step.view;
     }
     let length = write_all(n, &step, out);

@@ -20,13 +20,6 @@ pub enum Ending {
     Spent,
 }
 
-impl Ending {
-    /// An operation has ended with its view.
-    pub fn has_view(self) -> bool {
-        matches!(self, Ending::Done(_) | Ending::Scan(_))
-    }
-}
-
 /// A step: the record after it, what is sent, and the ending. `view` is that of a good message sent and of an operation
 /// that ended.
 pub struct Step<B> {

@@ -46,8 +46,7 @@ entries-short n v =
 
 pub line-short : (e : ℕ) (r : Printed) (n : ℕ) (v : View) → length (line e r n v) ≤ room
 unfolding line
-line-short e (Done c) n v =
-    simp length-append (omega (arith, start-short e done_is c (omega arith), entries-short n v))
+line-short e (Done c) n v = simp length-append (omega (arith, start-short e done_is c (omega arith)))
 line-short e (Scan c) n v =
     simp length-append (omega (arith, start-short e scan_is c (omega arith), entries-short n v))
 line-short e (Spent c) n v = simp length-append (omega (arith, start-short e spent_is c (omega arith)))

@@ -1,6 +1,5 @@
 -- The lines that a session prints, with their line feed. An ending prints the event's number, `done`, `scan` or
--- `spent`, the node and, but for `spent`, each report of its view or `-`; a refusal prints the event's number, `no` and
--- its own.
+-- `spent`, the node and, for a scan, each report or `-`; a refusal prints the event's number, `no` and its own.
 use Rattle.std.specs.Prelude.{ℕ, ◌+◌, ◌*◌, min, List, [], ◌∷◌, ◌++◌, get_or, eqb}
 use Rattle.octets.specs.Test.{pick}
 use Rattle.octets.specs.Bytes.{be}
@@ -59,9 +58,9 @@ entries n v = join (min n nodes) (entry_at v)
 abbrev pub feed : List ℕ
 feed = 10 ∷ []
 
--- what event e prints, in a cluster of n nodes; v is the view of the operation that ended
+-- what event e prints, in a cluster of n nodes; v is the view of a scan that ended
 unfoldable pub line : (e : ℕ) → Printed → (n : ℕ) → View → List ℕ
-line e (Done c) n v = start e done_is c ++ entries n v ++ feed
+line e (Done c) n v = start e done_is c ++ feed
 line e (Scan c) n v = start e scan_is c ++ entries n v ++ feed
 line e (Spent c) n v = start e spent_is c ++ feed
 line e (No k) n v = start e no_is k ++ feed

@@ -108,26 +108,6 @@ fn put_short(out: &mut [u8], at: usize, event: u64, word: &[u8], x: u64) -> usiz
     put_feed(out, k)
 }
 
-// The same with the reports of a view before the line feed.
-fn put_viewed(
-    out: &mut [u8],
-    at: usize,
-    event: u64,
-    word: &[u8],
-    x: u64,
-    n: usize,
-    v: View,
-) -> usize
-    requires { (length word.now ≤ word_room) × (at + room ≤ length out.old) }
-    ensures { (out.new ≡ put out.old at
-        (start event word.now x ++ entries n v ++ feed))
-        × (result ≡ at + length (start event word.now x ++ entries n v ++ feed)) }
-{
-    let k = put_start(out, at, event, word, x);
-    let e = put_entries(out, k, least(n, NODES), v);
-    put_feed(out, e)
-}
-
 // Writes the line of an event; the other bytes stay.
 pub fn put_line(out: &mut [u8], at: usize, event: u64, reply: Printed, n: usize, v: View) -> usize
     requires { at + room ≤ length out.old }
@@ -135,8 +115,12 @@ pub fn put_line(out: &mut [u8], at: usize, event: u64, reply: Printed, n: usize,
         × (result ≡ at + length (line event reply n v)) }
 {
     match reply {
-        Printed::Done(c) => put_viewed(out, at, event, b" done ", c as u64, n, v),
-        Printed::Scan(c) => put_viewed(out, at, event, b" scan ", c as u64, n, v),
+        Printed::Done(c) => put_short(out, at, event, b" done ", c as u64),
+        Printed::Scan(c) => {
+            let k = put_start(out, at, event, b" scan ", c as u64);
+            let e = put_entries(out, k, least(n, NODES), v);
+            put_feed(out, e)
+        }
         Printed::Spent(c) => put_short(out, at, event, b" spent ", c as u64),
         Printed::No(k) => put_short(out, at, event, b" no ", k as u64),
         Printed::Nothing => at,

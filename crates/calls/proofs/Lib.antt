@@ -1,4 +1,3 @@
-pub mod Alike
 pub mod Refusals
 pub mod Rim
 pub mod Rooms

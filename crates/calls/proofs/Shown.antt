@@ -29,10 +29,10 @@ module _ (n : ℕ) (h : n ≤ nodes) where
   abbrev Shows : CallResult → Type 0
   Shows r = AbsentPast n (told_view r.answer)
 
-  -- the view of an ending is that of its step, or none
+  -- only the ending of a scan shows a view
   pub by-ending : (e : Ending) (v : View) → AbsentPast n v → AbsentPast n (told_view (told (returned e) v))
   by-ending None v a = none-absent n h
-  by-ending (Done r) v a = a
+  by-ending (Done r) v a = none-absent n h
   by-ending (Scan r) v a = a
   by-ending Spent v a = none-absent n h
 

@@ -2,6 +2,5 @@ pub mod Cases
 pub mod Claims
 pub mod Forward
 pub mod Handled
-pub mod Propose
 pub mod Values
 pub mod Walk

@@ -2,6 +2,5 @@ pub mod Claims
 pub mod Entry
 pub mod Forward
 pub mod Frame
-pub mod Propose
 pub mod Shown
 pub mod Walk

@@ -15,13 +15,13 @@ pub const FRAME: usize = 1500;
 
 pub const FRAME_OUTPUT: usize = 8192;
 
-// Writes the view of an update that is done or of a scan that ended.
+// Writes the view of a scan that ended.
 pub fn show_view(ending: Ending, v: View, out: &mut [u8; VIEW])
     ensures { out.new ≡ event_view (told (returned ending) v) out.old }
 {
     match ending {
         Ending::None => {}
-        Ending::Done(_) => write_view(NODES, v, out),
+        Ending::Done(_) => {}
         Ending::Scan(_) => write_view(NODES, v, out),
         Ending::Spent => {}
     }

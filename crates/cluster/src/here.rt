@@ -2,12 +2,10 @@
 // handled, and what comes next.
 ghost use Rattle.std.specs.Prelude.{◌≡◌, true, ◌+◌, ◌<◌, ◌≤◌, length, take};
 ghost use Rattle.octets.specs.Bytes.{put};
-ghost use Rattle.view.specs.Flags.{joined};
 ghost use Rattle.view.specs.Size.{limit, nodes, view_size};
 ghost use Rattle.view.specs.View.{view_of};
 ghost use Rattle.wire.specs.Codec.{view_at};
 ghost use Rattle.wire.specs.declared.Message.TheVariants.{Read};
-ghost use Rattle.table.specs.Table.{report_of};
 ghost use Rattle.record.specs.Usable.{usable, is_open, full};
 ghost use Rattle.step.specs.Move.{begun};
 ghost use Rattle.step.specs.React.{react};
@@ -29,10 +27,8 @@ use react_bytes::{is_stale_in, react_in};
 use record::Operation;
 use region::places::RECORD;
 use step::Sent;
-use step_bytes::{
-    Effect, Plan, ask_in, asked_in, follow_in, is_full_in, is_open_in, plan_in, proposed_in,
-};
-use view::{ENTRY, Report, VIEW};
+use step_bytes::{Effect, Plan, ask_in, asked_in, follow_in, is_full_in, is_open_in, plan_in};
+use view::{ENTRY, VIEW};
 use wire::{GOOD_HEAD, Message};
 use wire_parse::views::is_good;
 
@@ -164,14 +160,4 @@ pub(crate) fn follow_at(b: &mut [u8], n: usize, a: usize, c: usize, sent: Sent, 
     let at = record_at(c);
     let end = at + RECORD;
     follow_in(&mut b[at..end], n, a, sent, p)
-}
-
-// The report that node c posts when it proposes the flags g.
-pub(crate) fn proposed_at(b: &[u8], c: usize, g: u64) -> Report
-    requires { (1 ≤ c) × (c ≤ nodes) × (cluster_size c ≤ length b.now) }
-    ensures { result ≡ joined (report_of (node b.now c).last c) g }
-{
-    let at = record_at(c);
-    let end = at + RECORD;
-    proposed_in(&b[at..end], c, g)
 }

@@ -13,7 +13,6 @@ ghost use Rattle.block.specs.Block.{keep_record};
 ghost use Rattle.layout.specs.Layout.{cluster_size, on_block};
 ghost use Rattle.events.specs.Event.{admission as admission_of, open_in};
 ghost use Rattle.events.specs.Event.{fresh as fresh_event, begin as begin_event, deliver as deliver_event};
-ghost use Rattle.events.specs.Propose.{propose as propose_event};
 ghost use Rattle.events.specs.Stop.{stop as stop_event};
 ghost use Rattle.events.specs.Outcome.{Tells};
 ghost use Rattle.events.specs.Ready.{Ready};
@@ -22,7 +21,7 @@ use block::BLOCK;
 pub use events::{Outcome, Reply};
 use events::{given, refused};
 use handing::hand_over;
-use here::{ask_at, asked_at, is_full_at, is_open_at, proposed_at};
+use here::{ask_at, asked_at, is_full_at, is_open_at};
 use layout::{
     BLOCKS_PLACE, FAULTS_PLACE, STATED_PLACE, first_at, halt_at, is_fit, is_node, is_sound,
     keep_at, stopped_at, waiting_at,
@@ -154,18 +153,4 @@ pub fn stop(b: &mut [u8], c: usize) -> Reply
     }
     halt_at(b, n, c);
     given(false, Ending::None, view::absent())
-}
-
-// Proposes flags at node c: begins an update with the union of the node's proposals so far, or refuses with 12, 2, 3,
-// 4, 5, 6, 10, 11.
-pub fn propose(b: &mut [u8], c: usize, g: u64, x: Extent) -> Reply
-    ensures { Tells result b.new (propose_event c g x b.old) }
-{
-    let k = admission(b, c, c);
-    if k != 0 {
-        return refused(k);
-    }
-    let n = index(b[STATED_PLACE]);
-    let p = proposed_at(b, c, g);
-    open_at(b, n, c, Operation::Update(p), x)
 }

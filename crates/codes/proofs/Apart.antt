@@ -9,16 +9,14 @@ use lib.Dec.{leb, ltb, eqb}
 use borrow.Author.Tests.{ne_eqb, lt-ltb, le-ltb}
 use Rattle.octets.specs.Answer.{Answer, returned, refused}
 use Rattle.octets.specs.Test.{both, pick}
-use Rattle.view.specs.Flags.{union_in}
 use Rattle.view.specs.Size.{is_size, limit, entry_size}
 use Rattle.view.specs.View.{view_of, view_ok}
 use Rattle.view.specs.declared.View.{View}
 use Rattle.wire.specs.Layout.{encode, allowed}
 use Rattle.wire.specs.Codec.{said, view_at, begins, front, whole, decode, answer}
 use Rattle.wire.specs.declared.Message.{Message}
-use Rattle.figures.specs.Figures.{totals, over_view, figures_of}
+use Rattle.figures.specs.Figures.{figures_of}
 use Rattle.page.specs.Page.{map_result, contents, contents_of, page_text, page_of, in_room, page_in}
-use Rattle.flags.specs.Flags.{flags_of}
 use Rattle.table.specs.Quorum.{can_be}
 use Rattle.record.specs.Usable.{is_open, full}
 use Rattle.record.specs.declared.Operation.{Operation}
@@ -210,18 +208,11 @@ of-write n m v room =
     (picked (allowed n m v) (picked (leb (length (encode m v)) room) accepted (in-range 12 refl)) (in-range 7 refl))
     (in-range 1 refl)
 
-of-view : {A : Type 0} (n : ℕ) (v : List ℕ) (x : A) → Numbered last_refusal (over_view n v x)
-of-view n v x =
-    picked (eqb (length v) (entry_size * n))
-    (picked (is_size n) (picked (view_ok n limit v) accepted (in-range 7 refl)) (in-range 1 refl)) (in-range 12 refl)
-
 of-figures : (n : ℕ) (v : List ℕ) → Numbered last_refusal (figures_of n v)
 unfolding figures_of
-of-figures n v = of-view n v (totals n v)
-
-of-flags : (n : ℕ) (v : List ℕ) → Numbered last_refusal (flags_of n v)
-unfolding flags_of
-of-flags n v = of-view n v (union_in n (view_of n v))
+of-figures n v =
+    picked (eqb (length v) (entry_size * n))
+    (picked (is_size n) (picked (view_ok n limit v) accepted (in-range 7 refl)) (in-range 1 refl)) (in-range 12 refl)
 
 -- a page: the refusals of the figures, and one more
 of-result : {A B : Type 0} {last : ℕ} (f : A → B) (a : Answer A) → Numbered last a → Numbered last (map_result f a)
@@ -254,7 +245,6 @@ apart =
       walking = of-front;
       writing = of-write;
       counting = of-figures;
-      joining = of-flags;
       printing = of-page;
       endings = no-ending;
       read_back = λ {e} c. told_back e.answer e.view (proper c).numbered;

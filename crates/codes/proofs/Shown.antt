@@ -1,11 +1,11 @@
--- The lent view where an operation ends with a view is zeros past n: the claims of specs/Shown.
+-- The lent view where a scan ends is zeros past n: the claims of specs/Shown.
 use Prim.Native.Nat.{ℕ, ◌-◌, ◌*◌, ◌≤◌}
 use mathlib.Core.Path.{◌≡◌, refl, sym, ap, ◌∙◌}
 use mathlib.Core.List.{List}
 use native.Mathlib.Decide.{dec_le}
 use native.Mathlib.Omega.{arith}
 use lib.ListN.{length, drop, replicate, drop_of_length-le}
-use Rattle.octets.specs.Answer.{Answer, returned, refused}
+use Rattle.octets.specs.Answer.{Answer, returned}
 use Rattle.octets.specs.Bytes.{put}
 use Rattle.octets.proofs.Put.{put-over}
 use Rattle.view.specs.Size.{nodes, entry_size}
@@ -14,7 +14,8 @@ use Rattle.view.specs.declared.View.{View}
 use Rattle.view.proofs.First.{absent-bytes, none-absent}
 use Rattle.view.proofs.ViewBytes.{length-view_bytes}
 use Rattle.step.specs.declared.Ending.{Ending}
-use Rattle.step.specs.declared.Ending.TheVariants.{None, Done, Scan, Spent}
+use Rattle.step.specs.declared.Ending.TheVariants.{Scan}
+use Rattle.step.specs.declared.Rule.{Rule}
 use Rattle.step.specs.Told.{Told, told, told_view}
 use Rattle.step.proofs.Numbers.{on-pick}
 use Rattle.calls.specs.Entry as N
@@ -43,20 +44,11 @@ zeros n v view l h =
           ∙ rw z refl
     ]
 
--- the same by the answer that gives it
-given-zeros : (n : ℕ) (a : Answer Ending) (v : View) (view : List ℕ) → length view ≡ entry_size * nodes
-    → (n ≤ nodes → AbsentPast n v) → claim.GivesView a
-    → drop (entry_size * n) (event_view (told a v) view) ≡ replicate (entry_size * (nodes - n)) 0
-given-zeros n (refused k) v view l h g = absurd g
-given-zeros n (returned None) v view l h g = absurd g
-given-zeros n (returned (Done r)) v view l h g = zeros n v view l h
-given-zeros n (returned (Scan r)) v view l h g = zeros n v view l h
-given-zeros n (returned Spent) v view l h g = absurd g
-
 pub zero-past : claim.ZeroPast
-zero-past a c x b view l g =
-    let e = deliver a c x b in
-    given-zeros (stated b) e.answer e.view view l (deliver-absent a c x b) g
+zero-past a c x b view r l e =
+    let v = (deliver a c x b).view in
+    ap (λ (t : Answer Ending). drop (entry_size * stated b) (event_view (told t v) view)) e
+    ∙ zeros (stated b) v view l (deliver-absent a c x b)
 
 -- what a message at a node shows has nothing past the record's n
 lent-absent : (r : List ℕ) (s : ℕ) (b out : List ℕ) → (record_of r).n ≤ nodes
@@ -68,18 +60,19 @@ lent-absent r s b out h =
     on-pick P (fits N.least_output r (length out)) _ _
     (λ e. on-pick P (codes_known r) _ _ (λ e. message-absent (record_of r) s b out h) (λ e. none)) (λ e. none)
 
--- the lent view after a call that ends with a view, which has nothing past n
-node-zeros : {e : LentResult} (n : ℕ) (view : List ℕ) → NodeCall e → length view ≡ entry_size * nodes
-    → claim.GivesView e.ending → (n ≤ nodes → AbsentPast n (told_view e.answer))
+-- the lent view after a call that ends a scan, whose view has nothing past n
+node-zeros : {e : LentResult} (n : ℕ) (view : List ℕ) (x : Rule) → NodeCall e → length view ≡ entry_size * nodes
+    → e.ending ≡ returned (Scan x) → (n ≤ nodes → AbsentPast n (told_view e.answer))
     → drop (entry_size * n) (event_view e.answer view) ≡ replicate (entry_size * (nodes - n)) 0
-node-zeros {e} n view c l g h =
-    ap (λ (y : Told). drop (entry_size * n) (event_view y view)) (fitting c).told_is
-    ∙ given-zeros n e.ending (told_view e.answer) view l h g
+node-zeros {e} n view x c l q h =
+    let v = told_view e.answer in
+    let t = (fitting c).told_is ∙ ap (λ (y : Answer Ending). told y v) q in
+    ap (λ (y : Told). drop (entry_size * n) (event_view y view)) t ∙ zeros n v view l h
 
 pub node-zero-past : claim.NodeZeroPast
-node-zero-past r s b out view l g =
-    node-zeros (record_of r).n view (by-message r s b out) l g (lent-absent r s b out)
+node-zero-past r s b out view x l e =
+    node-zeros (record_of r).n view x (by-message r s b out) l e (lent-absent r s b out)
 
 pub frame-zero-past : claim.FrameZeroPast
-frame-zero-past r s b out view l g =
-    node-zeros (record_of r).n view (by-frame r s b out) l g (frames.frame-absent r s b out)
+frame-zero-past r s b out view x l e =
+    node-zeros (record_of r).n view x (by-frame r s b out) l e (frames.frame-absent r s b out)

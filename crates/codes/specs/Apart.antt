@@ -8,7 +8,6 @@ use Rattle.wire.specs.Codec.{front, decode, answer}
 use Rattle.wire.specs.declared.Message.{Message}
 use Rattle.figures.specs.Figures.{figures_of}
 use Rattle.page.specs.Page.{page_in}
-use Rattle.flags.specs.Flags.{flags_of}
 use Rattle.record.specs.declared.Operation.{Operation}
 use Rattle.step.specs.declared.Ending.{Ending}
 use Rattle.step.specs.Told.{Told, refusal, nothing, done, scan, spent, spent_number, told, told_view}
@@ -28,19 +27,19 @@ meant k v =
     pick (eqb k 0) nothing
     (pick (eqb k spent_number) (spent k)
     (pick (ltb k done_from) (refusal k)
-    (pick (ltb k scan_from) (done v) (scan v))))
+    (pick (ltb k scan_from) done (scan v))))
 
 abbrev pub rule_meant : ℕ → ℕ
 rule_meant k = pick (ltb k scan_from) (k - done_from) (k - scan_from)
 
--- The events of the calls, on any numbers and any bytes. A proposal is a begin.
+-- The events of the calls, on any numbers and any bytes.
 pub data EventCall : Result → Type 0 where
   by-fresh : (n f : ℕ) (b : List ℕ) → EventCall (fresh n f b)
   by-begin : (c : ℕ) (o : Operation) (x : Extent) (b : List ℕ) → EventCall (begin c o x b)
   by-deliver : (a c : ℕ) (x : Extent) (b : List ℕ) → EventCall (deliver a c x b)
   by-stop : (c : ℕ) (b : List ℕ) → EventCall (stop c b)
 
--- The calls at one node on lent bytes. A proposal is a begin (`AsBegin` of calls_bytes).
+-- The calls at one node on lent bytes.
 pub data NodeCall : L.LentResult → Type 0 where
   by-fresh-node : (n f own : ℕ) (r : List ℕ) → NodeCall (L.fresh n f own r)
   by-begin-node : (r : List ℕ) (o : Operation) (out : List ℕ) → NodeCall (L.begin r o out)
@@ -67,13 +66,11 @@ pub record Apart : Type 0 where
   pub walking : (n : ℕ) (b : List ℕ) → Numbered last_refusal (front n b)
   pub writing : (n : ℕ) (m : Message) (v : List ℕ) (room : ℕ) → Numbered last_refusal (answer n m v room)
   pub counting : (n : ℕ) (v : List ℕ) → Numbered last_refusal (figures_of n v)
-  pub joining : (n : ℕ) (v : List ℕ) → Numbered last_refusal (flags_of n v)
   pub printing : (n : ℕ) (v : List ℕ) (room : ℕ) → Numbered page_refusal (page_in n v room)
   -- No ending has a refusal's code, nor any other that is left for one: below those of done, and not spent's.
   pub endings : (k : ℕ) → 1 ≤ k → k < done_from → (k ≡ spent_number → ⊥) → (x : Ending) (v : View)
       → event_code (refusal k) 0 ≡ event_code (told (returned x) v) (rule_in (returned x)) → ⊥
-  -- What is told is read back, so that no two tellings have one code, but those that differ in the view alone, which is
-  -- beside it.
+  -- What is told is read back, so that no two tellings have one code, but scans with two views, which are beside it.
   pub read_back : {e : Result} → EventCall e → meant (code_of e) e.view ≡ told_of e
   pub rule-back : {e : Result} → EventCall e → rule_meant (code_of e) ≡ rule_in e.answer
   pub node-read-back : {e : L.LentResult} → NodeCall e → meant (lent_code e) (told_view e.answer) ≡ e.answer

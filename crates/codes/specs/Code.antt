@@ -55,7 +55,7 @@ scan_from = 110
 abbrev pub event_code : Told → (rule : ℕ) → ℕ
 event_code (refusal k) i = k
 event_code nothing i = 0
-event_code (done v) i = done_from + i
+event_code done i = done_from + i
 event_code (scan v) i = scan_from + i
 event_code (spent k) i = k
 

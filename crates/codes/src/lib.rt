@@ -1,5 +1,5 @@
 // The numbers that stand for enums at the border to C: codes of answers, the numbers and the report of a message, the
-// extent of a cut; and the view of an operation that ended, written into lent memory.
+// extent of a cut; and the view of a scan that ended, written into lent memory.
 #![tactic(auto)]
 
 ghost use Rattle.std.specs.Prelude.{◌≡◌, ◌≤◌};
@@ -85,7 +85,7 @@ pub fn is_accepted(outcome: Outcome) -> bool
     }
 }
 
-// Writes the view of an update that is done or of a scan that ended.
+// Writes the view of a scan that ended.
 pub fn show(r: Reply, out: &mut [u8; VIEW])
     ensures { out.new ≡ event_view (told_by r) out.old }
 {

@@ -32,7 +32,7 @@ use Rattle.eqaso.proofs.Views.{comparable-views}
 use Rattle.eqaso.proofs.Run.{good as run-good}
 use Rattle.eqaso.proofs.OneOrder.{one-order}
 use Rattle.eqaso.proofs.Words.{as-worded}
-use Rattle.eqaso.proofs.Corollary.{view-without-updates, view-has-earlier}
+use Rattle.eqaso.proofs.Corollary.{scan-without-updates, view-has-earlier}
 use Rattle.eqaso.proofs.Demand3.{demand3}
 use Rattle.eqaso.proofs.BoundedRun.{run-bounded, run-expected, run-own-held}
 use Rattle.eqaso.proofs.Opening.{opens-high}
@@ -73,7 +73,7 @@ module _ (n f : ℕ) (room : ℕ → Bool) (half : f + f < n) where
   rounds-comparable es a b c d t u v x i j = comparable-views n f half (certified es a b t v i) (certified es c d u x j)
 
   pub shows-absence : (es : List Event) → ShowsAbsence n (trace n f room es)
-  shows-absence es = view-without-updates (one-order n f room half es)
+  shows-absence es = scan-without-updates (one-order n f room half es)
 
   pub has-earlier : (es : List Event) → HasEarlier (trace n f room es)
   has-earlier es = view-has-earlier (run-good n f room half es).kept

@@ -1,26 +1,31 @@
--- Two things that follow for a reader: with no update every view shows absences, and the view that an operation ends
+-- Two things that follow for a reader: with no update every scan shows absences, and the view that an operation ends
 -- with has every update that ended before it began.
 use Prim.Native.Nat.{ℕ, ◌≤◌, ◌<◌}
+use native.Mathlib.Decide.{ℕ_discrete}
 use native.Mathlib.Omega.{arith}
 use mathlib.Core.Path.{◌≡◌, ◌∙◌, subst}
 use Rattle.order.specs.Sequence.{before}
 use Rattle.history.specs.Message.{absent}
 use Rattle.history.specs.Event.{done, spent}
-use Rattle.history.specs.Trace.{Trace, updating, begun, Fate, unfinished, ended, fate, tag_at, HasView, end_view, entry_at}
-use Rattle.history.specs.Order.{OneTo, look, EndedBefore, item?, SingleOrder}
-use Rattle.history.proofs.Written.{posted, written_none}
+use Rattle.history.specs.Trace.{Trace, Begun, updating, scanning, begun, Fate, unfinished, ended, fate, tag_at, scan_view}
+use Rattle.history.specs.Trace.{entry_at}
+use Rattle.history.specs.Order.{OneTo, Finished, IsScan, PlacedBy, EndedBefore, SingleOrder}
+use Rattle.history.specs.Views.{HasView, end_view}
+use Rattle.history.proofs.Written.{written_none}
 use Rattle.eqaso.proofs.Book.{tag_of, book_of}
 use Rattle.eqaso.proofs.Facts.{Fit}
 use Rattle.eqaso.proofs.Items.{own_view}
 use Rattle.eqaso.proofs.Kept.{Kept}
 
-pub view-without-updates : {n : ℕ} {tr : Trace} → SingleOrder n tr
-    → ((u c p : ℕ) → ¬ (begun tr u ≡ updating c p)) → (s : ℕ) → HasView (fate tr s)
-    → (w : ℕ) → OneTo n w → entry_at (end_view (fate tr s)) w ≡ absent
-view-without-updates {n} {tr} o no-update s viewed w one =
-    o.order.legal (look s) ((o.order.members (look s)).1 viewed) tt w one
-    ∙ written_none tr w n (before item? (look s) o.order.line) absent
-    (λ a i is. let (p, e) = (posted tr w a is).1 in no-update a.index w p e)
+scan-placed : (tr : Trace) (s : ℕ) (b : Begun) (x : Fate) → IsScan b → Finished x → PlacedBy tr s b x
+scan-placed tr s (scanning c) x h f = f
+
+pub scan-without-updates : {n : ℕ} {tr : Trace} → SingleOrder n tr
+    → ((u c p : ℕ) → ¬ (begun tr u ≡ updating c p)) → (s : ℕ) → IsScan (begun tr s) → Finished (fate tr s)
+    → (w : ℕ) → OneTo n w → entry_at (scan_view (fate tr s)) w ≡ absent
+scan-without-updates {n} {tr} o no-update s scan end w one =
+    o.legal s ((o.members s).1 (scan-placed tr s (begun tr s) (fate tr s) scan end)) scan w one
+    ∙ written_none tr w (before ℕ_discrete s o.line) absent (λ u i (p, e). no-update u w p e)
 
 -- An update with a tag, so one that is not spent.
 pub view-has-earlier : {n : ℕ} {tr : Trace} → Kept n tr → (u c p t : ℕ) → begun tr u ≡ updating c p → 0 < tag_at tr u c

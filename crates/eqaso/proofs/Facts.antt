@@ -8,8 +8,7 @@ use Rattle.history.specs.Message.{Entry, absent, View}
 use Rattle.history.specs.Event.{none, done, shown, spent}
 use Rattle.history.specs.Trace.{Begun, nothing, updating, scanning, Fate, unfinished, ended, entry_at}
 use Rattle.history.specs.Order.{OneTo, EndedBefore}
-use Rattle.history.specs.Trace.{HasView, end_view}
-use Rattle.history.specs.Views.{Below, Comparable}
+use Rattle.history.specs.Views.{HasView, end_view, Below, Comparable}
 use Rattle.eqaso.proofs.Book.{Book, At}
 
 -- What a view has of node w: nothing, or the tag and report of an update of w.

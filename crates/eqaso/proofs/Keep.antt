@@ -11,7 +11,7 @@ use Rattle.history.specs.Message.{Entry}
 use Rattle.history.specs.Event.{done, shown, spent}
 use Rattle.history.specs.Trace.{Begun, updating, scanning, Fate, unfinished, ended}
 use Rattle.history.specs.Order.{OneTo, EndedBefore}
-use Rattle.history.specs.Trace.{HasView}
+use Rattle.history.specs.Views.{HasView}
 use Rattle.eqaso.proofs.Book.{Book, begins, At, IdleAt, OpenAt}
 use Rattle.eqaso.proofs.Facts.{Place, Fit, Between, Facts}
 

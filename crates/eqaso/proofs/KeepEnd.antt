@@ -10,8 +10,7 @@ use Rattle.history.specs.Message.{View}
 use Rattle.history.specs.Event.{Ending}
 use Rattle.history.specs.Trace.{updating, Fate, ended, entry_at}
 use Rattle.history.specs.Order.{OneTo, EndedBefore}
-use Rattle.history.specs.Trace.{HasView, end_view}
-use Rattle.history.specs.Views.{Below, Comparable}
+use Rattle.history.specs.Views.{HasView, end_view, Below, Comparable}
 use Rattle.eqaso.proofs.Book.{Book, ends, At, OpenAt}
 use Rattle.eqaso.proofs.Facts.{Place, Closed, Fit, Between, Facts, ViewDue}
 use Rattle.eqaso.proofs.Keep.{not-ended, between-later, at_old, update-old, viewed-old}

@@ -10,7 +10,7 @@ use Rattle.logs.proofs.Update.{upd_other, upd-all}
 use Rattle.history.specs.Message.{Entry}
 use Rattle.history.specs.Trace.{Begun, nothing, updating, scanning, entry_at}
 use Rattle.history.specs.Order.{EndedBefore}
-use Rattle.history.specs.Trace.{HasView, end_view}
+use Rattle.history.specs.Views.{HasView, end_view}
 use Rattle.eqaso.proofs.Book.{Book, tags, At, OpenAt}
 use Rattle.eqaso.proofs.Facts.{Place, Closed, Fit, Facts, TagDue}
 use Rattle.eqaso.proofs.Keep.{not-ended, node-one}

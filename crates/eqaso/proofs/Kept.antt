@@ -12,7 +12,7 @@ use Rattle.history.specs.Message.{View}
 use Rattle.history.specs.Event.{Ending, none, done, shown, spent, Rule}
 use Rattle.history.specs.Trace.{Seen, Trace, handler, Begun, nothing, updating, scanning, begun, ended, own_tags}
 use Rattle.history.specs.Order.{OneTo}
-use Rattle.history.specs.Trace.{HasView, end_view}
+use Rattle.history.specs.Views.{HasView, end_view}
 use Rattle.eqaso.proofs.Book.{Book, book_of, begins, tags, ends, At, IdleAt, OpenAt}
 use Rattle.eqaso.proofs.Facts.{Facts, Fit, TagDue, ViewDue, OwnDue}
 use Rattle.eqaso.proofs.Keep.{facts-later, facts-begin, at_old, tagged-old, node-one, scan-bare}

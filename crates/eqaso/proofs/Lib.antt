@@ -43,11 +43,6 @@ pub mod Items
 pub mod Single
 pub mod Corollary
 pub mod Words
--- Proposals and their answers.
-pub mod Posted
-pub mod Handled
-pub mod Answered
-pub mod Agreement
 -- What the nodes know of the book.
 pub mod Course
 pub mod Act
@@ -69,13 +64,9 @@ pub mod Empty
 pub mod OneOrder
 pub mod Quiet
 pub mod Demand3
-pub mod Onward
-pub mod OwnDone
-pub mod OwnLast
 pub mod BoundedRun
 pub mod Claims
 -- Runs computed.
 pub mod Runs
 pub mod Instance
-pub mod OwnInstance
 pub mod ReadOff

@@ -15,8 +15,7 @@ use Rattle.history.specs.Message.{Value, of, absent, View, value}
 use Rattle.history.specs.Event.{Operation, Round, done, shown, spent}
 use Rattle.history.specs.Trace.{Begun, nothing, updating, scanning, Fate, unfinished, ended, entry_at}
 use Rattle.history.specs.Order.{OneTo, EndedBefore}
-use Rattle.history.specs.Trace.{HasView, end_view}
-use Rattle.history.specs.Views.{Below, Comparable}
+use Rattle.history.specs.Views.{HasView, end_view, Below, Comparable}
 use Rattle.algorithm.specs.Algorithm.{newest, table, view_upto}
 use Rattle.algorithm.proofs.Cert.{Log, Logs, Inside, Cert, below, same}
 use Rattle.algorithm.proofs.Local.{Past, Settled, Due, Stage}

@@ -1,15 +1,13 @@
--- What is claimed of every run of the algorithm: demand 3, also for the sizes of document 01; when an update is spent;
--- and what a node holds of itself.
-use Rattle.std.specs.Prelude.{ℕ, ◌+◌, ◌-◌, ◌≤◌, ◌<◌, max, ◌≡◌, ◌↔◌, Bool, false, List, ◌++◌, length}
+-- What is claimed of every run of the algorithm: demand 3, also for the sizes of document 01; and when an update is
+-- spent.
+use Rattle.std.specs.Prelude.{ℕ, ◌+◌, ◌-◌, ◌≤◌, ◌<◌, max, ◌≡◌, ◌↔◌, Bool, List}
 use Rattle.logs.specs.Count.{count}
 use Rattle.history.specs.Message.{Message}
 use Rattle.history.specs.Event.{Operation, update, scan, none, spent, Event}
-use Rattle.history.specs.Trace.{stopped}
 use Rattle.history.specs.Order.{OneTo, SingleOrder, Quiet}
-use Rattle.history.specs.Own.{LastBefore}
 use Rattle.algorithm.specs.Algorithm.{limit, Wait, idle, reading, writing, comparing, borrowing, Node, react}
-use Rattle.algorithm.specs.Algorithm.{latest, message_step, begin_step}
-use Rattle.eqaso.specs.Cluster.{start, at_most, unlimited, after, trace}
+use Rattle.algorithm.specs.Algorithm.{message_step, begin_step}
+use Rattle.eqaso.specs.Cluster.{at_most, unlimited, trace}
 
 -- Demand 3: of every list of events, with any numbers, on channels with a given room.
 abbrev pub Demand3 : (n f : ℕ) (room : ℕ → Bool) → Type 0
@@ -47,10 +45,3 @@ pub record SpentLast (n f : ℕ) : Type 0 where
 -- No operation ends in its begin step.
 abbrev pub BeginsOpen : (n f : ℕ) → Type 0
 BeginsOpen n f = (i : ℕ) (op : Operation) (ν : Node) → (begin_step n f i op ν).ending ≡ none
-
--- What a standing node that has nothing open holds of itself is its last update that is done; `later` is whatever comes
--- after.
-abbrev pub OwnLast : (n f : ℕ) (room : ℕ → Bool) → Type 0
-OwnLast n f room = (es later : List Event) (c : ℕ) → stopped (trace n f room es) c ≡ false
-    → ((after n f room start es).nodes c).wait ≡ idle
-    → LastBefore (trace n f room (es ++ later)) (length es) c (latest c ((after n f room start es).nodes c).all)

@@ -1,5 +1,4 @@
 pub mod Admitted
-pub mod Alike
 pub mod Handed
 pub mod Settled
 pub mod Shown

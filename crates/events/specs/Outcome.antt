@@ -1,5 +1,5 @@
 -- What the answer of an event says. In document 01's terms that is `told` of step: the refusal's number, or the ending
--- with its number and values, the view of an update too. The code gives more: the rule of an ending.
+-- with its number and values. The code gives more: the rule of an ending, and the view of an update.
 use Rattle.std.specs.Prelude.{ℕ, ◌≡◌, List}
 use Rattle.octets.specs.Answer.{Answer, returned, refused}
 use Rattle.step.specs.declared.Ending.{Ending}
@@ -13,7 +13,7 @@ abbrev pub answer_of : Outcome → Answer Ending
 answer_of (Refused k) = refused k
 answer_of (Accepted e) = returned e
 
--- What an answer and an event tell in document 01's terms: no rule.
+-- What an answer and an event tell in document 01's terms: no rule, and of the views only a scan's.
 abbrev pub told_by : Reply → Told
 told_by r = told (answer_of r.outcome) r.view
 

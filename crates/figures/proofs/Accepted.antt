@@ -16,7 +16,7 @@ use Rattle.view.specs.Size.{nodes, is_size, limit, entry_size, view_size}
 use Rattle.view.specs.View.{view_ok}
 use Rattle.view.specs.declared.Report.{Report}
 use Rattle.figures.specs.declared.Totals.{Totals}
-use Rattle.figures.specs.Figures.{counted_report, total, totals, over_view, figures_of}
+use Rattle.figures.specs.Figures.{counted_report, total, totals, figures_of}
 use Rattle.figures.proofs.Bounds.{Fit, totals-fit}
 
 pub record Accepted (n : ℕ) (v : List ℕ) (t : Totals) : Type 0 where
@@ -26,26 +26,24 @@ pub record Accepted (n : ℕ) (v : List ℕ) (t : Totals) : Type 0 where
   pub are : t ≡ totals n v
 
 -- a choice between an answer and a refusal that is a result
-chosen : {A : Type 0} (b : Bool) (a : Answer A) (k : ℕ) (y : A) → pick b a (refused k) ≡ returned y
-    → (b ≡ true) × (a ≡ returned y)
-chosen true a k y e = (refl, e)
-chosen false a k y e = let z : ◌≡◌ {A = ℕ} 0 1 = cc in absurd (omega arith)
-
--- a result over a view is what was to be answered, and nothing refuses the view
-pub judged : {A : Type 0} (n : ℕ) (v : List ℕ) (x y : A) → over_view n v x ≡ returned y
-    → (is_size n ≡ true) × (length v ≡ view_size n) × (view_ok n limit v ≡ true) × (y ≡ x)
-judged {A} n v x y e =
-    let a : Answer A = pick (view_ok n limit v) (returned x) (refused 7) in
-    let p = chosen (eqb (length v) (entry_size * n)) (pick (is_size n) a (refused 1)) 12 y e in
-    let q = chosen (is_size n) a 1 y p.1 in
-    let r = chosen (view_ok n limit v) (returned x) 7 y q.1 in
-    (q.0, eqb-true (length v) (entry_size * n) p.0, r.0, cc r.1)
+chosen : (b : Bool) (a : Answer Totals) (k : ℕ) (t : Totals) → pick b a (refused k) ≡ returned t
+    → (b ≡ true) × (a ≡ returned t)
+chosen true a k t e = (refl, e)
+chosen false a k t e = let z : ◌≡◌ {A = ℕ} 0 1 = cc in absurd (omega arith)
 
 pub accepted : (n : ℕ) (v : List ℕ) (t : Totals) → figures_of n v ≡ returned t → Accepted n v t
 unfolding figures_of
 accepted n v t e =
-    let h = judged n v (totals n v) t e in
-    record { sized = h.0; long = h.1; ok = h.2; are = h.3 }
+    let a : Answer Totals = pick (view_ok n limit v) (returned (totals n v)) (refused 7) in
+    let p = chosen (eqb (length v) (entry_size * n)) (pick (is_size n) a (refused 1)) 12 t e in
+    let q = chosen (is_size n) a 1 t p.1 in
+    let r = chosen (view_ok n limit v) (returned (totals n v)) 7 t q.1 in
+    record {
+      sized = q.0;
+      long = eqb-true (length v) (entry_size * n) p.0;
+      ok = r.0;
+      are = cc r.1;
+    }
 
 pub accepted-back : (n : ℕ) (v : List ℕ) (t : Totals) → Accepted n v t → figures_of n v ≡ returned t
 unfolding figures_of

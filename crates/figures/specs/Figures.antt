@@ -50,15 +50,11 @@ count_most = 65535
 abbrev pub figure_most : ℕ
 figure_most = count_most * nodes
 
--- What is answered over a view of n nodes: x, or a refusal. 12: the length is not 16 n, for any n; 1: n; 7: a tag above
--- its limit, or bytes beside tag 0.
-abbrev pub over_view : {A : Type 0} → ℕ → List ℕ → A → Answer A
-over_view n v x =
-    pick (eqb (length v) (entry_size * n)) (pick (is_size n) (pick (view_ok n limit v) (returned x) (refused 7)) (refused 1))
-    (refused 12)
-
+-- 12: the length is not 16 n, for any n; 1: n; 7: a tag above its limit, or bytes beside tag 0
 unfoldable pub figures_of : ℕ → List ℕ → Answer Totals
-figures_of n v = over_view n v (totals n v)
+figures_of n v =
+    pick (eqb (length v) (entry_size * n))
+    (pick (is_size n) (pick (view_ok n limit v) (returned (totals n v)) (refused 7)) (refused 1)) (refused 12)
 
 -- what the answer says in document 01's terms
 abbrev pub counted : Counted → Answer Totals

@@ -76,7 +76,7 @@ const LAST: usize = TAG - 1;
 
 // Whether the entry at a place may stand in a view. A tag whose last byte is not 0 is not 0, so any report may stand
 // beside it, and its first byte tells whether it is within its limit: two bytes are read of most entries.
-pub fn is_entry(v: &[u8], at: usize) -> bool
+fn is_entry(v: &[u8], at: usize) -> bool
     requires { at + entry_size ≤ length v.now }
     ensures { result ≡ entry_ok limit (word v.now at) (word v.now (at + tag_size)) }
 {

@@ -112,9 +112,9 @@ fn take_all(
     }
 }
 
-// Handles a frame from node s; the messages that it gives rise to go to `out`, the view of an update that is done or of
-// a scan that ends to `view`. It refuses with 12, 2, 3, 14, 7, 9. One message alone is handled as in the message call:
-// it is judged before anything is written, so it need not be judged apart.
+// Handles a frame from node s; the messages that it gives rise to go to `out`, the view of a scan that ends to `view`.
+// It refuses with 12, 2, 3, 14, 7, 9. One message alone is handled as in the message call: it is judged before anything
+// is written, so it need not be judged apart.
 pub fn frame(r: &mut [u8], s: usize, b: &[u8], out: &mut [u8], view: &mut [u8; VIEW]) -> Called
     ensures { Shows result r.new out.new view.new
         (frame_call r.old s b.now out.old) view.old }

@@ -1,5 +1,6 @@
 -- Traces that the claims rule out, each by one clause alone: words to write them down with, and what they share.
 use Prim.Native.Nat.{ℕ}
+use native.Mathlib.Decide.{ℕ_discrete}
 use mathlib.Core.Path.{◌≡◌}
 use mathlib.Core.Logic.{⊎_elim}
 use mathlib.Core.List.Memᴰ
@@ -8,8 +9,7 @@ use Rattle.logs.specs.Log.{◌∈◌}
 use Rattle.history.specs.Message.{Entry, View, value}
 use Rattle.history.specs.Event.{Operation, Ending, none, done, shown, direct, round1, begin, deliver, whole}
 use Rattle.history.specs.Event.{accepted, Sent}
-use Rattle.history.specs.Trace.{Seen}
-use Rattle.history.specs.Order.{Item, item?}
+use Rattle.history.specs.Trace.{Seen, Begun, nothing, updating, scanning}
 
 -- An operation of node c begins.
 abbrev pub begins : ℕ → Operation → Seen
@@ -32,9 +32,15 @@ is_done v = done (direct round1) v
 abbrev pub shows : View → Ending
 shows v = shown (direct round1) v
 
-pub in? : (x : Item) (l : List Item) → Dec (x ∈ l)
+-- The node of an update; 0 for all else.
+abbrev pub updater : Begun → ℕ
+updater nothing = 0
+updater (updating c p) = c
+updater (scanning c) = 0
+
+pub in? : (x : ℕ) (l : List ℕ) → Dec (x ∈ l)
 in? x [] = no λ i. Memᴰ.not-nil i
-in? x (y ∷ l) = go (item? x y) (in? x l)
+in? x (y ∷ l) = go (ℕ_discrete x y) (in? x l)
   where
     go : Dec (x ≡ y) → Dec (x ∈ l) → Dec (x ∈ (y ∷ l))
     go (yes e) d = yes (Memᴰ.head e)

@@ -1,6 +1,6 @@
 -- Traces in which an operation ends as the other kind does, or with a view of another length than n. Each has one
--- operation, and the line of its halves that have a place fits all other clauses: an entry that is not there is read as
--- absent, and one too many is never read.
+-- operation, and the line of it alone, or the empty one, fits all other clauses: nothing reads the view of an update,
+-- an entry that is not there is read as absent, and one too many is never read.
 use native.Mathlib.Decide.{ℕ_discrete}
 use native.Mathlib.Omega.{arith}
 use mathlib.Core.Bool.{decide}
@@ -26,7 +26,7 @@ unfolding first_ending ℕ_discrete decide
 scan-spent-out o = o.kinds 0
 
 abbrev update-shown : Trace
-update-shown = begins 1 (update 7) ∷ handles 1 (shows (absent ∷ [])) (own 1 1 7) ∷ []
+update-shown = begins 1 (update 7) ∷ handles 1 (shows (entry 1 7 ∷ [])) (own 1 1 7) ∷ []
 
 pub update-shown-out : ¬ SingleOrder 1 update-shown
 unfolding first_ending ℕ_discrete decide
@@ -48,13 +48,13 @@ pub long-out : ¬ SingleOrder 1 long
 unfolding first_ending ℕ_discrete decide
 long-out o = omega (arith, o.kinds 0)
 
--- Of two nodes, an update that is done says nothing of the second.
-abbrev scant : Trace
-scant = begins 1 (update 7) ∷ handles 1 (is_done (entry 1 7 ∷ [])) (own 1 1 7) ∷ []
+-- An update that is done with an empty view.
+abbrev viewless : Trace
+viewless = begins 1 (update 7) ∷ handles 1 (is_done []) (own 1 1 7) ∷ []
 
-pub scant-out : ¬ SingleOrder 2 scant
+pub viewless-out : ¬ SingleOrder 1 viewless
 unfolding first_ending ℕ_discrete decide
-scant-out o = omega (arith, o.kinds 0)
+viewless-out o = omega (arith, o.kinds 0)
 
 -- One that is done with an entry more than nodes.
 abbrev overlong : Trace

@@ -14,12 +14,12 @@ use Rattle.history.specs.Message.{Entry, absent}
 use Rattle.history.specs.Event.{update, scan, none, spent}
 use Rattle.history.specs.Trace.{Trace, updating, begun, tag_at, first_ending, tags_sent, own_tags, largest}
 use Rattle.history.specs.Trace.{first_above}
-use Rattle.history.specs.Order.{post, look, item?, SingleOrder}
-use Rattle.history.proofs.Written.{updater, PostOf, posted, written_none, written_last}
-use Rattle.history.proofs.RuledOut.{begins, handles, own, entry, is_done, shows}
+use Rattle.history.specs.Order.{SingleOrder}
+use Rattle.history.proofs.Written.{UpdateOf, written_none, written_last}
+use Rattle.history.proofs.RuledOut.{begins, handles, own, entry, is_done, shows, updater}
 
--- A scan shows an update although a later one of its node had ended before the scan began. The line that
--- posts the first report again, after the second, fits all else.
+-- A scan shows an update although a later one of its node had ended before the scan began. The line 0 2 0 4, in which
+-- the first update stands twice, fits all else.
 abbrev reverted : Trace
 reverted =
     begins 1 (update 7) ∷ handles 1 (is_done (entry 1 7 ∷ [])) (own 1 1 7)
@@ -38,28 +38,23 @@ reverted-updates (suc (suc (suc (suc (suc (suc u)))))) p e = absurd (omega (arit
 pub reverted-out : ¬ SingleOrder 1 reverted
 unfolding first_ending tags_sent own_tags largest first_above ℕ_discrete dec_lt decide
 reverted-out o =
-    let first = (o.order.members (post 0)).1 tt in
-    let second = (o.order.members (post 2)).1 tt in
-    let scans = (o.order.members (look 4)).1 tt in
-    let early = o.order.timely (post 0) (post 2) first second (inl (omega arith)) in
-    let late = o.order.timely (post 2) (look 4) second scans (inl (omega arith)) in
-    let last : Last (PostOf reverted 1) (post 2) (before item? (look 4) o.order.line) =
-    last_of item? (before item? (look 4) o.order.line) late (8, refl)
-    (before-once item? (look 4) o.order.line o.order.once)
-    λ v m is. let (same, (p, e)) = posted reverted 1 v is in elim (reverted-updates v.index p e) [
-      | inl h ↦ inr (subst (λ z. z ∈ before item? (post 2) (before item? (look 4) o.order.line))
-          (sym (same ∙ ap post h)) (before-within item? (look 4) o.order.line late early))
-      | inr h ↦ inl (same ∙ ap post h)
+    let early = o.timely 0 2 ((o.members 0).1 tt) ((o.members 2).1 tt) (omega arith) in
+    let late = o.timely 2 4 ((o.members 2).1 tt) ((o.members 4).1 tt) (omega arith) in
+    let last : Last (UpdateOf reverted 1) 2 (before ℕ_discrete 4 o.line) =
+    last_of ℕ_discrete (before ℕ_discrete 4 o.line) late (8, refl) (before-once ℕ_discrete 4 o.line o.once)
+    λ v m (p, is). elim (reverted-updates v p is) [
+      | inl e ↦ inr (subst (λ z. z ∈ before ℕ_discrete 2 (before ℕ_discrete 4 o.line)) (sym e)
+          (before-within ℕ_discrete 4 o.line late early))
+      | inr e ↦ inl e
     ] in
-    let sees = o.order.legal (look 4) scans tt 1 (omega arith, omega arith) in
+    let sees = o.legal 4 ((o.members 4).1 tt) tt 1 (omega arith, omega arith) in
     omega (
       arith,
       ap (λ (e : Entry). e.tag) (sees
-          ∙ written_last reverted 1 1 8 refl (before item? (look 4) o.order.line) absent last),
+          ∙ written_last reverted 1 8 refl (before ℕ_discrete 4 o.line) absent last),
     )
 
--- A scan shows an update that has let its value out and is spent. The line of that update and the scan fits
--- all else.
+-- A scan shows an update that has let its value out and is spent. The line 0 3 fits all else.
 abbrev spent-shown : Trace
 spent-shown =
     begins 1 (update 7) ∷ handles 1 none (own 1 1 7) ∷ handles 1 spent []
@@ -76,14 +71,12 @@ spent-update (suc (suc (suc (suc (suc u))))) p e = absurd (omega (arith, ap upda
 pub spent-shown-out : ¬ SingleOrder 1 spent-shown
 unfolding first_ending tags_sent own_tags largest first_above ℕ_discrete dec_lt decide
 spent-shown-out o =
-    let sees = o.order.legal (look 3) ((o.order.members (look 3)).1 tt) tt 1 (omega arith, omega arith) in
+    let sees = o.legal 3 ((o.members 3).1 tt) tt 1 (omega arith, omega arith) in
     omega (
       arith,
       ap (λ (e : Entry). e.tag) (sees
-          ∙ written_none spent-shown 1 1 (before item? (look 3) o.order.line) absent λ a m is.
-          let (same, (p, e)) = posted spent-shown 1 a is in
-          (o.order.members (post 0)).0 (subst (λ z. z ∈ o.order.line)
-          (same ∙ ap post (spent-update a.index p e)) (before-in item? (look 3) o.order.line m))),
+          ∙ written_none spent-shown 1 (before ℕ_discrete 3 o.line) absent λ u m (p, is).
+          (o.members 0).0 (subst (λ z. z ∈ o.line) (spent-update u p is) (before-in ℕ_discrete 3 o.line m))),
     )
 
 -- An update with a report of zeros that is done and has sent nothing: whoever looks sees an absence, and no harm. The
@@ -93,9 +86,7 @@ unsent = begins 1 (update 0) ∷ handles 1 (is_done (absent ∷ [])) [] ∷ []
 
 pub unsent-out : ¬ SingleOrder 1 unsent
 unfolding first_ending tags_sent own_tags largest first_above ℕ_discrete dec_lt decide
-unsent-out o =
-    let pos : 0 < tag_at unsent 0 1 = o.tagged 0 1 0 ((o.order.members (post 0)).1 tt) refl in
-    absurd (omega (arith, pos))
+unsent-out o = let pos : 0 < tag_at unsent 0 1 = o.tagged 0 1 0 ((o.members 0).1 tt) refl in absurd (omega (arith, pos))
 
 -- A scan shows a report that nobody wrote. The line of it alone fits all else.
 abbrev pub invented : Trace
@@ -109,10 +100,9 @@ no-update (suc (suc u)) p e = omega (arith, ap updater e)
 pub invented-out : ¬ SingleOrder 1 invented
 unfolding first_ending ℕ_discrete decide
 invented-out o =
-    let sees = o.order.legal (look 0) ((o.order.members (look 0)).1 tt) tt 1 (omega arith, omega arith) in
+    let sees = o.legal 0 ((o.members 0).1 tt) tt 1 (omega arith, omega arith) in
     omega (
       arith,
       ap (λ (e : Entry). e.tag) (sees
-          ∙ written_none invented 1 1 (before item? (look 0) o.order.line) absent λ a m is.
-          let (same, (p, e)) = posted invented 1 a is in no-update a.index p e),
+          ∙ written_none invented 1 (before ℕ_discrete 0 o.line) absent λ u m (p, is). no-update u p is),
     )

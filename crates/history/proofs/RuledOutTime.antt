@@ -10,15 +10,14 @@ use mathlib.Core.Logic.{◌⊎◌, inl, inr}
 use mathlib.Core.List.{[], ◌∷◌}
 use Rattle.logs.specs.Log.{◌∈◌}
 use Rattle.order.specs.Sequence.{before}
-use Rattle.order.specs.Story.{written}
 use Rattle.order.proofs.Sequence.{before-trans}
 use Rattle.history.specs.Message.{Entry, absent}
 use Rattle.history.specs.Event.{update, scan, none}
 use Rattle.history.specs.Trace.{Trace, updating, begun, tag_at, first_ending, tags_sent, own_tags, largest}
 use Rattle.history.specs.Trace.{first_above}
-use Rattle.history.specs.Order.{Shows, post, look, item?, story, SingleOrder}
-use Rattle.history.proofs.Written.{updater, posted, written_none, update-written}
-use Rattle.history.proofs.RuledOut.{begins, handles, own, entry, is_done, shows, in?}
+use Rattle.history.specs.Order.{Shows, written, SingleOrder}
+use Rattle.history.proofs.Written.{written_none, update-written}
+use Rattle.history.proofs.RuledOut.{begins, handles, own, entry, is_done, shows, updater, in?}
 
 -- The scan misses an update that had ended. A line that leaves the update out fits all else.
 abbrev pub missed : Trace
@@ -37,15 +36,13 @@ missed-tagged (suc (suc (suc (suc u)))) p e = absurd (omega (arith, ap updater e
 pub missed-out : ¬ SingleOrder 1 missed
 unfolding first_ending tags_sent own_tags largest first_above ℕ_discrete dec_lt decide
 missed-out o =
-    let updates = (o.order.members (post 0)).1 tt in
-    let scans = (o.order.members (look 2)).1 tt in
-    let here = o.order.timely (post 0) (look 2) updates scans (inl (omega arith)) in
-    let sees = o.order.legal (look 2) scans tt 1 (omega arith, omega arith) in
-    let some = update-written 1 missed 1 missed-tagged 7 refl (before item? (look 2) o.order.line) absent here in
+    let here = o.timely 0 2 ((o.members 0).1 tt) ((o.members 2).1 tt) (omega arith) in
+    let sees = o.legal 2 ((o.members 2).1 tt) tt 1 (omega arith, omega arith) in
+    let some = update-written missed 1 missed-tagged 7 refl (before ℕ_discrete 2 o.line) absent here in
     omega (arith, some, ap (λ e. e.tag) sees)
 
--- The first scan shows an unfinished update, the second begins when the first has ended and misses it. The line
--- in which the second scan stands first, then the update, then the first scan, fits all else.
+-- The first scan shows an unfinished update, the second begins when the first has ended and misses it. The line 4 0 2,
+-- in which the second scan stands first, fits all else.
 abbrev inverted : Trace
 inverted =
     begins 1 (update 7) ∷ handles 1 none (own 1 1 7)
@@ -69,37 +66,32 @@ inverted-tagged u p e = subst (λ k. 0 < tag_at inverted k 1) (sym (inverted-upd
 pub inverted-out : ¬ SingleOrder 2 inverted
 unfolding first_ending tags_sent own_tags largest first_above ℕ_discrete dec_lt decide
 inverted-out o =
-    let i = (o.order.members (look 2)).1 tt in
-    let j = (o.order.members (look 4)).1 tt in
-    let first = o.order.legal (look 2) i tt 1 (omega arith, omega arith) in
-    let second = o.order.legal (look 4) j tt 1 (omega arith, omega arith) in
-    let late = o.order.timely (look 2) (look 4) i j (inl (omega arith)) in
-    by (in? (post 0) (before item? (look 2) o.order.line)) late first second
+    let first = o.legal 2 ((o.members 2).1 tt) tt 1 (omega arith, omega arith) in
+    let second = o.legal 4 ((o.members 4).1 tt) tt 1 (omega arith, omega arith) in
+    let late = o.timely 2 4 ((o.members 2).1 tt) ((o.members 4).1 tt) (omega arith) in
+    by (in? 0 (before ℕ_discrete 2 o.line)) late first second
   where
-    by : Dec (post 0 ∈ before item? (look 2) o.order.line) → look 2 ∈ before item? (look 4) o.order.line
-        → entry 1 7 ≡ written (story 2 inverted) 1 (before item? (look 2) o.order.line) absent
-        → absent ≡ written (story 2 inverted) 1 (before item? (look 4) o.order.line) absent → ⊥
+    by : Dec (0 ∈ before ℕ_discrete 2 o.line) → 2 ∈ before ℕ_discrete 4 o.line
+        → entry 1 7 ≡ written inverted 1 (before ℕ_discrete 2 o.line) absent
+        → absent ≡ written inverted 1 (before ℕ_discrete 4 o.line) absent → ⊥
     by (yes early) late first second = omega (
       arith,
       ap (λ (e : Entry). e.tag) second,
-      update-written 2 inverted 1 inverted-tagged 7 refl (before item? (look 4) o.order.line) absent
-          (before-trans item? (look 4) o.order.line early late),
+      update-written inverted 1 inverted-tagged 7 refl (before ℕ_discrete 4 o.line) absent
+          (before-trans ℕ_discrete 4 o.line early late),
     )
     by (no early) late first second = omega (arith, ap (λ (e : Entry). e.tag) (first ∙ none_before))
       where
-        none_before : written (story 2 inverted) 1 (before item? (look 2) o.order.line) absent ≡ absent
-        none_before = written_none inverted 1 2 (before item? (look 2) o.order.line) absent λ a i is.
-            let (same, (p, e)) = posted inverted 1 a is in
-            early (subst (λ k. k ∈ before item? (look 2) o.order.line)
-            (same ∙ ap post (inverted-update a.index p e)) i)
+        none_before : written inverted 1 (before ℕ_discrete 2 o.line) absent ≡ absent
+        none_before = written_none inverted 1 (before ℕ_discrete 2 o.line) absent λ u i (p, e).
+            early (subst (λ k. k ∈ before ℕ_discrete 2 o.line) (inverted-update u p e) i)
 
--- The scan of node 3 shows the unfinished update of node 2 and misses that of node 1, which had ended. The
--- update of node 1 shows it too: the line of the unfinished update, the scan, then the update that had ended with its
--- look fits all else.
+-- The scan of node 3 shows the unfinished update of node 2 and misses that of node 1, which had ended. The line 3 0 1
+-- fits all else.
 abbrev skipped : Trace
 skipped =
     begins 3 scan
-    ∷ begins 1 (update 7) ∷ handles 1 (is_done (entry 1 7 ∷ entry 2 8 ∷ absent ∷ [])) (own 1 1 7)
+    ∷ begins 1 (update 7) ∷ handles 1 (is_done (entry 1 7 ∷ absent ∷ absent ∷ [])) (own 1 1 7)
     ∷ begins 2 (update 8) ∷ handles 2 none (own 2 2 8)
     ∷ handles 3 (shows (absent ∷ entry 2 8 ∷ absent ∷ [])) [] ∷ []
 
@@ -123,29 +115,24 @@ skipped-tagged u p e = elim (skipped-updates u 1 p e (omega arith))
 pub skipped-out : ¬ SingleOrder 3 skipped
 unfolding first_ending tags_sent own_tags largest first_above ℕ_discrete dec_lt decide
 skipped-out o =
-    let sees = o.order.legal (look 0) ((o.order.members (look 0)).1 tt) tt in
-    let shows : Shows skipped 0 2 2 8 = record { viewed = tt; tagged = omega arith; entry = refl } in
-    let ended = (o.order.members (post 1)).1 tt in
-    let going = (o.order.members (post 3)).1 (0, shows) in
-    let early = o.order.timely (post 1) (post 3) ended going (inl (omega arith)) in
-    by (in? (post 3) (before item? (look 0) o.order.line)) early (sees 1 (omega arith, omega arith))
+    let sees = o.legal 0 ((o.members 0).1 tt) tt in
+    let shows : Shows skipped 0 2 2 8 = record { scan = tt; finished = tt; tagged = omega arith; entry = refl } in
+    let early = o.timely 1 3 ((o.members 1).1 tt) ((o.members 3).1 (0, shows)) (omega arith) in
+    by (in? 3 (before ℕ_discrete 0 o.line)) early (sees 1 (omega arith, omega arith))
     (sees 2 (omega arith, omega arith))
   where
-    by : Dec (post 3 ∈ before item? (look 0) o.order.line) → post 1 ∈ before item? (post 3) o.order.line
-        → absent ≡ written (story 3 skipped) 1 (before item? (look 0) o.order.line) absent
-        → record { tag = 2; report = 8 } ≡ written (story 3 skipped) 2 (before item? (look 0) o.order.line) absent
-        → ⊥
+    by : Dec (3 ∈ before ℕ_discrete 0 o.line) → 1 ∈ before ℕ_discrete 3 o.line
+        → absent ≡ written skipped 1 (before ℕ_discrete 0 o.line) absent
+        → record { tag = 2; report = 8 } ≡ written skipped 2 (before ℕ_discrete 0 o.line) absent → ⊥
     by (yes late) early one two = omega (
       arith,
       ap (λ (e : Entry). e.tag) one,
-      update-written 3 skipped 1 skipped-tagged 7 refl (before item? (look 0) o.order.line) absent
-          (before-trans item? (look 0) o.order.line early late),
+      update-written skipped 1 skipped-tagged 7 refl (before ℕ_discrete 0 o.line) absent
+          (before-trans ℕ_discrete 0 o.line early late),
     )
     by (no late) early one two = omega (arith, ap (λ (e : Entry). e.tag) (two ∙ none))
       where
-        none : written (story 3 skipped) 2 (before item? (look 0) o.order.line) absent ≡ absent
-        none = written_none skipped 2 3 (before item? (look 0) o.order.line) absent λ a i is.
-            let (same, (p, e)) = posted skipped 2 a is in late (elim (skipped-updates a.index 2 p e (omega arith)) [
-              | inl h ↦ absurd (omega (arith, h.1))
-              | inr h ↦ subst (λ k. k ∈ before item? (look 0) o.order.line) (same ∙ ap post h.0) i
-            ])
+        none : written skipped 2 (before ℕ_discrete 0 o.line) absent ≡ absent
+        none = written_none skipped 2 (before ℕ_discrete 0 o.line) absent λ u i (p, e).
+            late (elim (skipped-updates u 2 p e (omega arith))
+            [ inl h ↦ absurd (omega (arith, h.1)) | inr h ↦ subst (λ k. k ∈ before ℕ_discrete 0 o.line) h.0 i ])

@@ -10,8 +10,8 @@ use mathlib.Core.List.Memᴰ
 use mathlib.Core.List.{List, [], ◌∷◌}
 use Rattle.history.specs.Message.{View, absent, good}
 use Rattle.history.specs.Event.{none, Sent, sent_to}
-use Rattle.history.specs.Trace.{Trace, IsUpdate, begun, first_ending, tags_sent, own_tags, largest, first_above}
-use Rattle.history.specs.Trace.{let_out_to}
+use Rattle.history.specs.Trace.{Trace, Begun, nothing, updating, scanning, begun, first_ending, tags_sent, own_tags}
+use Rattle.history.specs.Trace.{largest, first_above, let_out_to}
 use Rattle.history.specs.Views.{RoundsComparable, ShowsAbsence, HasEarlier}
 use Rattle.history.proofs.RuledOut.{handles, entry}
 use Rattle.history.proofs.RuledOutLine.{invented}
@@ -37,6 +37,11 @@ apart_out h = elim (h 1 1 2 1 1 1 first second (Memᴰ.head refl) (Memᴰ.head r
   | inr below ↦ omega (arith, below 2 (omega arith, omega arith))
 ]
 
+abbrev IsUpdate : Begun → Type 0
+IsUpdate nothing = ⊥
+IsUpdate (updating c p) = Unit {0}
+IsUpdate (scanning c) = ⊥
+
 no-update : (u : ℕ) → ¬ IsUpdate (begun invented u)
 no-update zero h = h
 no-update (suc zero) h = h
@@ -46,7 +51,7 @@ pub invented-shown-out : ¬ ShowsAbsence 1 invented
 unfolding first_ending ℕ_discrete decide
 invented-shown-out h = omega (
   arith,
-  ap (λ e. e.tag) (h (λ u c p e. no-update u (subst IsUpdate (sym e) tt)) 0 tt 1 (omega arith, omega arith)),
+  ap (λ e. e.tag) (h (λ u c p e. no-update u (subst IsUpdate (sym e) tt)) 0 tt tt 1 (omega arith, omega arith)),
 )
 
 pub missed-earlier-out : ¬ HasEarlier missed

@@ -29,8 +29,8 @@ pub data Rule : Type 0 where
   direct : Round → Rule
   borrowed : Rule
 
--- What a step tells the client: nothing, that its update is done, with the view that it obtained (line 9; document 02,
--- [6]), what its scan shows, or that no tag was left. A spent update has no view.
+-- What a step tells the client: nothing, that its update is done, what its scan shows, or that no tag was left. An
+-- update has a view too (line 9), which the client is not given.
 pub data Ending : Type 0 where
   none : Ending
   done : Rule → View → Ending

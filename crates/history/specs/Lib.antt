@@ -4,5 +4,3 @@ pub mod Trace
 pub mod Order
 pub mod Tags
 pub mod Views
-pub mod Own
-pub mod Flags

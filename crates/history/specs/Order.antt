@@ -1,16 +1,13 @@
--- Demand 3 of document 01 with document 02's [6], as two claims about a trace: there is one single order of its
--- operations, in which an update that is done counts twice, and where no message waits for a standing node, no
--- operation is open.
-use Rattle.std.specs.Prelude.{ℕ, ◌<◌, ◌≤◌, ◌≡◌, refl, ◌⊎◌, false, cond, [], length}
+-- Demand 3 of document 01, as two claims about a trace: there is one single order of its operations, and where no
+-- message waits for a standing node, no operation is open.
+use Rattle.std.specs.Prelude.{ℕ, ◌<◌, ◌≤◌, ◌≡◌, ◌↔◌, false, List, [], ◌∷◌, length}
 use Rattle.std.proofs.Math.Decide.{ℕ_discrete}
-use Rattle.std.proofs.Common.{ap, subst}
-use Rattle.std.proofs.Math.Bool.{decide}
 use Rattle.logs.specs.Log.{◌∈◌}
-use Rattle.order.specs.Story.{Story, Single}
+use Rattle.order.specs.Sequence.{Once, before}
 use Rattle.history.specs.Message.{Entry, absent}
 use Rattle.history.specs.Event.{none, done, shown, spent}
 use Rattle.history.specs.Trace.{Trace, Begun, nothing, updating, scanning, begun, Fate, unfinished, ended, fate}
-use Rattle.history.specs.Trace.{tag_at, HasView, end_view, entry_at, stopped, waits}
+use Rattle.history.specs.Trace.{tag_at, writes_by, scan_view, entry_at, stopped, waits}
 
 -- w is the number of a node.
 abbrev pub OneTo : ℕ → ℕ → Type 0
@@ -20,15 +17,21 @@ abbrev pub Finished : Fate → Type 0
 Finished unfinished = ⊥
 Finished (ended k e) = Unit {0}
 
--- The operation at index s ended with a view that has tag t and report p at node c: it shows the update of node c with
--- that tag and report. An update without a tag is shown by none.
-pub record Shows (tr : Trace) (s c t p : ℕ) : Type 0 where
-  pub viewed : HasView (fate tr s)
-  pub tagged : 0 < t
-  pub entry : entry_at (end_view (fate tr s)) c ≡ record { tag = t; report = p }
+abbrev pub IsScan : Begun → Type 0
+IsScan nothing = ⊥
+IsScan (updating c p) = ⊥
+IsScan (scanning c) = Unit {0}
 
--- An operation that has finished ended as its kind does: an update is done, with its view, or it is spent; a scan shows
--- its view. A view has an entry for each of the n nodes.
+-- The operation at index s is a finished scan whose view has tag t and report p at node c: it shows the update of node
+-- c with that tag and report. An update without a tag is shown by none.
+pub record Shows (tr : Trace) (s c t p : ℕ) : Type 0 where
+  pub scan : IsScan (begun tr s)
+  pub finished : Finished (fate tr s)
+  pub tagged : 0 < t
+  pub entry : entry_at (scan_view (fate tr s)) c ≡ record { tag = t; report = p }
+
+-- An operation that has finished ended as its kind does: an update is done, with a view that its client is not given,
+-- or it is spent; a scan shows its view. A view has an entry for each of the n nodes.
 abbrev pub EndsInKind : ℕ → Begun → Fate → Type 0
 EndsInKind n nothing x = Unit {0}
 EndsInKind n (updating c p) unfinished = Unit {0}
@@ -42,100 +45,46 @@ EndsInKind n (scanning c) (ended k (done r v)) = ⊥
 EndsInKind n (scanning c) (ended k (shown r v)) = length v ≡ n
 EndsInKind n (scanning c) (ended k spent) = ⊥
 
--- An update counts twice in the order, as the update and as a look at its view; a scan is a look. So what is ordered
--- are halves of operations: posting a report, and looking at all of them.
-pub data Half : Type 0 where
-  posting looking : Half
+-- What has a place in the order: a finished scan, an update that is done, and an unfinished update that some finished
+-- scan shows. A spent update has none.
+abbrev pub PlacedBy : Trace → ℕ → Begun → Fate → Type 0
+PlacedBy tr t nothing x = ⊥
+PlacedBy tr t (scanning c) x = Finished x
+PlacedBy tr t (updating c p) unfinished = (s : ℕ) × Shows tr s c (tag_at tr t c) p
+PlacedBy tr t (updating c p) (ended k none) = ⊥
+PlacedBy tr t (updating c p) (ended k (done r v)) = Unit {0}
+PlacedBy tr t (updating c p) (ended k (shown r v)) = ⊥
+PlacedBy tr t (updating c p) (ended k spent) = ⊥
 
-pub record Item : Type 0 where
-  pub index : ℕ
-  pub half : Half
+abbrev pub Placed : Trace → ℕ → Type 0
+Placed tr t = PlacedBy tr t (begun tr t) (fate tr t)
 
-abbrev pub post : ℕ → Item
-post t = record { index = t; half = posting }
-
-abbrev pub look : ℕ → Item
-look t = record { index = t; half = looking }
-
-abbrev pub IsLook : Half → Type 0
-IsLook posting = ⊥
-IsLook looking = Unit {0}
-
--- What has a place in the order: the posting of an update that is done, and of an unfinished one that some view shows;
--- and the look of every operation that ended with a view. A spent update has neither, an unfinished one has no look.
-abbrev pub PlacedBy : Trace → ℕ → Half → Begun → Fate → Type 0
-PlacedBy tr t posting nothing x = ⊥
-PlacedBy tr t posting (scanning c) x = ⊥
-PlacedBy tr t posting (updating c p) unfinished = (s : ℕ) × Shows tr s c (tag_at tr t c) p
-PlacedBy tr t posting (updating c p) (ended k none) = ⊥
-PlacedBy tr t posting (updating c p) (ended k (done r v)) = Unit {0}
-PlacedBy tr t posting (updating c p) (ended k (shown r v)) = ⊥
-PlacedBy tr t posting (updating c p) (ended k spent) = ⊥
-PlacedBy tr t looking b x = HasView x
-
-abbrev pub Placed : Trace → Item → Type 0
-Placed tr a = PlacedBy tr a.index a.half (begun tr a.index) (fate tr a.index)
-
--- What an item writes, and at which node: the posting of an update its tag and the report that it began with.
-abbrev pub writes_by : Trace → ℕ → ℕ → Half → Begun → Entry → Entry
-writes_by tr t w posting nothing old = old
-writes_by tr t w posting (scanning c) old = old
-writes_by tr t w posting (updating c p) old =
-    cond (decide (ℕ_discrete c w)) (record { tag = tag_at tr t c; report = p }) old
-writes_by tr t w looking b old = old
+-- What node w has written last when the operations of a line have been done one after the other.
+unfoldable pub written : Trace → ℕ → List ℕ → Entry → Entry
+written tr w [] old = old
+written tr w (t ∷ l) old = written tr w l (writes_by tr t w (begun tr t) old)
 
 -- The operation ended before index t.
 abbrev pub EndedBefore : Fate → ℕ → Type 0
 EndedBefore unfinished t = ⊥
 EndedBefore (ended k e) t = k < t
 
--- The first is the posting of an update, the second the look of the same call.
-abbrev pub OwnLook : ℕ → Half → ℕ → Half → Type 0
-OwnLook t posting u posting = ⊥
-OwnLook t posting u looking = t ≡ u
-OwnLook t looking u h = ⊥
-
--- What has to stand before what: both halves of a call that ended before another began, before those of the other; and
--- an update before its own look. So both halves stand within their call.
-abbrev pub Precedes : Trace → Item → Item → Type 0
-Precedes tr a b =
-    EndedBefore (fate tr a.index) b.index ⊎ OwnLook a.index a.half b.index b.half
-
-unfoldable pub half? : (h k : Half) → Dec (h ≡ k)
-half? posting posting = yes refl
-half? looking looking = yes refl
-half? posting looking = no λ e. subst (λ h. ¬ IsLook h) e (λ h. h) tt
-half? looking posting = no λ e. subst IsLook e tt
-
--- Whether two items are the same one.
-unfoldable pub item? : Discrete Item
-item? a b = go (ℕ_discrete a.index b.index) (half? a.half b.half)
-  where
-    go : Dec (a.index ≡ b.index) → Dec (a.half ≡ b.half) → Dec (a ≡ b)
-    go (yes e) (yes h) = yes λ i. record { index = e i; half = h i }
-    go (yes e) (no h) = no λ p. h (ap (λ x. x.half) p)
-    go (no e) h = no λ p. e (ap (λ x. x.index) p)
-
--- The story of a trace: a cell is a node, and holds what that node has posted last.
-abbrev pub story : ℕ → Trace → Story Item ℕ Entry
-story n tr = record {
-  same = item?;
-  Placed = Placed tr;
-  Looks = λ a. IsLook a.half;
-  Cell = OneTo n;
-  shows = λ a w. entry_at (end_view (fate tr a.index)) w;
-  writes = λ a w old. writes_by tr a.index w a.half (begun tr a.index) old;
-  blank = absent;
-  Precedes = Precedes tr;
-}
-
--- One single order: each operation that has finished ended as its kind does; there is a line of items in which each
--- look shows of every node the last report posted before it, and no report where there is none, and which keeps what
--- has to precede; and each posting in the line has a tag.
+-- One single order: each operation that has finished ended as its kind does,
 pub record SingleOrder (n : ℕ) (tr : Trace) : Type 0 where
   pub kinds : (t : ℕ) → EndsInKind n (begun tr t) (fate tr t)
-  pub order : Single (story n tr)
-  pub tagged : (t c p : ℕ) → post t ∈ order.line → begun tr t ≡ updating c p → 0 < tag_at tr t c
+  -- and there is a line of operations such that
+  pub line : List ℕ
+  -- each stands once,
+  pub once : Once line
+  -- just those that have a place stand in it,
+  pub members : (t : ℕ) → (t ∈ line) ↔ Placed tr t
+  -- each update in it has a tag,
+  pub tagged : (t c p : ℕ) → t ∈ line → begun tr t ≡ updating c p → 0 < tag_at tr t c
+  -- each scan shows of every node the last update before it, and no report where there is none,
+  pub legal : (s : ℕ) → s ∈ line → IsScan (begun tr s) → (w : ℕ) → OneTo n w
+      → entry_at (scan_view (fate tr s)) w ≡ written tr w (before ℕ_discrete s line) absent
+  -- and what ended before another began stands before it.
+  pub timely : (a b : ℕ) → a ∈ line → b ∈ line → EndedBefore (fate tr a) b → a ∈ before ℕ_discrete b line
 
 -- The operation at index t is not open: it has finished, or its node has stopped.
 abbrev pub ClosedBy : Trace → ℕ → Begun → Type 0

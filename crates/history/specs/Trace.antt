@@ -37,11 +37,6 @@ pub data Begun : Type 0 where
   updating : (node report : ℕ) → Begun
   scanning : (node : ℕ) → Begun
 
-abbrev pub IsUpdate : Begun → Type 0
-IsUpdate nothing = ⊥
-IsUpdate (updating c p) = Unit {0}
-IsUpdate (scanning c) = ⊥
-
 abbrev pub begun_by : Event → Response → Begun
 begun_by e (refused k) = nothing
 begun_by (begin c (update p) x) (accepted e) = updating c p
@@ -126,21 +121,19 @@ first_above b (t ∷ l) = ite (dec_lt b t) t (first_above b l)
 abbrev pub tag_at : Trace → ℕ → ℕ → ℕ
 tag_at tr t c = first_above (largest (own_tags c (take t tr))) (own_tags c (up_to_end t (fate_at tr t c) tr))
 
--- The operation ended with a view: a scan that has finished, or an update that is done.
-abbrev pub HasView : Fate → Type 0
-HasView unfinished = ⊥
-HasView (ended k none) = ⊥
-HasView (ended k (done r v)) = Unit {0}
-HasView (ended k (shown r v)) = Unit {0}
-HasView (ended k spent) = ⊥
+-- What the operation at index t writes, and at which node: an update its tag and the report that it began with.
+abbrev pub writes_by : Trace → ℕ → ℕ → Begun → Entry → Entry
+writes_by tr t w nothing old = old
+writes_by tr t w (scanning c) old = old
+writes_by tr t w (updating c p) old = cond (decide (ℕ_discrete c w)) (record { tag = tag_at tr t c; report = p }) old
 
--- That view; the empty one for all else.
-abbrev pub end_view : Fate → View
-end_view unfinished = []
-end_view (ended k none) = []
-end_view (ended k (done r v)) = v
-end_view (ended k (shown r v)) = v
-end_view (ended k spent) = []
+-- The view that a scan ended with; the empty one for all else.
+abbrev pub scan_view : Fate → View
+scan_view unfinished = []
+scan_view (ended k none) = []
+scan_view (ended k (done r v)) = []
+scan_view (ended k (shown r v)) = v
+scan_view (ended k spent) = []
 
 -- What a view has of node w, from 1 to n.
 abbrev pub entry_at : View → ℕ → Entry

@@ -1,26 +1,23 @@
-// The calls at one node, on any input: fresh, begin, message and propose. Bytes are read before the step and written
-// after it; a refusal is judged before anything is written.
+// The calls at one node, on any input: fresh, begin and message. Bytes are read before the step and written after it; a
+// refusal is judged before anything is written.
 #![tactic(auto)]
 
 ghost use Rattle.std.specs.Prelude.{◌≡◌, true, [], ◌≤◌, length};
 ghost use Rattle.octets.specs.Answer.{returned};
-ghost use Rattle.view.specs.Flags.{joined};
 ghost use Rattle.view.specs.Size.{nodes};
-ghost use Rattle.table.specs.Table.{report_of};
 ghost use Rattle.record.specs.Usable.{usable};
 ghost use Rattle.wire.specs.Layout.{encode, allowed};
 ghost use Rattle.calls.specs.Entry.{least_output, fresh, begin, beside, taken, message};
-ghost use Rattle.calls.specs.Propose.{propose};
 ghost use Rattle.reply.specs.Tells.{Tells};
 
 use calls::OUTPUT;
-use octets::{and, less};
+use octets::and;
 use record::usable::{has_open, is_full, is_usable, sizes_within};
 use record::{Node, Operation, blank_node};
 pub use reply::{Reply, Said};
 use reply::{let_out, refused_reply};
 use step_value::{begin_step, is_stale_message, message_step};
-use view::{NODES, Report, View, absent, read_view, report_from, report_number};
+use view::{View, absent, read_view};
 use wire::{Message, Parsed};
 use wire_parse::views::parsed_view;
 
@@ -111,24 +108,4 @@ pub fn message(c: Node, s: usize, b: &[u8], out: &mut [u8]) -> Reply
         return refused_reply(3, c);
     }
     refused_reply(2, c)
-}
-
-// The report that node `own` posts when it proposes the flags g: its last one, joined with them. A number past the last
-// place has no report; it is that of no node, and the begin refuses it.
-fn proposed(last: View, own: usize, g: u64) -> Report
-    ensures { result ≡ joined (report_of last own) g }
-{
-    let reports = last.reports;
-    let place = less(own as u64, 1) as usize;
-    if place < NODES {
-        return report_from(report_number(reports[place]) | g);
-    }
-    report_from(g)
-}
-
-// Proposes flags: begins an update with the union of the node's proposals so far; the messages go to `out`.
-pub fn propose(c: Node, g: u64, out: &mut [u8]) -> Reply
-    ensures { Tells result out.new (propose c g out.old) }
-{
-    begin(c, Operation::Update(proposed(c.last, c.own, g)), out)
 }

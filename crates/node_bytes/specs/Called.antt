@@ -7,7 +7,7 @@ use Rattle.calls_bytes.specs.Shown.{event_view}
 use Rattle.node_bytes.specs.declared.Called.{Called}
 
 -- An answer, with the bytes of the record and of the buffer at exit, is that of a result: it tells what the result
--- tells, with the view that is shown.
+-- tells, with the view that is shown, which only a scan does.
 abbrev pub Tells : Called → (r out : List ℕ) → LentResult → Type 0
 Tells a r out e =
     (told (answer_of a.outcome) (told_view e.answer) ≡ e.answer) × (answer_of a.outcome ≡ e.ending)

@@ -1,17 +1,16 @@
-// The calls at one node on its record in lent bytes, on any input: size, fresh, begin, message and propose. A step is
-// done where the record lies. All that can refuse a call is judged before the first byte is written, so that a refusal
-// leaves every byte as it was.
+// The calls at one node on its record in lent bytes, on any input: size, fresh, begin and message. A step is done where
+// the record lies. All that can refuse a call is judged before the first byte is written, so that a refusal leaves
+// every byte as it was.
 #![tactic(auto)]
 
 ghost use Rattle.std.specs.Prelude.{◌≡◌, true, List, [], ℕ, ◌≤◌, length};
 ghost use Rattle.octets.specs.Answer.{returned};
 ghost use Rattle.wire.specs.Layout.{encode, allowed};
 ghost use Rattle.record.specs.Usable.{usable};
-ghost use Rattle.calls.specs.Entry.{least_output, begin, taken};
+ghost use Rattle.calls.specs.Entry.{least_output, taken};
 ghost use Rattle.region.specs.Record.{record_size, record_of};
 ghost use Rattle.calls_bytes.specs.Entry.{refuse, in_bytes, usable_in, fresh as fresh_call, begin as begin_call};
 ghost use Rattle.calls_bytes.specs.Entry.{message as message_call};
-ghost use Rattle.calls_bytes.specs.Propose.{propose as propose_call};
 ghost use Rattle.node_bytes.specs.Admission.{admission as admission_of};
 ghost use Rattle.node_bytes.specs.Called.{Tells, Shows};
 
@@ -27,7 +26,7 @@ use record::{Operation, Wait};
 use region::head::{Head, save_head};
 use region::places::{F_PLACE, N_PLACE, OWN_PLACE, RECORD};
 use step::Ending;
-use step_bytes::{ask_in, follow_in, is_full_in, is_open_in, is_rest, plan_in, proposed_in};
+use step_bytes::{ask_in, follow_in, is_full_in, is_open_in, is_rest, plan_in};
 use view::VIEW;
 use wire::{Message, Parsed};
 use wire_parse::views::parsed_view;
@@ -113,13 +112,14 @@ pub fn admission(r: &[u8], least: usize, room: usize) -> u8
     0
 }
 
-// Begins an operation on a record that was admitted; the messages go to `out`. It refuses with 5, 6.
-fn begin_in(r: &mut [u8], o: Operation, out: &mut [u8]) -> Called
-    requires { (length r.old ≡ record_size) × (usable (record_of r.old) ≡ true)
-        × (least_output ≤ length out.old) }
-    ensures { Tells result r.new out.new
-        (in_bytes r.old (begin (record_of r.old) o out.old)) }
+// Begins an operation; the messages go to `out`. It refuses with 12, 2, 5, 6.
+pub fn begin(r: &mut [u8], o: Operation, out: &mut [u8]) -> Called
+    ensures { Tells result r.new out.new (begin_call r.old o out.old) }
 {
+    let k = admission(r, OUTPUT, out.len());
+    if k != 0 {
+        return turned_away(k);
+    }
     if is_open_in(r) {
         return turned_away(5);
     }
@@ -133,17 +133,6 @@ fn begin_in(r: &mut [u8], o: Operation, out: &mut [u8]) -> Called
         outcome: Outcome::Accepted(Ending::None),
         length: written,
     }
-}
-
-// Begins an operation; the messages go to `out`. It refuses with 12, 2, 5, 6.
-pub fn begin(r: &mut [u8], o: Operation, out: &mut [u8]) -> Called
-    ensures { Tells result r.new out.new (begin_call r.old o out.old) }
-{
-    let k = admission(r, OUTPUT, out.len());
-    if k != 0 {
-        return turned_away(k);
-    }
-    begin_in(r, o, out)
 }
 
 // A message that was read is handled, b its bytes and v those of its view, or refused with 9. Where nothing comes after
@@ -187,8 +176,8 @@ pub fn take_message(
     }
 }
 
-// Handles a message from node s; the messages that it gives rise to go to `out`, the view of an update that is done or
-// of a scan that ends to `view`. It refuses with 12, 2, 3, 7, 9.
+// Handles a message from node s; the messages that it gives rise to go to `out`, the view of a scan that ends to
+// `view`. It refuses with 12, 2, 3, 7, 9.
 pub fn message(r: &mut [u8], s: usize, b: &[u8], out: &mut [u8], view: &mut [u8; VIEW]) -> Called
     ensures { Shows result r.new out.new view.new
         (message_call r.old s b.now out.old) view.old }
@@ -206,18 +195,4 @@ pub fn message(r: &mut [u8], s: usize, b: &[u8], out: &mut [u8], view: &mut [u8;
         Parsed::Got(m) => take_message(r, n, s, b, parsed_view(b, p), m, out, view),
         Parsed::Refused(_) => turned_away(7),
     }
-}
-
-// Proposes flags: begins an update with the union of the node's proposals so far; the messages go to `out`. It refuses
-// with 12, 2, 5, 6.
-pub fn propose(r: &mut [u8], g: u64, out: &mut [u8]) -> Called
-    ensures { Tells result r.new out.new (propose_call r.old g out.old) }
-{
-    let k = admission(r, OUTPUT, out.len());
-    if k != 0 {
-        return turned_away(k);
-    }
-    let own = get_word(r, OWN_PLACE) as usize;
-    let p = proposed_in(r, own, g);
-    begin_in(r, Operation::Update(p), out)
 }

@@ -2,7 +2,5 @@ pub mod Sequence
 pub mod Sort
 pub mod Lex
 pub mod Line
-pub mod Story
-pub mod RuledOut
 pub mod Select
 pub mod Total

@@ -17,10 +17,10 @@ use Rattle.outgoing.specs.declared.Extent.TheVariants.{Whole}
 use Rattle.history.specs.Message.{Entry, absent}
 use Rattle.history.specs.Event as H
 use Rattle.history.specs.Trace as T
-use Rattle.history.specs.Order.{OneTo, Finished, EndsInKind, SingleOrder, ClosedBy}
+use Rattle.history.specs.Order.{OneTo, Finished, IsScan, EndsInKind, SingleOrder, ClosedBy}
 use Rattle.algorithm.specs.Algorithm as A
 use Rattle.eqaso.specs.Cluster as K
-use Rattle.eqaso.proofs.Corollary.{view-without-updates}
+use Rattle.eqaso.proofs.Corollary.{scan-without-updates}
 use Rattle.refine.specs.Follows.{Follows}
 use Rattle.refine.proofs.Steps.{same-idle, not_full}
 use Rattle.mirror.specs.Mirrors.{Mirrors, extent_of}
@@ -30,7 +30,7 @@ use Rattle.mirror.proofs.Checks.{is-fit, is-sound}
 use Rattle.mirror.proofs.Says.{says-count}
 use Rattle.mirror.proofs.Demand3.{demand3}
 use Rattle.points.specs.Calls.{Calls, event, trace_from, trace_of}
-use Rattle.points.specs.Absences.{Delivery, delivery, scan_then, AllWhole, NothingWaits, scan_view}
+use Rattle.points.specs.Absences.{Delivery, delivery, scan_then, AllWhole, NothingWaits}
 use Rattle.points.proofs.Stops.{start-mirrors}
 use Rattle.points.proofs.Begins.{accepts}
 
@@ -92,19 +92,12 @@ all-absent [] h = refl
 all-absent (x ∷ v) h = ap₂ (λ y l. y ∷ l) (h 0 (omega arith)) (all-absent v (λ i l. h (suc i) (omega arith)))
 
 absent-view : (n c : ℕ) (x : T.Fate) → EndsInKind n (T.scanning c) x → Finished x
-    → ((w : ℕ) → OneTo n w → T.entry_at (scan_view x) w ≡ absent) → scan_view x ≡ replicate n absent
+    → ((w : ℕ) → OneTo n w → T.entry_at (T.scan_view x) w ≡ absent) → T.scan_view x ≡ replicate n absent
 absent-view n c (T.ended k (H.shown r v)) long end each = all-absent v
     (λ i h.
     let e : i ≡ suc i - 1 = omega arith in
     ap (λ j. get_or v j absent) e ∙ each (suc i) (omega arith, omega arith))
     ∙ ap (λ k. replicate k absent) long
-
--- A scan that has finished has a view.
-has-view : (n c : ℕ) (x : T.Fate) → EndsInKind n (T.scanning c) x → Finished x → T.HasView x
-has-view n c (T.ended k (H.shown r v)) h f = tt
-
-same_view : (n c : ℕ) (x : T.Fate) → EndsInKind n (T.scanning c) x → Finished x → scan_view x ≡ T.end_view x
-same_view n c (T.ended k (H.shown r v)) h f = refl
 
 -- ---- the scan
 
@@ -161,10 +154,9 @@ module _ (n f c : ℕ) (size : OneTo nodes n) (half : f + f < n) (at : OneTo n c
       order : SingleOrder n tr
       order = (demand3 n f size half b long (scan_then c ds)).0
 
-      kind : EndsInKind n (T.scanning c) (T.fate tr 0)
-      kind = subst (λ x. EndsInKind n x (T.fate tr 0)) scans (order.kinds 0)
+      is-scan : IsScan (T.begun tr 0)
+      is-scan = subst IsScan (sym scans) tt
 
-      pub none-shown : scan_view (T.fate tr 0) ≡ replicate n absent
-      none-shown = absent-view n c (T.fate tr 0) kind finished λ w one.
-          ap (λ v. T.entry_at v w) (same_view n c (T.fate tr 0) kind finished)
-          ∙ view-without-updates order no-update 0 (has-view n c (T.fate tr 0) kind finished) w one
+      pub none-shown : T.scan_view (T.fate tr 0) ≡ replicate n absent
+      none-shown = absent-view n c (T.fate tr 0) (subst (λ x. EndsInKind n x (T.fate tr 0)) scans (order.kinds 0))
+          finished (scan-without-updates order no-update 0 is-scan finished)

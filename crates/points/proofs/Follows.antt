@@ -39,7 +39,7 @@ use Rattle.history.specs.Message.{absent}
 use Rattle.history.specs.Event as H
 use Rattle.history.specs.Trace as T
 use Rattle.history.specs.Order.{OneTo, Finished}
-use Rattle.points.specs.Absences.{Delivery, scan_then, AllWhole, NothingWaits, ShowsNone, scan_view}
+use Rattle.points.specs.Absences.{Delivery, scan_then, AllWhole, NothingWaits, ShowsNone}
 use Rattle.points.specs.Calls.{Calls, trace_from, trace_of}
 use Rattle.points.specs.Channels.{MayBegin, MayDeliver, StandsAfter, Room, waits, still_waits, begun, handled}
 use Rattle.points.specs.Channels.{Filled}
@@ -125,10 +125,10 @@ module _ (calls : Calls) where
     tr = trace_of calls n f b (scan_then c ds)
 
     -- A view with an entry was given by an ending, and what ended has begun.
-    finished : 1 ≤ n → scan_view (T.fate tr 0) ≡ replicate n absent → Finished (T.fate tr 0)
+    finished : 1 ≤ n → T.scan_view (T.fate tr 0) ≡ replicate n absent → Finished (T.fate tr 0)
     finished h e = go (T.fate tr 0) (ap length e ∙ length-replicate n absent)
       where
-        go : (x : T.Fate) → length (scan_view x) ≡ n → Finished x
+        go : (x : T.Fate) → length (T.scan_view x) ≡ n → Finished x
         go T.unfinished z = absurd (omega arith)
         go (T.ended k y) z = tt
 

@@ -22,7 +22,7 @@ use Rattle.mirror.specs.Mirrors.{channel_room}
 use Rattle.mirror.specs.Run as R
 use Rattle.mirror.proofs.Demand2.{demand2}
 use Rattle.points.specs.Calls as C
-use Rattle.points.specs.Absences.{Delivery, scan_then, five, NothingWaits, ShowsNone, Absences, scan_view}
+use Rattle.points.specs.Absences.{Delivery, scan_then, five, NothingWaits, ShowsNone, Absences}
 use Rattle.points.proofs.Absences.{stands, scans, finished, none-shown}
 
 -- The run of the code's calls is the run on bytes.
@@ -59,7 +59,7 @@ none-of-code n f c size half at b long ds up quiet = record {
   begun = ap (λ tr. T.begun tr 0) e ∙ scans n f c size half at b long ds;
   finished = subst (λ tr. Finished (T.fate tr 0)) (sym e)
       (finished n f c size half at b long ds stands-still none-waits);
-  view = ap (λ tr. scan_view (T.fate tr 0)) e ∙ none-shown n f c size half at b long ds stands-still none-waits;
+  view = ap (λ tr. T.scan_view (T.fate tr 0)) e ∙ none-shown n f c size half at b long ds stands-still none-waits;
 }
   where
     e : C.trace_of C.code n f b (scan_then c ds) ≡ R.trace_of n f b (scan_then c ds)

@@ -36,7 +36,7 @@ use Rattle.mirror.specs.Mirrors.{channel_room}
 use Rattle.mirror.specs.Run as R
 use Rattle.mirror.proofs.Demand2.{demand2}
 use Rattle.mirror.proofs.Says.{says-count}
-use Rattle.points.specs.Absences.{Delivery, scan_then, NothingWaits, scan_view}
+use Rattle.points.specs.Absences.{Delivery, scan_then, NothingWaits}
 use Rattle.points.specs.Calls.{Calls, trace_from, trace_of}
 use Rattle.points.proofs.RuledOut.{RuledOut, space, long-space}
 use Rattle.points.proofs.Stops.{start-mirrors}
@@ -103,7 +103,7 @@ shows-some P =
     (ap (λ tr. T.stopped tr 1) scans ∙ up)
     (subst (NothingWaits 1) (sym scans) (of_one seen quiet))).view in
     let z : ◌≡◌ {A = ℕ} 1 0 = ap (λ (l : List Entry). (get_or l 0 absent).tag)
-    (sym (ap (λ tr. scan_view (T.fate tr 0)) scans) ∙ e) in omega arith
+    (sym (ap (λ tr. T.scan_view (T.fate tr 0)) scans) ∙ e) in omega arith
 
 -- ---- a scan that never finishes: the cluster is lost with a delivery that is refused
 

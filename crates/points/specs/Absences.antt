@@ -5,8 +5,7 @@ use Rattle.record.specs.declared.Operation.TheVariants.{Scan}
 use Rattle.layout.specs.Layout.{cluster_size}
 use Rattle.outgoing.specs.declared.Extent.{Extent}
 use Rattle.outgoing.specs.declared.Extent.TheVariants.{Whole}
-use Rattle.history.specs.Message.{absent, View}
-use Rattle.history.specs.Event.{none, done, shown, spent}
+use Rattle.history.specs.Message.{absent}
 use Rattle.history.specs.Trace as T
 pub use Rattle.history.specs.Order.{NothingWaits}
 use Rattle.history.specs.Order.{OneTo, Finished}
@@ -30,20 +29,12 @@ abbrev pub AllWhole : List Delivery → Type 0
 AllWhole [] = Unit {0}
 AllWhole (d ∷ ds) = (d.extent ≡ Whole) × AllWhole ds
 
--- The view that a scan shows; the empty one for all else.
-abbrev pub scan_view : T.Fate → View
-scan_view T.unfinished = []
-scan_view (T.ended k none) = []
-scan_view (T.ended k (done r v)) = []
-scan_view (T.ended k (shown r v)) = v
-scan_view (T.ended k spent) = []
-
 -- The operation that began at index 0 is a scan that has finished, and its view is n times no report. As n is not 0,
 -- `begun` and `finished` follow from `view`.
 pub record ShowsNone (calls : Calls) (n f c : ℕ) (b : List ℕ) (ds : List Delivery) : Type 0 where
   pub begun : T.begun (trace_of calls n f b (scan_then c ds)) 0 ≡ T.scanning c
   pub finished : Finished (T.fate (trace_of calls n f b (scan_then c ds)) 0)
-  pub view : scan_view (T.fate (trace_of calls n f b (scan_then c ds)) 0) ≡ replicate n absent
+  pub view : T.scan_view (T.fate (trace_of calls n f b (scan_then c ds)) 0) ≡ replicate n absent
 
 -- Five deliveries at a cluster of one node.
 abbrev pub five : List Delivery

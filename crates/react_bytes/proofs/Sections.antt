@@ -11,15 +11,15 @@ use lib.Dec.{leb}
 use lib.ListN.{length, get_or, set, take, drop, length-set, length-drop}
 use lib.Seq.{get_or-set_same, get_or-set_other, take_all}
 use Rattle.octets.specs.Test.{pick}
-use Rattle.octets.specs.Bytes.{Bytes, num, be, part, put}
+use Rattle.octets.specs.Bytes.{Bytes, be, part, put}
 use Rattle.octets.specs.Loop.{tab, join}
 use Rattle.octets.specs.Word.{word, words, word_bytes, word_size}
 use Rattle.octets.proofs.Put.{part-other, part_same, part-add, part-part, part_bytes, length_part, length-put}
 use Rattle.octets.proofs.Put.{put-inside}
 use Rattle.octets.proofs.Table.{length-tab, get_d-tab, get_d-padded, part_join, join-ext, join-parts}
 use Rattle.octets.proofs.Word.{word_of}
-use Rattle.view.specs.Size.{nodes, tag_size, report_size, entry_size, view_size}
-use Rattle.view.specs.Report.{no_report, report_number}
+use Rattle.view.specs.Size.{nodes, entry_size, view_size}
+use Rattle.view.specs.Report.{no_report}
 use Rattle.view.specs.View.{no_view, entry_bytes, view_bytes, view_of, tag_at}
 use Rattle.view.specs.declared.Report.{Report}
 use Rattle.view.specs.declared.View.{View}
@@ -228,14 +228,6 @@ entry_read r i w h l b lo hi =
     ∙ ap (λ (s : List ℕ). part s (entry_size * (w - 1)) entry_size) (view-there r h (view_place i) (omega arith))
     ∙ part_join nodes entry_size (λ j. entry_bytes (get_or v.tags j 0) (get_or v.reports j no_report)) (w - 1)
     (λ j. refl) (omega arith)
-
--- the report in it, as a number
-pub report-read : (r : List ℕ) (i w : ℕ) → Bytes r → length r ≡ record_size → i < views → 1 ≤ w → w ≤ nodes
-    → word r (entry_place i w + tag_size) ≡ report_number (report_of (view_in r i) w)
-unfolding part
-report-read r i w h l b lo hi =
-    ap num (sym (part-part r (entry_place i w) entry_size tag_size report_size (omega arith))
-    ∙ ap (λ (s : List ℕ). part s tag_size report_size) (entry_read r i w h l b lo hi))
 
 pub newest-read : (r : List ℕ) (t w : ℕ) → Bytes r → length r ≡ record_size → 1 ≤ w → w ≤ nodes → (b : Bool)
     → leb (tag_of (view_in r last_in) w) t ≡ b

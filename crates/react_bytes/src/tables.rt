@@ -2,10 +2,9 @@
 ghost use Rattle.std.specs.Prelude.{◌≡◌, ◌+◌, ◌<◌, ◌≤◌, length};
 ghost use Rattle.octets.specs.Bytes.{part, put};
 ghost use Rattle.octets.specs.Word.{words};
-ghost use Rattle.view.specs.Report.{report_number};
 ghost use Rattle.view.specs.Size.{nodes, entry_size, view_size};
 ghost use Rattle.view.specs.View.{entry_bytes, view_bytes};
-ghost use Rattle.table.specs.Table.{tag_of, report_of, heard_of, newest, cells};
+ghost use Rattle.table.specs.Table.{tag_of, heard_of, newest, cells};
 ghost use Rattle.region.specs.Record.{record_size, heard_place, view_in, last_in, atmax_in, views};
 ghost use Rattle.react_bytes.specs.Handled.{entry_place, put_where, newest_entry};
 
@@ -89,12 +88,4 @@ pub fn newest_in(r: &[u8], t: u64) -> [u8; VIEW]
     let mut v = [0u8; VIEW];
     put_newest(r, t, &mut v);
     v
-}
-
-// The report of writer w in view i, as a number.
-pub fn report_in(r: &[u8], i: usize, w: usize) -> u64
-    requires { (length r.now ≡ record_size) × (i < views) × (1 ≤ w) × (w ≤ nodes) }
-    ensures { result ≡ report_number (report_of (view_in r.now i) w) }
-{
-    get_word(r, VIEWS_PLACE + VIEW * i + ENTRY * (w - 1) + TAG)
 }

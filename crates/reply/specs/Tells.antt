@@ -12,11 +12,11 @@ use Rattle.reply.specs.declared.Reply.{Reply}
 abbrev pub told_by : Said → View → Told
 told_by (Refused k) v = refusal k
 told_by Going v = nothing
-told_by Finished v = done v
+told_by Finished v = done
 told_by Shown v = scan v
 told_by Exhausted v = spent spent_number
 
--- A reply and the buffer at exit are those of an outcome. The view is the one told, or that of none.
+-- A reply and the buffer at exit are those of an outcome. Only a scan shows a view.
 abbrev pub Tells : Reply → List ℕ → CallResult → Type 0
 Tells r out e =
     (told_by r.said r.view ≡ e.answer) × (r.view ≡ told_view e.answer) × (r.node ≡ e.node)

@@ -28,8 +28,8 @@ pub enum Said {
     Exhausted,
 }
 
-// What is said, the record after the call, the view of an update that is done or of a scan that has ended, and how many
-// bytes of messages stand at the start of the output buffer.
+// What is said, the record after the call, the view of a scan that has ended, and how many bytes of messages stand at
+// the start of the output buffer.
 #[derive(Drop)]
 pub struct Reply {
     pub said: Said,
@@ -65,7 +65,7 @@ fn view_shown(e: Ending, v: View) -> View
 {
     match e {
         Ending::None => absent(),
-        Ending::Done(_) => v,
+        Ending::Done(_) => absent(),
         Ending::Scan(_) => v,
         Ending::Spent => absent(),
     }

@@ -28,6 +28,6 @@ ran (Deliver a c x) b = deliver a c (extent_of x) b
 ran (Stop c) b = stop c b
 ran Bad b = refuse 1 b
 
--- the bytes printed for event e: a view with an entry for each node that the cluster's bytes state
+-- the bytes printed for event e: a scan's view with an entry for each node that the cluster's bytes state
 unfoldable pub printed : (e : ℕ) → Line → List ℕ → List ℕ
 printed e l b = line e (printed_for (handler l) (told_of (ran l b))) (stated b) (told_view (told_of (ran l b)))

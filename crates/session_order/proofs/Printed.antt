@@ -57,7 +57,7 @@ module _ (n : ℕ) (most : n ≤ nodes) where
   unfolding line
   shows e c (refused k) v = refusal k
   shows e c (returned None) v = silence
-  shows e c (returned (Done r)) v = rw (entries-reports n most v) (done (rule_of r) (view_meaning n v))
+  shows e c (returned (Done r)) v = done (rule_of r) (view_meaning n v)
   shows e c (returned (Scanned r)) v = rw (entries-reports n most v) (scan (rule_of r) (view_meaning n v))
   shows e c (returned Spent) v = spent
 

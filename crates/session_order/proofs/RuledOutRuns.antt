@@ -1,6 +1,6 @@
 -- Programs that the clauses of specs/Session on a session's operations rule out. What is seen of an event fits what the
--- code prints, but the tags of the values let out, or what a begin lets out, are lost.
-use Prim.Native.Nat.{ℕ, ◌<◌}
+-- code prints, but the view of a done update, or what a begin lets out, is lost.
+use Prim.Native.Nat.{ℕ}
 use native.Mathlib.Decide.{ℕ_discrete, dec_le, dec_lt}
 use native.Mathlib.Omega.{arith}
 use mathlib.Core.Path.{◌≡◌, refl, ap, subst, ◌∙◌}
@@ -18,10 +18,10 @@ use Rattle.digits.specs.Decimal.{all_digits, value}
 use Rattle.digits.specs.Hex.{all_hex, hex_value, hex_bytes}
 use Rattle.lines.specs.Grammar.{number_of, report_in, place_of, field_length, word, after, tail_of, event_of, first_of}
 use Rattle.input.specs.Input.{lines_from, rest_from}
-use Rattle.history.specs.Message as M
 use Rattle.history.specs.Event as H
-use Rattle.history.specs.Trace.{Seen, first_ending, tags_sent, own_tags, largest, first_above}
-use Rattle.history.specs.Order.{post, SingleOrder, Quiet}
+use Rattle.history.specs.Event.{none, done, shown, spent}
+use Rattle.history.specs.Trace.{Seen, first_ending}
+use Rattle.history.specs.Order.{SingleOrder, Quiet}
 use Rattle.history.proofs.RuledOutOpen.{open-scan-out}
 use Rattle.algorithm.specs.Algorithm.{same, limit, table, move_on, has, included_up_to, newest, kept}
 use Rattle.eqaso.specs.Cluster as K
@@ -32,23 +32,16 @@ use Rattle.session.specs.Text.{nodes_in, fresh_of}
 use Rattle.session_order.specs.Session.{events_from, trace_in, SessionsOf}
 use Rattle.session_order.proofs.RuledOut.{text, asks, some-asks, scanning, traced, seeing}
 
--- Every value is seen with tag 0. No tag is printed, and as many messages are seen.
-abbrev tagless : M.Message → M.Message
-tagless (M.read q) = M.read q
-tagless (M.read_answer to q t) = M.read_answer to q t
-tagless (M.write q t) = M.write q t
-tagless (M.write_answer to q t) = M.write_answer to q t
-tagless (M.echo t) = M.echo t
-tagless (M.value v) = M.value (M.of 0 v.writer v.report)
-tagless (M.good t v) = M.good t v
+-- The view that a done update came by is not seen. It is not printed.
+abbrev viewless : H.Response → H.Response
+viewless (H.refused k) = H.refused k
+viewless (H.accepted none) = H.accepted none
+viewless (H.accepted (done r v)) = H.accepted (done r [])
+viewless (H.accepted (shown r v)) = H.accepted (shown r v)
+viewless (H.accepted spent) = H.accepted spent
 
 abbrev blurred : Seen → Seen
-blurred o =
-    record {
-      event = o.event;
-      answer = o.answer;
-      sent = map (λ (s : H.Sent). record { to = s.to; message = tagless s.message }) o.sent;
-    }
+blurred o = record { event = o.event; answer = viewless o.answer; sent = o.sent }
 
 -- an update that ends when its ten messages are delivered, as a text and as events
 abbrev updates : List ℕ
@@ -63,14 +56,14 @@ unfolding lines_from rest_from first_of number_of all_digits value all_to up_to 
 read = (refl, refl)
 
 -- computed of the algorithm over sets
-untagged : SingleOrder 1 (map blurred (trace 1 0 channel_room (map R.meaning updating))) → ⊥
+unviewed : SingleOrder 1 (map blurred (trace 1 0 channel_room (map R.meaning updating))) → ⊥
 unfolding trace_from K.event K.roomy H.sent_to K.entries move_on kept table newest included_up_to has limit same upd upd2
-    count ℕ_discrete dec_le dec_lt decide first_ending tags_sent own_tags largest first_above
-untagged o = let some : 0 < 0 = o.tagged 0 1 0 ((o.order.members (post 0)).1 tt) refl in omega (arith, some)
+    count ℕ_discrete dec_le dec_lt decide first_ending
+unviewed o = let wrong : ◌≡◌ {A = ℕ} 0 1 = o.kinds 0 in omega (arith, wrong)
 
 pub order-out : ¬ SessionsOf (seeing (λ t. map blurred (trace_in t)))
 unfolding lines_from rest_from first_of number_of all_digits value all_to up_to word field_length place_of after
-order-out s = untagged (subst (λ tr. SingleOrder 1 (map blurred tr))
+order-out s = unviewed (subst (λ tr. SingleOrder 1 (map blurred tr))
     (ap (R.trace_from 1 (fresh_of 1 0)) read.1 ∙ traced updating)
     (s.order updates λ e. omega (arith, e, read.0)))
 

@@ -30,11 +30,11 @@ abbrev pub reports : M.View → List ℕ
 reports [] = []
 reports (x ∷ w) = printed_of x ++ reports w
 
--- An ending at node c prints event, `done` or `scan` or `spent`, c, and, but for `spent`, the reports of its view; a
--- refusal prints event, `no`, number.
+-- An ending at node c prints event, `done` or `scan` or `spent`, c, and for a scan the reports of its view; a refusal
+-- prints event, `no`, number.
 pub data Shows (e c : ℕ) : H.Response → List ℕ → Type 0 where
   silence : Shows e c (H.accepted H.none) []
-  done : (r : H.Rule) (w : M.View) → Shows e c (H.accepted (H.done r w)) (start e done_is c ++ reports w ++ feed)
+  done : (r : H.Rule) (w : M.View) → Shows e c (H.accepted (H.done r w)) (start e done_is c ++ feed)
   scan : (r : H.Rule) (w : M.View) → Shows e c (H.accepted (H.shown r w)) (start e scan_is c ++ reports w ++ feed)
   spent : Shows e c (H.accepted H.spent) (start e spent_is c ++ feed)
   refusal : (k : ℕ) → Shows e c (H.refused k) (start e no_is k ++ feed)

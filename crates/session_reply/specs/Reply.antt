@@ -19,6 +19,6 @@ handler Bad = 0
 abbrev pub printed_for : ℕ → Told → Printed
 printed_for c (refusal k) = No k
 printed_for c nothing = Nothing
-printed_for c (done v) = SayDone c
+printed_for c done = SayDone c
 printed_for c (scan v) = SayScan c
 printed_for c (spent k) = SaySpent c

@@ -17,28 +17,24 @@
 //   100 to 103     an update is done
 //   110 to 113     a scan has ended
 //
-// The last digit of 100 to 113 is the rule: 0 for a view borrowed from a good message, or the round, 1 to 3. The view
-// of such an ending stands in what was lent for it; a spent update has none. Refusals that come later stay below 100. A
-// refusal leaves all that is lent as it was.
+// The last digit of 100 to 113 is the rule: 0 for a view borrowed from a good message, or the round, 1 to 3. Refusals
+// that come later stay below 100. A refusal leaves all that is lent as it was.
 #![tactic(auto)]
 
 ghost use Rattle.std.specs.Prelude.{◌≡◌, ℕ, List};
 ghost use Rattle.view.specs.Report.{report_of};
 ghost use Rattle.wire.specs.Codec.{front, decode};
 ghost use Rattle.figures.specs.Figures.{figures_of};
-ghost use Rattle.flags.specs.Flags.{flags_of};
 ghost use Rattle.table.specs.Quorum.{most_faults};
 ghost use Rattle.record.specs.declared.Operation.TheVariants.{Update, Scan};
 ghost use Rattle.region.specs.Record.{record_size};
 ghost use Rattle.layout.specs.Layout.{size_for};
 ghost use Rattle.events.specs.Event.{begin, deliver, fresh};
 ghost use Rattle.events.specs.Outcome.{told_of};
-ghost use Rattle.events.specs.Propose.{propose};
 ghost use Rattle.events.specs.Stop.{stop};
 ghost use Rattle.calls_bytes.specs.Entry.{LentResult, fresh as fresh_node, begin as begin_node};
 ghost use Rattle.calls_bytes.specs.Entry.{message as message_node};
 ghost use Rattle.calls_bytes.specs.Frame.{frame as frame_node};
-ghost use Rattle.calls_bytes.specs.Propose.{propose as propose_node};
 ghost use Rattle.node_bytes.specs.Called.{Tells};
 ghost use Rattle.calls_bytes.specs.Shown.{event_view};
 ghost use Rattle.codes.specs.Code.{extent_of, Leaves};
@@ -50,7 +46,6 @@ use codes::{
     route_of, show,
 };
 use figures::Counted;
-use flags::United;
 use node_bytes::Called;
 use page::Paged;
 use record::Operation;
@@ -117,8 +112,8 @@ pub extern "C" fn snapshot_begin_scan(
     event_code(cluster::begin(cluster, node, Operation::Scan, extent_of(cut, entries)))
 }
 
-// Delivers what has waited longest on the channel between two nodes. The view of an update that is done or of a scan
-// that ends goes to `view`: n entries, then zeros.
+// Delivers what has waited longest on the channel between two nodes. The view of a scan that ends goes to `view`: n
+// entries, then zeros.
 #[unsafe(no_mangle)]
 pub extern "C" fn snapshot_deliver(
     cluster: &mut [u8],
@@ -209,8 +204,7 @@ pub extern "C" fn snapshot_node_begin_scan(
     node_code(a, length)
 }
 
-// Handles one message from node `sender`. The view of an update that is done or of a scan that ends goes to `view`: n
-// entries, then zeros.
+// Handles one message from node `sender`. The view of a scan that ends goes to `view`: n entries, then zeros.
 #[unsafe(no_mangle)]
 pub extern "C" fn snapshot_node_message(
     state: &mut [u8],
@@ -358,52 +352,5 @@ pub extern "C" fn snapshot_page(n: usize, view: &[u8], out: &mut [u8], length: &
             0
         }
         Paged::Refused(k) => k,
-    }
-}
-
-// ---- paging groups: a report is 64 flags
-
-// Proposes flags at a node: begins an update with the union of the node's proposals so far.
-#[unsafe(no_mangle)]
-pub extern "C" fn snapshot_propose(
-    cluster: &mut [u8],
-    node: usize,
-    flags: u64,
-    cut: bool,
-    entries: usize,
-) -> u8
-    ensures { Leaves result cluster.new
-        (propose node flags (extent_of cut entries) cluster.old) }
-{
-    event_code(cluster::propose(cluster, node, flags, extent_of(cut, entries)))
-}
-
-// The same at one node on its record.
-#[unsafe(no_mangle)]
-pub extern "C" fn snapshot_node_propose(
-    state: &mut [u8],
-    flags: u64,
-    out: &mut [u8],
-    length: &mut usize,
-) -> u8
-    ensures { LeavesNode result state.new out.new length.new
-        (propose_node state.old flags out.old) length.old }
-{
-    let a = node_bytes::propose(state, flags, out);
-    node_code(a, length)
-}
-
-// The answer of a proposal: the union of the reports that a view of n nodes shows.
-#[unsafe(no_mangle)]
-pub extern "C" fn snapshot_flags(n: usize, view: &[u8], flags: &mut u64) -> u8
-    ensures { (result ≡ answer_code (flags_of n view.now))
-        × (flags.new ≡ lent (λ g. g) (flags_of n view.now) flags.old) }
-{
-    match flags::union(n, view) {
-        United::Flags(g) => {
-            *flags = g;
-            0
-        }
-        United::Refused(k) => k,
     }
 }

@@ -19,10 +19,9 @@ use Rattle.octets.proofs.Table.{get_d-padded, get_d_past}
 use Rattle.octets.proofs.Test.{both_left, both_right, both_true}
 use Rattle.view.specs.Size.{nodes, view_size, entry_size, tag_size, report_size}
 use Rattle.view.specs.Report.{no_report, is_none, report_of}
-use Rattle.view.specs.View.{no_view, tag_at, report_at, report_word, entry_ok_at, view_bytes, view_of, view_ok}
+use Rattle.view.specs.View.{tag_at, report_at, report_word, entry_ok_at, view_bytes, view_of, view_ok}
 use Rattle.view.specs.declared.Report.{Report}
 use Rattle.view.specs.declared.View.{View}
-use Rattle.view.proofs.First.{none-absent}
 use Rattle.view.proofs.ViewBytes.{length-view_bytes, ok-written}
 use Rattle.wire.specs.Layout.{is_tag, allowed}
 use Rattle.wire.specs.declared.Message.{Message}
@@ -53,29 +52,15 @@ module _ (t : ℕ) (v : View) (h : view_within t v ≡ true) (i : ℕ) (l : i < 
   back : i + 1 - 1 ≡ i
   back = omega arith
 
-  pub entry-tag : get_or v.tags i 0 ≤ t
+  entry-tag : get_or v.tags i 0 ≤ t
   entry-tag = rw back at (view_within-tag t v (i + 1) h (omega arith) (omega arith))
 
-  pub entry-none : get_or v.tags i 0 ≡ 0 → get_or v.reports i no_report ≡ no_report
+  entry-none : get_or v.tags i 0 ≡ 0 → get_or v.reports i no_report ≡ no_report
   entry-none z =
       let x = get_or v.tags i 0 in
       let p = get_or v.reports i no_report in
       let e : entry_ok t x p ≡ true = rw back at (view_within-at t v (i + 1) h (omega arith) (omega arith)) in
       none_is p (rw z at (both_right (leb x t) (either (leb 1 x) (is_none p)) e))
-
--- so the bytes of such a view pass the test of view bytes
-pub within-ok : (n t : ℕ) (v : View) → n ≤ nodes → view_within t v ≡ true → view_ok n t (view_bytes n v) ≡ true
-within-ok n t v l h =
-    ap (view_ok n t) (sym (append-nil (view_bytes n v)))
-    ∙ ok-written n t v [] (λ i k. entry-tag t v h i (omega arith)) (λ i k. entry-none t v h i (omega arith))
-
--- those of no view too, however many
-pub none-ok : (n t : ℕ) → view_ok n t (view_bytes n no_view) ≡ true
-none-ok n t =
-    let a = none-absent 0 (omega arith) in
-    ap (view_ok n t) (sym (append-nil (view_bytes n no_view)))
-    ∙ ok-written n t no_view [] (λ i k. rw (a.no-tag i (omega arith)) (omega arith))
-    (λ i k z. a.no-report i (omega arith))
 
 pub lawful-allowed : (n : ℕ) (m : Message) (v : View) → n ≤ nodes → lawful n m v ≡ true → allowed n m (view_bytes n v)
     ≡ true
@@ -87,9 +72,11 @@ lawful-allowed n (WriteAnswer q t) v l h = h
 lawful-allowed n (Echo t) v l h = h
 lawful-allowed n (Value t w p) v l h = h
 lawful-allowed n (Good t) v l h =
+    let o : view_within t v ≡ true = both_right (is_tag t) (view_within t v) h in
     both_true (eq-eqb (length (view_bytes n v)) (view_size n) (length-view_bytes n v))
     (both_true (both_left (is_tag t) (view_within t v) h)
-    (within-ok n t v l (both_right (is_tag t) (view_within t v) h)))
+    (ap (view_ok n t) (sym (append-nil (view_bytes n v)))
+    ∙ ok-written n t v [] (λ i k. entry-tag t v o i (omega arith)) (λ i k. entry-none t v o i (omega arith))))
 
 -- ---- from bytes to the view
 

@@ -16,7 +16,6 @@ use Rattle.view.specs.declared.View.{View}
 use Rattle.wire.specs.Layout.{message_size}
 use Rattle.wire.specs.declared.Message.{Message}
 use Rattle.wire.specs.declared.Message.TheVariants.{Read, ReadAnswer, Write, WriteAnswer, Echo, Value, Good}
-use Rattle.table.proofs.Entries.{view_within-absent}
 use Rattle.table.proofs.Sets.{members_in-with}
 use Rattle.record.specs.Usable.{usable}
 use Rattle.record.specs.Record.{with_wait}
@@ -34,7 +33,7 @@ use Rattle.step.specs.Move.{move_on, message_step, begun, begin_step}
 use Rattle.step.specs.Theorems as claim
 use Rattle.step.proofs.Numbers.{on-picks}
 use Rattle.step.proofs.Safe.{move-on-parts}
-use Rattle.step.proofs.Shown.{move-on-shows, move-on-within}
+use Rattle.step.proofs.Shown.{move-on-shows}
 use Rattle.step.proofs.Handled.{react-parts, begun-parts}
 use Rattle.step.proofs.Same.{move-on-keeps, react-keeps}
 use Rattle.step.proofs.Waits.{must-wait, begin-asks}
@@ -75,12 +74,6 @@ pub message-usable : claim.MessageUsable
 unfolding message_step
 message-usable f c s m v u h z l k =
     usable-of _ (move-on-parts f (react c s m v) (react-parts c s m v (parts c u) z l k h))
-
-pub message-within : claim.MessageWithin
-unfolding message_step
-message-within f c s m v u h z l k =
-    move-on-within f (react c s m v) (react-parts c s m v (parts c u) z l k h)
-    (rw (react-started c s m v) (view_within-absent limit))
 
 message-sends : claim.AtUsable (λ f c s m v. Sends c.n (message_step f c s m v))
 unfolding message_step
@@ -205,11 +198,6 @@ write-counts c s q t v k i r a e n y h l z = (
 pub begin-usable : claim.BeginUsable
 unfolding begin_step
 begin-usable f c o u i j = usable-of _ (move-on-parts f (begun c o) (begun-parts c o (parts c u) i j))
-
-pub begin-within : claim.BeginWithin
-unfolding begin_step begun
-begin-within f c o u i j =
-    move-on-within f (begun c o) (begun-parts c o (parts c u) i j) (view_within-absent limit)
 
 pub begin-asks-only : claim.BeginAsks
 unfolding begun

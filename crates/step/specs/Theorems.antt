@@ -2,13 +2,12 @@
 -- number, and any below n where it says so.
 -- Assumes nothing.
 use Rattle.std.specs.Prelude.{◌≡◌, true, false, ◌⊎◌, [], ◌∷◌, ℕ, ◌+◌, ◌≤◌, ◌<◌, max, length}
-use Rattle.view.specs.Size.{limit, nodes}
+use Rattle.view.specs.Size.{nodes}
 use Rattle.view.specs.View.{AbsentPast}
 use Rattle.view.specs.declared.Report.{Report}
 use Rattle.view.specs.declared.View.{View}
 use Rattle.wire.specs.declared.Message.{Message}
 use Rattle.wire.specs.declared.Message.TheVariants.{Read, ReadAnswer, WriteAnswer, Value}
-use Rattle.table.specs.Table.{view_within}
 use Rattle.table.specs.Quorum.{member, with, members_in}
 use Rattle.record.specs.Record.{with_wait}
 use Rattle.record.specs.Usable.{is_open, full, usable}
@@ -47,10 +46,6 @@ MessageFits =
     AtUsable (λ f c s m v.
     f < c.n → (length (messages (message_step f c s m v).outbox) ≤ 4)
     × (sizes c.n (messages (message_step f c s m v).outbox) ≤ step_most))
-
--- The view beside an ending keeps the limit of a tag, and has no report beside tag 0. A step without a view has none.
-abbrev pub MessageWithin : Type 0
-MessageWithin = AtUsable (λ f c s m v. view_within limit (message_step f c s m v).view ≡ true)
 
 -- ---- a message at any record
 
@@ -140,9 +135,6 @@ BeginAsks =
 
 abbrev pub BeginWaits : Type 0
 BeginWaits = AtIdle (λ f c o. f < c.n → MustWait f (begin_step f c o).node (begin_step f c o).node.wait)
-
-abbrev pub BeginWithin : Type 0
-BeginWithin = AtIdle (λ f c o. view_within limit (begin_step f c o).view ≡ true)
 
 abbrev pub BeginAbsent : Type 0
 BeginAbsent = (f : ℕ) (c : Node) (o : Operation) → c.n ≤ nodes → AbsentPast c.n (begin_step f c o).view

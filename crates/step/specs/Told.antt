@@ -1,6 +1,6 @@
--- What a call tells the client, in the terms of documents 01 and 02: the number of a refusal, that no operation has
--- ended, or how it ended: an update done or a scan, each with the view that it obtained, or an update spent, with a
--- number that is an ending's and no refusal's, and no view. The contracts that speak of an ending cite this definition.
+-- What a call tells the client, in document 01's terms: the number of a refusal, that no operation has ended, or how it
+-- ended: done, a scan with its view, or spent with its number, which is an ending's and no refusal's. The contracts
+-- that speak of an ending cite this definition.
 -- Assumes nothing.
 use Rattle.std.specs.Prelude.{ℕ}
 use Rattle.octets.specs.Answer.{Answer, returned, refused}
@@ -12,7 +12,7 @@ use Rattle.step.specs.declared.Ending.TheVariants.{None, Done, Scan, Spent}
 pub data Told : Type 0 where
   refusal : ℕ → Told
   nothing : Told
-  done : View → Told
+  done : Told
   scan : View → Told
   spent : ℕ → Told
 
@@ -20,18 +20,18 @@ pub data Told : Type 0 where
 abbrev pub spent_number : ℕ
 spent_number = 13
 
--- an answer beside the view of the operation that ended, which a spent update has not
+-- an answer beside the view of the operation that ended: an update does not show its view
 abbrev pub told : Answer Ending → View → Told
 told (refused k) v = refusal k
 told (returned None) v = nothing
-told (returned (Done r)) v = done v
+told (returned (Done r)) v = done
 told (returned (Scan r)) v = scan v
 told (returned Spent) v = spent spent_number
 
--- the view that is shown: that of a done update or of a scan
+-- the view that is shown, only by a scan
 abbrev pub told_view : Told → View
 told_view (refusal k) = no_view
 told_view nothing = no_view
-told_view (done v) = v
+told_view done = no_view
 told_view (scan v) = v
 told_view (spent k) = no_view

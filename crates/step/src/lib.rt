@@ -37,8 +37,7 @@ pub enum Rule {
 // The number of the ending `Spent` in document 01.
 pub const SPENT: u8 = 13;
 
-// What a step tells the client: nothing, that its update is done or its scan has ended, each with its view, or that no
-// tag was left.
+// What a step tells the client: nothing, or that its update is done, its scan has its view, or no tag was left.
 #[derive(Drop)]
 pub enum Ending {
     None,
@@ -47,7 +46,7 @@ pub enum Ending {
     Spent,
 }
 
-// A step. `view` is that of the operation that ended.
+// A step. `view` is that of the operation that ended, an update's too.
 #[derive(Drop)]
 pub struct Step {
     pub node: Node,

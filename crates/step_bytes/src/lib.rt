@@ -6,10 +6,8 @@ pub mod agree;
 pub mod rounds;
 
 ghost use Rattle.std.specs.Prelude.{◌≡◌, true, ◌+◌, ◌≤◌, ◌<◌, length};
-ghost use Rattle.view.specs.Flags.{joined};
 ghost use Rattle.view.specs.Size.{limit, nodes};
 ghost use Rattle.wire.specs.declared.Message.TheVariants.{Read};
-ghost use Rattle.table.specs.Table.{report_of};
 ghost use Rattle.record.specs.Usable.{is_open, full, usable};
 ghost use Rattle.step.specs.Step.{started};
 ghost use Rattle.step.specs.declared.Sent.TheVariants.{One};
@@ -19,17 +17,16 @@ ghost use Rattle.step_bytes.specs.Moved.{IsStep, rested_of, after_agreement, fol
 
 use agree::agrees_in;
 use octets::{get_word, less};
-use react_bytes::tables::report_in;
 use react_bytes::waiting_in;
 use record::usable::has_open;
 use record::{Kind, Operation, Wait};
 use region::head::{head_of, load_wait, save_head, with_request, with_wait};
-use region::places::{KEPT_PLACE, LAST_IN, MAXTAG_PLACE, REQUEST_PLACE};
+use region::places::{KEPT_PLACE, MAXTAG_PLACE, REQUEST_PLACE};
 use rounds::{failed_in, good_in, lend_in, read_in, rested};
 use step::{Ending, Outbox, Sent};
 use table::larger;
 use table::quorum::{is_quorum, members};
-use view::{LIMIT, Report, View, report_from};
+use view::{LIMIT, View};
 use wire::Message;
 
 // What a step gives beside the record.
@@ -214,12 +211,4 @@ pub fn follow_in(r: &mut [u8], n: usize, to: usize, sent: Sent, p: Plan) -> Effe
         Plan::Agree { kind, round, tag } => agreement_in(r, n, to, sent, kind, round, tag),
         Plan::Borrow { kind } => lend_in(r, n, to, sent, kind),
     }
-}
-
-// The report that node w posts when it proposes the flags g: its last one, joined with them.
-pub fn proposed_in(r: &[u8], w: usize, g: u64) -> Report
-    requires { (length r.now ≡ record_size) × (1 ≤ w) × (w ≤ nodes) }
-    ensures { result ≡ joined (report_of (record_of r.now).last w) g }
-{
-    report_from(report_in(r, LAST_IN, w) | g)
 }

@@ -67,11 +67,6 @@ entry-up t u x p h e =
     both_true (le-leb x u (le_trans (leb-true x t (both_left (leb x t) (either (leb 1 x) (is_none p)) e)) h))
     (both_right (leb x t) (either (leb 1 x) (is_none p)) e)
 
--- so does a whole view
-pub view_within-up : (t u : ℕ) (v : View) → t ≤ u → view_within t v ≡ true → view_within u v ≡ true
-view_within-up t u v h e = view_within-all u v (λ w l k.
-    entry-up t u (tag_of v w) (report_of v w) h (view_within-at t v w e l k))
-
 -- the tag of an entry of such a view
 pub view_within-tag : (t : ℕ) (v : View) (w : ℕ) → view_within t v ≡ true → 1 ≤ w → w ≤ nodes → tag_of v w ≤ t
 view_within-tag t v w e l k =

@@ -12,16 +12,16 @@ use borrow.Author.Tests.{eq-eqb, le-leb, lt-ltb, ltb-true}
 use Rattle.octets.specs.Test.{pick}
 use Rattle.octets.proofs.Test.{both_right, both_true}
 use Rattle.view.specs.Size.{nodes}
-use Rattle.table.specs.Loop.{either, count}
+use Rattle.table.specs.Loop.{count}
 use Rattle.table.specs.Quorum.{member, with, only, members_in, most_faults, tolerates}
 
 -- a 1 that is shifted by s stays in its word
 pub shifted : (s : ℕ) → s < 64 → 1 * 2 ^ s % 2 ^ 64 ≡ 2 ^ s
 shifted s h = rw (one-mul (2 ^ s)) (mod-eq_of_lt (pow-lt h))
 
--- bit j of two sets together
-bit-or : (m k j : ℕ) → bit_or m k / 2 ^ j % 2 ≡ bit_or (m / 2 ^ j % 2) (k / 2 ^ j % 2)
-bit-or m k j = ap (λ (x : ℕ). x % 2) (or_shr m k j) ∙ or_mod (m / 2 ^ j) (k / 2 ^ j) 1
+-- bit j of a set with bit i
+bit-or : (m i j : ℕ) → bit_or m (2 ^ i) / 2 ^ j % 2 ≡ bit_or (m / 2 ^ j % 2) (2 ^ i / 2 ^ j % 2)
+bit-or m i j = ap (λ (x : ℕ). x % 2) (or_shr m (2 ^ i) j) ∙ or_mod (m / 2 ^ j) (2 ^ i / 2 ^ j) 1
 
 bit-same : (i : ℕ) → 2 ^ i / 2 ^ i % 2 ≡ 1
 bit-same i = ap (λ (x : ℕ). x / 2 ^ i % 2) (sym (one-mul (2 ^ i))) ∙ ap (λ (x : ℕ). x % 2) (shl-shr 1 i)
@@ -47,28 +47,12 @@ pub member-none : (s : ℕ) → member 0 s ≡ false
 unfolding member
 member-none s = rw (zero-div (2 ^ (s - 1)))
 
--- who is in two sets together
-pub member-or : (m k s : ℕ) → member (bit_or m k) s ≡ either (member m s) (member k s)
-unfolding member
-member-or m k s =
-    let j = s - 1 in
-    ap (λ (x : ℕ). eqb x 1) (bit-or m k j)
-    ∙ one_of (m / 2 ^ j % 2) (k / 2 ^ j % 2) (mod-lt (m / 2 ^ j) (omega arith)) (mod-lt (k / 2 ^ j) (omega arith))
-  where
-    one_of : (x y : ℕ) → x < 2 → y < 2 → eqb (bit_or x y) 1 ≡ either (eqb x 1) (eqb y 1)
-    one_of zero y h g = refl
-    one_of (suc zero) zero h g = refl
-    one_of (suc zero) (suc zero) h g = refl
-    one_of (suc zero) (suc (suc y)) h g = absurd (omega arith)
-    one_of (suc (suc x)) y h g = absurd (omega arith)
-
 pub member-same : (m s : ℕ) → member (with m s) s ≡ true
 unfolding member with
 member-same m s =
     let i = s - 1 in
     eq-eqb (bit_or m (2 ^ i) / 2 ^ i % 2) 1
-    (bit-or m (2 ^ i) i ∙ ap (bit_or (m / 2 ^ i % 2)) (bit-same i)
-    ∙ or-one (m / 2 ^ i % 2) (mod-lt (m / 2 ^ i) (omega arith)))
+    (bit-or m i i ∙ ap (bit_or (m / 2 ^ i % 2)) (bit-same i) ∙ or-one (m / 2 ^ i % 2) (mod-lt (m / 2 ^ i) (omega arith)))
 
 pub member-other : (m s x : ℕ) → 1 ≤ s → 1 ≤ x → (x ≡ s → ⊥) → member (with m s) x ≡ member m x
 unfolding member with
@@ -79,7 +63,7 @@ member-other m s x a b d =
       | yes h ↦ bit_below i j h
       | no h ↦ ap (λ (k : ℕ). k % 2) (bit-above i j (let q : i < j = omega arith in q))
     ] in
-    ap (λ (k : ℕ). eqb k 1) (bit-or m (2 ^ i) j ∙ ap (bit_or (m / 2 ^ j % 2)) e ∙ or_zero_r (m / 2 ^ j % 2))
+    ap (λ (k : ℕ). eqb k 1) (bit-or m i j ∙ ap (bit_or (m / 2 ^ j % 2)) e ∙ or_zero_r (m / 2 ^ j % 2))
 
 -- one of the nodes 1 to n in it keeps a set within them
 pub only-with : (n m s : ℕ) → 1 ≤ s → s ≤ n → only n (with m s) ≡ only n m

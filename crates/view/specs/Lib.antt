@@ -1,4 +1,3 @@
-pub mod Flags
 pub mod Report
 pub mod Size
 pub mod View

@@ -1,7 +1,6 @@
 //! The shapes that a picture is made of, as SVG that needs nothing beside itself. Lengths are in pixels.
 
 use super::flight::KINDS;
-use crate::order::Half;
 
 pub type Point = (f64, f64);
 
@@ -98,15 +97,11 @@ impl Canvas {
         self.stroke(&format!("M{left:.1} {top:.1}l14 14m0 -14l-14 14"), INK, "stroke-width='3' stroke-linecap='round'");
     }
 
-    /// A moment of an operation: full where it writes, hollow where it shows.
-    pub fn diamond(&mut self, (x, y): Point, colours: &Colours, half: Half) {
+    /// The moment of an operation.
+    pub fn diamond(&mut self, (x, y): Point, colours: &Colours) {
         let (top, edge) = (y - 7.0, colours.edge);
-        let (fill, rim, thick) = match half {
-            Half::Posting => (edge, "#fff", 1.5),
-            Half::Looking => ("#fff", edge, 2.0),
-        };
         self.put(&format!(
-            "<path d='M{x:.1} {top:.1}l7 7l-7 7l-7 -7Z' fill='{fill}' stroke='{rim}' stroke-width='{thick}'/>"
+            "<path d='M{x:.1} {top:.1}l7 7l-7 7l-7 -7Z' fill='{edge}' stroke='#fff' stroke-width='1.5'/>"
         ));
     }
 
@@ -115,14 +110,6 @@ impl Canvas {
         self.put(&format!(
             "<rect x='{x:.1}' y='{y:.1}' width='{width:.1}' height='{height:.1}' rx='4' \
              fill='{fill}' fill-opacity='.86' stroke='{edge}'/>"
-        ));
-    }
-
-    /// A square with a thin edge.
-    pub fn square(&mut self, (x, y): Point, size: f64, fill: &str, edge: &str) {
-        self.put(&format!(
-            "<rect x='{x:.1}' y='{y:.1}' width='{size:.1}' height='{size:.1}' fill='{fill}' stroke='{edge}' \
-             stroke-width='.8'/>"
         ));
     }
 

@@ -3,7 +3,7 @@
 use super::flight::{flights, Flight, KINDS};
 use crate::message::{NodeId, Report, Tag};
 use crate::node::Operation;
-use crate::order::{self, Item, Op};
+use crate::order::{self, Op};
 use crate::session::Played;
 use std::iter;
 
@@ -15,8 +15,8 @@ const LANE_PITCH: f64 = 140.0;
 /// A lane, the broad line of a node, reaches this far above and below the thin line in it.
 pub const ABOVE: f64 = 22.0;
 pub const BELOW: f64 = 19.0;
-pub const BOX_WIDTH: f64 = 190.0;
-pub const BOX_PITCH: f64 = BOX_WIDTH + 34.0;
+pub const BOX_WIDTH: f64 = 200.0;
+pub const BOX_PITCH: f64 = BOX_WIDTH + 40.0;
 pub const TEXT_PITCH: f64 = 18.0;
 
 pub struct Scene {
@@ -24,8 +24,8 @@ pub struct Scene {
     pub ops: Vec<Op>,
     /// The names of the operations.
     pub names: Vec<String>,
-    /// The single order, and the moment of each item.
-    pub line: Vec<Item>,
+    /// The single order, as places in the list of operations, and the moment of each.
+    pub line: Vec<usize>,
     pub moments: Vec<f64>,
     pub flights: Vec<Flight>,
     /// One more than the number of the last event.
@@ -58,13 +58,8 @@ impl Scene {
     }
 
     pub fn width(&self) -> f64 {
-        self.width_with(self.line.len())
-    }
-
-    /// The width of a picture with so many boxes in a row.
-    pub fn width_with(&self, boxes: usize) -> f64 {
-        let boxes = BOX_PITCH * boxes as f64 - (BOX_PITCH - BOX_WIDTH);
-        LEAST_WIDTH.max(LEFT + boxes.max(self.step * self.last as f64) + RIGHT)
+        let (lanes, boxes) = (self.step * self.last as f64, BOX_PITCH * self.line.len() as f64);
+        LEAST_WIDTH.max(LEFT + lanes.max(boxes) + RIGHT)
     }
 
     pub fn height(&self) -> f64 {
@@ -95,20 +90,15 @@ impl Scene {
         TEXT_PITCH * (1 + self.n.max(2)) as f64 + 14.0
     }
 
-    /// The middles of the boxes of the single order.
+    /// The middles of the boxes: each as near to its moment as its neighbours and the edges allow.
     pub fn boxes(&self) -> Vec<f64> {
-        self.boxes_at(&self.moments)
-    }
-
-    /// The middles of boxes in a row: each as near to its moment as its neighbours and the edges allow.
-    pub fn boxes_at(&self, moments: &[f64]) -> Vec<f64> {
-        let mut middles: Vec<f64> = moments.iter().map(|&moment| self.x(moment)).collect();
+        let mut middles: Vec<f64> = self.moments.iter().map(|&moment| self.x(moment)).collect();
         let mut least = LEFT + BOX_WIDTH / 2.0;
         for x in &mut middles {
             *x = x.max(least);
             least = *x + BOX_PITCH;
         }
-        let mut most = self.width_with(moments.len()) - RIGHT - BOX_WIDTH / 2.0;
+        let mut most = self.width() - RIGHT - BOX_WIDTH / 2.0;
         for x in middles.iter_mut().rev() {
             *x = x.min(most);
             most = *x - BOX_PITCH;
@@ -130,13 +120,13 @@ impl Scene {
         iter::once((op.begin, "read".to_string())).chain(rounds).collect()
     }
 
-    /// For each node the name and the report of the update that an operation shows; nothing where it has no view.
-    pub fn shown(&self, op: &Op) -> Vec<Option<(&str, Report)>> {
+    /// For each node the name and the report of the update that a finished scan shows.
+    pub fn shown(&self, scan: &Op) -> Vec<Option<(&str, Report)>> {
         let name = |node: NodeId, tag: Tag| {
             let update = self.ops.iter().position(|op| op.node == node && op.tag == Some(tag));
             update.map_or("?", |place| &self.names[place])
         };
-        let places = (1..).zip(op.view().into_iter().flatten());
+        let places = (1..).zip(scan.view().into_iter().flatten());
         places.map(|(node, place)| place.map(|(tag, report)| (name(node, tag), report))).collect()
     }
 }
@@ -152,13 +142,13 @@ fn names(ops: &[Op]) -> Vec<String> {
     ops.iter().map(name).collect()
 }
 
-/// A moment for each item of the line, between its operation's begin and end and later than the one before. There are
+/// A moment for each operation of the line, between its begin and its end and later than the one before. There are
 /// such moments because no operation of the line ended before an earlier one began. An unfinished one ends with `last`
 /// here, even if its node stopped: what it sent may arrive later.
-fn moments(ops: &[Op], line: &[Item], last: usize) -> Vec<f64> {
-    let end = |item: &Item| ops[item.place].end.as_ref().map_or(last, |end| end.0);
+fn moments(ops: &[Op], line: &[usize], last: usize) -> Vec<f64> {
+    let end = |&place: &usize| ops[place].end.as_ref().map_or(last, |end| end.0);
     let moment = |k: usize| {
-        let begin = line[..=k].iter().map(|item| ops[item.place].begin).max().unwrap_or(0) as f64;
+        let begin = line[..=k].iter().map(|&place| ops[place].begin).max().unwrap_or(0) as f64;
         let end = line[k..].iter().map(end).min().unwrap_or(last) as f64;
         begin + (end - begin) * (k + 1) as f64 / (line.len() + 1) as f64
     };

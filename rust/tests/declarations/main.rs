@@ -92,7 +92,7 @@ fn the_three_texts_declare_the_same() {
             assert!(proved.contains_key(name), "{name} of {other} is not in lib.rt");
         }
     }
-    assert_eq!(proved.len(), 21);
+    assert_eq!(proved.len(), 18);
 }
 
 #[test]

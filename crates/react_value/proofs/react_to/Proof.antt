@@ -54,7 +54,7 @@ returns-6 c =
       c.started-step6.ensures,
       c3.received-node.ensures,
       c.before.sent-where2.ensures,
-      c.before.before.tag-of.ensures,
+      c.before.before.tag_of.ensures,
     ))
 
 returns-7 : tie.Need-returns-7

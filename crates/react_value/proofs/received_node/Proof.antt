@@ -16,7 +16,7 @@ returns c =
       c3.put-where2.ensures,
       c3.before.and.ensures,
       c6.put-where.ensures,
-      c6.before.tag-of.ensures,
+      c6.before.tag_of.ensures,
     )
 
 pub received-node-spec : {M : Type 1} → statement M

@@ -41,7 +41,7 @@ same_length c = search rules
 same-length-2 : tie.Need-same-length-2
 same-length-2 c = search rules
 
--- of the view only what is told is printed
+-- only a scan's view is printed
 seen : (e c n : ℕ) (x : Answer Ending) (v : View)
     → line e (printed_for c (told x v)) n v ≡ line e (printed_for c (told x v)) n (told_view (told x v))
 unfolding line

@@ -4,7 +4,7 @@ use Rattle.record.proofs.usable.is_stale.Statement.{statement}
 use Rattle.record.proofs.usable.is_stale.Tie as tie
 
 returns : tie.Need-returns
-returns c = simp (c.is-stale-tag.ensures, c.before.tag-of.ensures)
+returns c = simp (c.is-stale-tag.ensures, c.before.tag_of.ensures)
 
 pub is-stale-spec : {M : Type 1} → statement M
 is-stale-spec =

@@ -1,4 +1,0 @@
-pub mod Answered
-pub mod Resolved
-pub mod Paging
-pub mod Instance
