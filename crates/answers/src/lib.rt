@@ -25,7 +25,7 @@ const ENTRY_ROOM: usize = 1 + 2 * REPORT;
 pub const ROOM: usize = START_ROOM + ENTRY_ROOM * NODES + 1;
 
 // What is printed of an event: the ending of an operation at a node, a refusal's number, or nothing.
-#[derive(Drop)]
+#[derive(Clone, Copy)]
 pub enum Printed {
     Done(usize),
     Scan(usize),

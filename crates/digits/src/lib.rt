@@ -52,7 +52,7 @@ pub fn number(s: &[u8]) -> usize
 }
 
 // A number as text: the bytes from `from` on.
-#[derive(Drop)]
+#[derive(Clone, Copy)]
 pub struct Digits {
     pub text: [u8; 20],
     pub from: usize,

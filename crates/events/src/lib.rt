@@ -14,14 +14,14 @@ use step::Ending;
 use view::View;
 
 // A refusal by its number in document 01, or the ending that an accepted event gives.
-#[derive(Drop)]
+#[derive(Clone, Copy)]
 pub enum Outcome {
     Refused(u8),
     Accepted(Ending),
 }
 
 // The answer of an event, with the view of the operation that it ended.
-#[derive(Drop)]
+#[derive(Clone, Copy)]
 pub struct Reply {
     pub outcome: Outcome,
     pub view: View,

@@ -13,7 +13,7 @@ ghost use Rattle.figures.specs.Room.{Roomy};
 use view::{ENTRY, LIMIT, NODES, Report, TAG};
 
 // The four figures: sums, and of calls waiting the largest.
-#[derive(Drop)]
+#[derive(Clone, Copy)]
 pub struct Totals {
     pub extensions: u32,
     pub lines: u32,
@@ -22,7 +22,7 @@ pub struct Totals {
 }
 
 // The figures, and beside them the plain sum of calls waiting; or the number of a refusal.
-#[derive(Drop)]
+#[derive(Clone, Copy)]
 pub enum Counted {
     Figures(Totals, u32),
     Refused(u8),

@@ -8,7 +8,7 @@ ghost use Rattle.input.specs.Carry.{push as Carry·push, carry_of};
 use lines::{Line, NO_OPENING, Opening};
 
 // The first bytes of a line, and its length, where 41 stands for every greater one.
-#[derive(Drop)]
+#[derive(Clone, Copy)]
 pub struct Carry {
     pub bytes: [u8; 40],
     pub size: usize,

@@ -14,14 +14,14 @@ use table::quorum::tolerates;
 use view::{REPORT, Report};
 
 // How much of what an event sends is let out: all, or so many entries, and then the node stops.
-#[derive(Drop)]
+#[derive(Clone, Copy)]
 pub enum Extent {
     Whole,
     Cut(usize),
 }
 
 // What a line says.
-#[derive(Drop)]
+#[derive(Clone, Copy)]
 pub enum Line {
     Update {
         node: usize,
@@ -44,7 +44,7 @@ pub enum Line {
 }
 
 // What the first line says: how many nodes, and how many of them may stop. Both are 0 where it is bad.
-#[derive(Drop)]
+#[derive(Clone, Copy)]
 pub struct Opening {
     pub nodes: usize,
     pub faults: usize,
@@ -56,19 +56,19 @@ pub const NO_OPENING: Opening = Opening {
 };
 
 // What a word says as a number and as a report, and what the end of a line says.
-#[derive(Drop)]
+#[derive(Clone, Copy)]
 pub enum Number {
     Value(usize),
     NoNumber,
 }
 
-#[derive(Drop)]
+#[derive(Clone, Copy)]
 pub enum Reported {
     Shown(Report),
     NoReport,
 }
 
-#[derive(Drop)]
+#[derive(Clone, Copy)]
 pub enum Tail {
     Is(Extent),
     NoTail,

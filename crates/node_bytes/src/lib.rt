@@ -32,7 +32,7 @@ use wire::{Message, Parsed};
 use wire_parse::views::parsed_view;
 
 // The answer of a call, and how many bytes of messages stand at the start of the output buffer.
-#[derive(Drop)]
+#[derive(Clone, Copy)]
 pub struct Called {
     pub outcome: Outcome,
     pub length: usize,

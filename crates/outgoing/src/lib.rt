@@ -9,7 +9,7 @@ ghost use Rattle.outgoing.specs.Outgoing.{most, is_cut};
 use view::NODES;
 
 // How much an event lets out of its list of entries: all of it, or its first m entries, after which the node stops.
-#[derive(Drop)]
+#[derive(Clone, Copy)]
 pub enum Extent {
     Whole,
     Cut(usize),

@@ -29,7 +29,7 @@ pub const LINE: usize = LABEL + COUNTS * CELL + 1;
 const SHORT: u8 = 15;
 
 // The length of the page, or the number of a refusal.
-#[derive(Drop)]
+#[derive(Clone, Copy)]
 pub enum Paged {
     Length(usize),
     Refused(u8),

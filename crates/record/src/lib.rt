@@ -13,14 +13,14 @@ use table::CELLS;
 use view::{Report, View, absent};
 
 // What a client asks for: an update with its report, or a scan (document 01: look).
-#[derive(Drop)]
+#[derive(Clone, Copy)]
 pub enum Operation {
     Update(Report),
     Scan,
 }
 
 // Which of the two is open, where the report is no longer needed.
-#[derive(Drop)]
+#[derive(Clone, Copy)]
 pub enum Kind {
     Update,
     Scan,
@@ -29,7 +29,7 @@ pub enum Kind {
 // What the open operation waits for, each wait with its own numbers: a quorum of read answers, of write answers, of
 // agreeing nodes, or a good message. `answered` is the set of senders counted, `round` 0 for the first lattice
 // operation of an update and 1 to 3 for those of the renewal, `tag` the round's tag.
-#[derive(Drop)]
+#[derive(Clone, Copy)]
 pub enum Wait {
     Idle,
     Reading {
@@ -58,7 +58,7 @@ pub enum Wait {
 // (document 01: top stamp), `request` the last request number used, `heard` the last tag heard per sender and writer.
 // Per writer: `last` its last report, `atmax` the newest not above `maxtag`, `atround` the newest not above the open
 // round's tag (no reports while no round is open). `kept` and `keptview` are the good message kept.
-#[derive(Drop)]
+#[derive(Clone, Copy)]
 pub struct Node {
     pub n: usize,
     pub f: usize,

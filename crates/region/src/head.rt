@@ -16,7 +16,7 @@ use record::{Kind, Operation, Wait};
 use view::Report;
 
 // The numbers and the wait of a record: what stands before its tables.
-#[derive(Drop)]
+#[derive(Clone, Copy)]
 pub struct Head {
     pub n: u64,
     pub f: u64,

@@ -19,7 +19,7 @@ use view::{View, absent};
 
 // What a call says: a refusal's number, that nothing has ended, or how the operation ended (document 01: done, scan,
 // spent).
-#[derive(Drop)]
+#[derive(Clone, Copy)]
 pub enum Said {
     Refused(u8),
     Going,
@@ -30,7 +30,7 @@ pub enum Said {
 
 // What is said, the record after the call, the view of a scan that has ended, and how many bytes of messages stand at
 // the start of the output buffer.
-#[derive(Drop)]
+#[derive(Clone, Copy)]
 pub struct Reply {
     pub said: Said,
     pub node: Node,

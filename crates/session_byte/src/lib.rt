@@ -25,7 +25,7 @@ const SESSION_NODES: usize = 5;
 pub const MEMORY: usize = BLOCKS_PLACE + BLOCK * SESSION_NODES;
 
 // What a line that ended did: where the session is then, and the place after what is printed.
-#[derive(Drop)]
+#[derive(Clone, Copy)]
 struct Passed {
     stage: Stage,
     end: usize,

@@ -19,7 +19,7 @@ pub const TEXT: usize = PIECE * ROOM;
 
 // Where a session is: before its first line; among its events, with the number of nodes and of the next event; or over,
 // after a bad first line.
-#[derive(Drop)]
+#[derive(Clone, Copy)]
 pub enum Stage {
     First,
     Events { nodes: usize, event: u64 },
@@ -27,14 +27,14 @@ pub enum Stage {
 }
 
 // What is kept of a session between two pieces of its text: the line that is being read, and where it is.
-#[derive(Drop)]
+#[derive(Clone, Copy)]
 pub struct Progress {
     pub carry: Carry,
     pub stage: Stage,
 }
 
 // What bytes of the text did: what is kept then, and the place after what is printed.
-#[derive(Drop)]
+#[derive(Clone, Copy)]
 pub struct Turn {
     pub progress: Progress,
     pub end: usize,

@@ -8,7 +8,7 @@ use view::View;
 use wire::Message;
 
 // What one part of a step sends.
-#[derive(Drop)]
+#[derive(Clone, Copy)]
 pub enum Sent {
     Nothing,
     One(Message),
@@ -18,7 +18,7 @@ pub enum Sent {
 // What a step sends, in this order: the handler's messages, those that follow a quorum of read answers, those that
 // follow agreement. Answers go to node `to`, whose message was handled, the other kinds to all. `view` is the view that
 // a good message carries.
-#[derive(Drop)]
+#[derive(Clone, Copy)]
 pub struct Outbox {
     pub to: usize,
     pub handler: Sent,
@@ -28,7 +28,7 @@ pub struct Outbox {
 }
 
 // How an operation came by its view: by a good round of its own, with its number, or by a good message kept.
-#[derive(Drop)]
+#[derive(Clone, Copy)]
 pub enum Rule {
     Direct(u64),
     Borrowed,
@@ -38,7 +38,7 @@ pub enum Rule {
 pub const SPENT: u8 = 13;
 
 // What a step tells the client: nothing, or that its update is done, its scan has its view, or no tag was left.
-#[derive(Drop)]
+#[derive(Clone, Copy)]
 pub enum Ending {
     None,
     Done(Rule),
@@ -47,7 +47,7 @@ pub enum Ending {
 }
 
 // A step. `view` is that of the operation that ended, an update's too.
-#[derive(Drop)]
+#[derive(Clone, Copy)]
 pub struct Step {
     pub node: Node,
     pub outbox: Outbox,

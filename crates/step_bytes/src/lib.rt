@@ -30,7 +30,7 @@ use view::{LIMIT, View};
 use wire::Message;
 
 // What a step gives beside the record.
-#[derive(Drop)]
+#[derive(Clone, Copy)]
 pub struct Effect {
     pub outbox: Outbox,
     pub ending: Ending,
@@ -39,7 +39,7 @@ pub struct Effect {
 
 // What a node does next of its own: nothing, since no operation is open or the open one must wait; it acts on a quorum
 // of read answers; it compares from now on, as there is no agreement yet; it acts on agreement; it borrows.
-#[derive(Drop)]
+#[derive(Clone, Copy)]
 pub enum Plan {
     Rest,
     Read { operation: Operation, tag: u64 },

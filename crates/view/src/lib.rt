@@ -26,7 +26,7 @@ pub const VIEW: usize = ENTRY * NODES;
 
 // What one node reports: document 01's report, four counts. The last is the first in memory, so that there a report
 // lies as its number does.
-#[derive(Drop)]
+#[derive(Clone, Copy)]
 pub struct Report {
     pub wakeups: u16,
     pub waiting: u16,
@@ -35,7 +35,7 @@ pub struct Report {
 }
 
 // A tag and a report for each of up to sixteen nodes; tag 0 and a zero report mean no report.
-#[derive(Drop)]
+#[derive(Clone, Copy)]
 pub struct View {
     pub tags: [u64; NODES],
     pub reports: [Report; NODES],

@@ -49,7 +49,7 @@ pub const LONGEST: usize = GOOD_HEAD + VIEW;
 
 // What nodes send to each other, one case for each of document 01's seven kinds.
 // The view of a good message stays beside it.
-#[derive(Drop)]
+#[derive(Clone, Copy)]
 pub enum Message {
     Read {
         request: u64,
@@ -80,19 +80,19 @@ pub enum Message {
 }
 
 // The answers: a message; a message and its length; the length written. A refusal is document 01's number.
-#[derive(Drop)]
+#[derive(Clone, Copy)]
 pub enum Parsed {
     Got(Message),
     Refused(u8),
 }
 
-#[derive(Drop)]
+#[derive(Clone, Copy)]
 pub enum Found {
     At(Message, usize),
     Refused(u8),
 }
 
-#[derive(Drop)]
+#[derive(Clone, Copy)]
 pub enum Written {
     Length(usize),
     Refused(u8),

@@ -12,13 +12,13 @@ use wire_parse::{parse, parse_prefix};
 
 // What the two readers hand back: the answer, and the view of a good message as a part of the caller's bytes. Of all
 // other bytes that part is empty.
-#[derive(Drop)]
+#[derive(Clone, Copy)]
 pub struct Reading<'a> {
     pub parsed: Parsed,
     pub view: &'a [u8],
 }
 
-#[derive(Drop)]
+#[derive(Clone, Copy)]
 pub struct Prefix<'a> {
     pub found: Found,
     pub view: &'a [u8],
