@@ -1,6 +1,6 @@
 -- What the reader of the front answers, by what its tests found.
 use Prim.Native.Nat.{ℕ}
-use mathlib.Core.Path.{◌≡◌, refl, sym, ap, ap₂, ◌∙◌}
+use mathlib.Core.Path.{◌≡◌, refl, ap, ◌∙◌}
 use mathlib.Core.Bool.{Bool, true, false}
 use mathlib.Core.List.{List}
 use lib.ListN.{length}
@@ -12,7 +12,6 @@ use Rattle.view.specs.Size.{is_size}
 use Rattle.wire.specs.Layout.{encode, allowed, message_size}
 use Rattle.wire.specs.Codec.{said, view_at, front}
 use Rattle.wire.specs.Shape.{shape}
-use Rattle.wire.specs.declared.Message.{Message}
 use Rattle.wire.proofs.Numbers.{length-encode}
 use Rattle.wire.proofs.Shape.{shape_is}
 

@@ -6,9 +6,9 @@ use mathlib.Core.List.{List, []}
 use native.Mathlib.Omega.{arith}
 use lib.ListN.{length, take, drop, length-take, length-drop}
 use lib.Seq.{take-length}
-use Rattle.octets.specs.Answer.{Answer, returned, refused}
+use Rattle.octets.specs.Answer.{Answer, returned}
 use Rattle.view.specs.Size.{view_size}
-use Rattle.wire.specs.Layout.{encode, message_size, good_head}
+use Rattle.wire.specs.Layout.{message_size, good_head}
 use Rattle.wire.specs.Codec.{front, decode, view_at, is_good, view_in, view_read, view_part, view_found, front_part}
 use Rattle.wire.specs.Codec.{address_read, view_address, address_found, front_address}
 use Rattle.wire.specs.declared.Message.{Message}
