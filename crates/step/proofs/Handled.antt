@@ -1,5 +1,5 @@
 -- The handlers and the begin keep a usable record usable. Assumes nothing.
-use mathlib.Core.Path.{◌≡◌, refl, ◌∙◌}
+use mathlib.Core.Path.{◌≡◌, refl, subst, ◌∙◌}
 use mathlib.Core.Bool.{Bool, true, false}
 use Prim.Native.Nat.{ℕ, ◌+◌, ◌-◌, ◌≤◌, max}
 use native.Mathlib.Nat.{le_of_lt}
@@ -124,6 +124,11 @@ received-parts c s w t r p z a b l h =
       kept-ok = p.kept-ok;
     }
 
+-- what an open read may still use does not depend on who has answered, nor on what
+still-reading : (o : Operation) (a b m k : ℕ) → still_uses (Reading o a m) ≡ still_uses (Reading o b k)
+still-reading (Update p) a b m k = refl
+still-reading Scan a b m k = refl
+
 -- an answer, at the record with any wait
 read-wait-parts : (c : Node) (s q t : ℕ) (w : Wait) → Parts (with_wait c w) → 1 ≤ s → s ≤ c.n → t ≤ limit
     → Parts (with_wait c (read_wait c.request s q t w))
@@ -134,7 +139,7 @@ read-wait-parts c s q t (Reading o a m) p l k h =
     (λ e. on-pick (λ w. Parts (with_wait c w)) (member a s) _ _ (λ e. p)
     (λ e. set-wait-parts d c.request (Reading o (with a s) (max m t)) c.atround p p.request-high
     (reading-of c.n o (with a s) (max m t) (only-with c.n a s l k ∙ ok.0) (max-most m t limit ok.1 h))
-    p.enough p.round-ok))
+    (subst (λ (u : ℕ). u ≤ limit - c.request) (still-reading o a (with a s) m (max m t)) p.enough) p.round-ok))
     (λ e. p)
 read-wait-parts c s q t Idle p l k h = p
 read-wait-parts c s q t (Writing kd i r a) p l k h = p
