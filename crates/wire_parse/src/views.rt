@@ -30,7 +30,7 @@ pub fn is_good(m: Message) -> bool
 
 // The view in bytes that are one message.
 pub fn parsed_view(b: &[u8], p: Parsed) -> &[u8]
-    requires { (t : ℕ) → parsed p ≡ result (Good t) → good_head ≤ length b.now }
+    requires { (t : ℕ) → parsed p ≡ returned (Good t) → good_head ≤ length b.now }
     ensures { (result.now ≡ view_read b.now (parsed p))
         × (result.ref_ptr ≡ address_read (parsed p) b.entry.ref_ptr) }
 {
@@ -42,7 +42,7 @@ pub fn parsed_view(b: &[u8], p: Parsed) -> &[u8]
 
 // The view in the message at the front of bytes.
 pub fn found_view(b: &[u8], f: Found) -> &[u8]
-    requires { (t k : ℕ) → found f ≡ result (Good t, k) → (good_head ≤ k) × (k ≤ length b.now) }
+    requires { (t k : ℕ) → found f ≡ returned (Good t, k) → (good_head ≤ k) × (k ≤ length b.now) }
     ensures { (result.now ≡ view_found b.now (found f))
         × (result.ref_ptr ≡ address_found (found f) b.entry.ref_ptr) }
 {
