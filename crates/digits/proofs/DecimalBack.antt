@@ -3,15 +3,14 @@ use Prim.Native.Nat.{ℕ, zero, suc, ◌+◌, ◌-◌, ◌*◌, ◌/◌, ◌%◌
 use mathlib.Core.Path.{◌≡◌, refl, sym, ap, ap₂, ◌∙◌}
 use mathlib.Core.Bool.{Bool, true, false}
 use mathlib.Core.List.{List, [], ◌∷◌, ◌++◌}
-use mathlib.Core.Logic.{◌↔◌}
-use native.Mathlib.Nat.{add-zero, pow-succ', pow-le-pow_right, div-lt_iff_lt-mul}
+use native.Mathlib.Nat.{add-zero, pow-succ', pow-le-pow_right}
 use native.Mathlib.Numerals.{add-one}
 use native.Mathlib.Omega.{arith}
 use lib.ListN.{length, drop, get_or, set, replicate, length-append, get_or-append}
 use lib.Seq.{get_or-append_seam, drop-set-add, drop-cons}
 use lib.Dec.{eqb}
 use borrow.Author.Tests.{eqb-true, ne_eqb, le-leb}
-use Rattle.octets.specs.Test.{pick, both}
+use Rattle.octets.specs.Test.{pick}
 use Rattle.octets.specs.Loop.{up_to, all_to}
 use Rattle.octets.proofs.Test.{both_true}
 use Rattle.octets.proofs.Loop.{up_to-first, up_to-more, up_to-ext, all_to-more, all_to-ext}

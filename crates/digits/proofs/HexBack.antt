@@ -1,6 +1,6 @@
 -- The hexadecimal text of bytes says those bytes, and it is hexadecimal.
 use Prim.Native.Nat.{ℕ, ◌+◌, ◌*◌, ◌/◌, ◌%◌, ◌<◌, ◌≤◌}
-use mathlib.Core.Path.{◌≡◌, refl, sym, ap, ap₂, ◌∙◌}
+use mathlib.Core.Path.{◌≡◌, sym, ap, ap₂, ◌∙◌}
 use mathlib.Core.Bool.{Bool, true, false}
 use mathlib.Core.List.{List}
 use native.Mathlib.Decide.{dec_le}
@@ -9,9 +9,9 @@ use native.Mathlib.Omega.{arith}
 use lib.ListN.{length, get_or}
 use lib.Dec.{eqb}
 use borrow.Author.Tests.{eq-eqb, ne_eqb, lt-ltb, le-ltb, le-leb, lt-leb}
-use Rattle.octets.specs.Test.{pick, both}
+use Rattle.octets.specs.Test.{pick}
 use Rattle.octets.specs.Bytes.{Bytes}
-use Rattle.octets.specs.Loop.{tab, all_to}
+use Rattle.octets.specs.Loop.{tab}
 use Rattle.octets.proofs.Test.{both_true}
 use Rattle.octets.proofs.Loop.{all_to-all}
 use Rattle.octets.proofs.Table.{tab-ext, tab-of, get_d-tab, length-tab}
