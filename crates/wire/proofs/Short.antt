@@ -2,9 +2,7 @@
 use Prim.Native.Nat.{ℕ}
 use mathlib.Core.Path.{◌≡◌, refl}
 use mathlib.Core.Bool.{true, false}
-use mathlib.Core.List.{List, [], ◌∷◌}
-use denote.Enum.Declared.{tag_of}
-use types.Run.{OneOf, miss}
+use mathlib.Core.List.{List, []}
 use lib.ListN.{length}
 use Rattle.octets.specs.Answer.{Answer}
 use Rattle.octets.proofs.Test.{true-false}
@@ -12,17 +10,16 @@ use Rattle.wire.specs.Layout.{encode, allowed}
 use Rattle.wire.specs.Codec.{is_good, answer, after}
 use Rattle.wire.specs.declared.Message.{Message}
 use Rattle.wire.specs.declared.Message.TheVariants.{Read, ReadAnswer, Write, WriteAnswer, Echo, Value, Good}
-use Rattle.wire.specs.contracts.Message as message
 
--- by the number of its kind, a message that is not good
-pub not_good : (m : Message) → OneOf (0 ∷ 1 ∷ 2 ∷ 3 ∷ 4 ∷ 5 ∷ []) (tag_of message.the_type m) → is_good m ≡ false
+-- a message that is no good one
+pub not_good : (m : Message) → ((t : ℕ) → m ≡ Good t → ⊥) → is_good m ≡ false
 not_good (Read q) k = refl
 not_good (ReadAnswer q t) k = refl
 not_good (Write q t) k = refl
 not_good (WriteAnswer q t) k = refl
 not_good (Echo t) k = refl
 not_good (Value t w p) k = refl
-not_good (Good t) k = elim (miss (0 ∷ 1 ∷ 2 ∷ 3 ∷ 4 ∷ 5 ∷ []) 6 tt k) [ ]
+not_good (Good t) k = absurd (k t refl)
 
 pub beside : (n : ℕ) (m : Message) (v s : List ℕ) {r : Answer ℕ} {out : List ℕ} → is_good m ≡ false
     → (r ≡ answer n m [] (length s)) × (out ≡ after r (encode m []) s)
