@@ -2,7 +2,6 @@
 use Rattle.std.specs.Prelude.{ℕ, ◌<◌, List, [], ◌∷◌, ◌++◌}
 use Rattle.view.specs.Size.{report_size}
 use Rattle.view.specs.Report.{Counts, report_bytes}
-use Rattle.view.specs.declared.Report.{Report}
 use Rattle.digits.specs.Decimal.{decimal}
 use Rattle.digits.specs.Hex.{hex_text}
 use Rattle.lines.specs.Grammar.{cut_is}

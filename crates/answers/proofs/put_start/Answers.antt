@@ -8,42 +8,30 @@ use lib.ListN.{length, length-append}
 use Rattle.octets.proofs.Put.{put_then}
 use Rattle.digits.specs.Decimal.{decimal}
 use Rattle.answers.specs.Answer.{start}
-use Rattle.answers.proofs.put_start.Statement.{statement}
-use Rattle.answers.proofs.put_start.Tie as tie
+use Rattle.answers.proofs.put_start.Goals as goal
 
-returns : tie.Need-returns
+pub returns : goal.returns
 unfolding start
 returns c =
-    let a = c.before.before.before.before.before.before.before.before.before.before.before.before.before.before.args in
+    let a = c.args in
     let o = a.out.now in
     let w = a.word.now in
     let d : List ℕ = decimal a.event in
-    let k = c.before.before.before.before.before.before.before.before.before.before.put-number.result in
-    let p = c.before.before.before.before.before.before.before.before.before.before.put-number.ensures in
-    let q = c.before.before.put-number2.ensures in
+    let k = c.put_number-k.result in
+    let p = c.put_number-k.ensures in
+    let q = c.put_number.ensures in
     let l : a.at + length (d ++ w) ≡ k + length w = simp length-append (omega (arith, p.1)) in
     let n : a.at + length (d ++ w ++ decimal a.x) ≡ k + length w + length (decimal a.x) = simp length-append
     (omega
     (arith, p.1)) in (
       put_then o a.at (d ++ w) (decimal a.x) (k + length w) (omega arith) l
           (put_then o a.at d w k (omega arith) (sym p.1) p.0
-          c.before.before.before.before.before.before.put-bytes.ensures) q.0,
+          c.put_bytes.ensures) q.0,
       q.1 ∙ sym n,
       omega (
         arith,
         p.2,
         q.2,
-        c.before.before.before.before.before.before.before.before.before.before.before.before.before.before.requires.0,
+        c.requires.0,
       ),
     )
-
-pub put-start-spec : {M : Type 1} → statement M
-put-start-spec =
-    tie.close
-    (tie.spec
-    (λ c κs. search rules)
-    (λ c κs. search rules)
-    (λ c. search rules)
-    (λ c κs. search rules)
-    (λ c. search rules)
-    returns)

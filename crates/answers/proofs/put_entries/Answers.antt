@@ -1,0 +1,55 @@
+-- `answers::put_entries` meets its contract: after i turns its loop has what the definition has after i.
+use borrow.Author.Rules.{rules}
+use Prim.Native.Nat.{ℕ, ◌+◌, ◌-◌, ◌*◌, ◌≤◌}
+use mathlib.Core.Path.{◌≡◌, refl, sym, ap, ap₂, ◌∙◌}
+use mathlib.Core.List.{List, ◌++◌}
+use native.Mathlib.Nat.{add-zero}
+use native.Mathlib.Omega.{arith}
+use lib.ListN.{length, get_or, length-append}
+use Rattle.octets.specs.Bytes.{put}
+use Rattle.octets.specs.Loop.{join}
+use Rattle.octets.proofs.Put.{put-nil, put_then}
+use Rattle.octets.proofs.Table.{join-none, join_more}
+use Rattle.view.specs.Report.{no_report, report_number}
+use Rattle.view.specs.declared.Report.{Report}
+use Rattle.answers.specs.Answer.{entry, entry_at, entry_room}
+use Rattle.answers.proofs.put_entries.Goals as goal
+
+abbrev rule : List ℕ → List Report → ℕ → List ℕ
+rule tags reports i = entry (get_or tags i 0) (report_number (get_or reports i no_report))
+
+pub loop-i-init : goal.loop-i-init
+unfolding join
+loop-i-init c = (
+  search rules,
+  sym (put-nil c.args.out.now
+      c.args.at),
+  sym (add-zero c.args.at),
+  search rules,
+  refl,
+)
+
+pub loop-i-preserved : goal.loop-i-preserved
+loop-i-preserved c =
+    let a = c.args in
+    let o = a.out.now in
+    let i = c.loop-i.i in
+    let f : ℕ → List ℕ = rule a.v.tags a.v.reports in
+    let q = c.put_entry-k.ensures in
+    let inv = c.loop-i.invariant in
+    let m : length (join (i + 1) f) ≡ length (join i f) + length (f i) = ap length (join_more i f)
+    ∙ length-append (join i f) (f i) in (
+      search rules,
+      put_then o a.at (join i f) (f i) c.loop-i.k (omega arith)
+          (sym inv.2) inv.1 q.0
+          ∙ ap (λ (s : List ℕ). put o a.at s) (sym (join_more i f)),
+      omega (arith, q.1, inv.2, m),
+      omega (arith, q.2, inv.3),
+      search rules,
+    )
+
+pub returns : goal.returns
+returns c =
+    let a = c.args in
+    let e : c.loop-i.i ≡ a.n = omega arith in
+    (rw e at c.loop-i.invariant.1, rw e at c.loop-i.invariant.2, omega arith)
