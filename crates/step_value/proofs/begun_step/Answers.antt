@@ -1,5 +1,4 @@
 -- `step_value::begun_step` meets its contract. Assumes nothing.
-use borrow.Author.Rules.{rules}
 use Rattle.step.specs.Move.{begun}
 use Rattle.step_value.proofs.begun_step.Goals as goal
 

@@ -1,5 +1,4 @@
 -- `step_value::is_stale_message` meets its contract. Assumes nothing.
-use borrow.Author.Rules.{rules}
 use native.Mathlib.Omega.{arith}
 use Rattle.step.proofs.Allowed.{writer-from}
 use Rattle.step_value.proofs.is_stale_message.Goals as goal

@@ -1,5 +1,5 @@
 -- `step_value::passes::borrow_pass` meets its contract. Assumes nothing.
-use borrow.Author.Rules.{rules}
+use mathlib.Core.Path.{sym, ap, ◌∙◌}
 use borrow.Author.Tests.{le-leb, lt-leb}
 use Rattle.record.proofs.Parts.{parts}
 use Rattle.step.specs.Move.{borrow_pass}
@@ -22,20 +22,21 @@ returns-then-tag-c c =
 
 pub returns-in-Idle : goal.returns-in-Idle
 unfolding borrow_pass
-returns-in-Idle c = rw c.in-Idle.is
+returns-in-Idle c = sym (ap (borrow_pass c.args.s c.args.s.node) c.in-Idle.is)
 
 pub returns-in-Reading : goal.returns-in-Reading
 unfolding borrow_pass
-returns-in-Reading c = rw c.in-Reading.is
+returns-in-Reading c = sym (ap (borrow_pass c.args.s c.args.s.node) c.in-Reading.is)
 
 pub returns-in-Writing : goal.returns-in-Writing
 unfolding borrow_pass
-returns-in-Writing c = rw c.in-Writing.is
+returns-in-Writing c = sym (ap (borrow_pass c.args.s c.args.s.node) c.in-Writing.is)
 
 pub returns-in-Comparing : goal.returns-in-Comparing
 unfolding borrow_pass
-returns-in-Comparing c = rw c.in-Comparing.is
+returns-in-Comparing c = sym (ap (borrow_pass c.args.s c.args.s.node) c.in-Comparing.is)
 
 pub returns-else-tag-c : goal.returns-else-tag-c
 unfolding borrow_pass
-returns-else-tag-c c = rw c.in-Borrowing.is (simp (lt-leb _ _ c.if-tag-c.false))
+returns-else-tag-c c =
+    sym (ap (borrow_pass c.args.s c.args.s.node) c.in-Borrowing.is ∙ rw (lt-leb _ _ c.if-tag-c.false))

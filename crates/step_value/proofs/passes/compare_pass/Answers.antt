@@ -1,5 +1,4 @@
 -- `step_value::passes::compare_pass` meets its contract. Assumes nothing.
-use borrow.Author.Rules.{rules}
 use mathlib.Core.Path.{sym, ap, ◌∙◌}
 use borrow.Author.Tests.{le-leb, lt-leb}
 use Rattle.table.specs.Quorum.{is_quorum}
@@ -44,15 +43,15 @@ returns-then-is_quorum c =
 
 pub returns-in-Idle : goal.returns-in-Idle
 unfolding compare_pass
-returns-in-Idle c = rw c.in-Idle.is
+returns-in-Idle c = sym (ap (compare_pass c.args.f c.args.s c.args.s.node) c.in-Idle.is)
 
 pub returns-in-Reading : goal.returns-in-Reading
 unfolding compare_pass
-returns-in-Reading c = rw c.in-Reading.is
+returns-in-Reading c = sym (ap (compare_pass c.args.f c.args.s c.args.s.node) c.in-Reading.is)
 
 pub returns-in-Writing : goal.returns-in-Writing
 unfolding compare_pass
-returns-in-Writing c = rw c.in-Writing.is
+returns-in-Writing c = sym (ap (compare_pass c.args.f c.args.s c.args.s.node) c.in-Writing.is)
 
 pub returns-else-is_quorum : goal.returns-else-is_quorum
 returns-else-is_quorum c =
@@ -62,4 +61,4 @@ returns-else-is_quorum c =
 
 pub returns-in-Borrowing : goal.returns-in-Borrowing
 unfolding compare_pass
-returns-in-Borrowing c = rw c.in-Borrowing.is
+returns-in-Borrowing c = sym (ap (compare_pass c.args.f c.args.s c.args.s.node) c.in-Borrowing.is)

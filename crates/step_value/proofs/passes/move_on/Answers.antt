@@ -1,5 +1,4 @@
 -- `step_value::passes::move_on` meets its contract: each pass keeps the record usable for the next. Assumes nothing.
-use borrow.Author.Rules.{rules}
 use mathlib.Core.Path.{ap, ◌∙◌}
 use Rattle.record.proofs.Parts.{parts, usable-of}
 use Rattle.step.specs.Move.{reads, writes, compares, borrows, move_on}

@@ -1,5 +1,4 @@
 -- `step_value::passes::read_pass` meets its contract. Assumes nothing.
-use borrow.Author.Rules.{rules}
 use mathlib.Core.Path.{sym, ap, ◌∙◌}
 use Rattle.table.specs.Quorum.{is_quorum}
 use Rattle.record.proofs.Parts.{parts}
@@ -26,7 +25,7 @@ returns-then-is_quorum c =
 
 pub returns-in-Idle : goal.returns-in-Idle
 unfolding read_pass
-returns-in-Idle c = rw c.in-Idle.is
+returns-in-Idle c = sym (ap (read_pass c.args.f c.args.s c.args.s.node) c.in-Idle.is)
 
 pub returns-else-is_quorum : goal.returns-else-is_quorum
 returns-else-is_quorum c =
@@ -36,12 +35,12 @@ returns-else-is_quorum c =
 
 pub returns-in-Writing : goal.returns-in-Writing
 unfolding read_pass
-returns-in-Writing c = rw c.in-Writing.is
+returns-in-Writing c = sym (ap (read_pass c.args.f c.args.s c.args.s.node) c.in-Writing.is)
 
 pub returns-in-Comparing : goal.returns-in-Comparing
 unfolding read_pass
-returns-in-Comparing c = rw c.in-Comparing.is
+returns-in-Comparing c = sym (ap (read_pass c.args.f c.args.s c.args.s.node) c.in-Comparing.is)
 
 pub returns-in-Borrowing : goal.returns-in-Borrowing
 unfolding read_pass
-returns-in-Borrowing c = rw c.in-Borrowing.is
+returns-in-Borrowing c = sym (ap (read_pass c.args.f c.args.s c.args.s.node) c.in-Borrowing.is)

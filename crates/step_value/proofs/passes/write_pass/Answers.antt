@@ -1,5 +1,4 @@
 -- `step_value::passes::write_pass` meets its contract. Assumes nothing.
-use borrow.Author.Rules.{rules}
 use mathlib.Core.Path.{◌≡◌, sym, ap, ◌∙◌}
 use mathlib.Core.Bool.{true, false}
 use Prim.Native.Nat.{ℕ}
@@ -38,11 +37,11 @@ returns-then-is_quorum c =
 
 pub returns-in-Idle : goal.returns-in-Idle
 unfolding write_pass
-returns-in-Idle c = rw c.in-Idle.is
+returns-in-Idle c = sym (ap (write_pass c.args.f c.args.s c.args.s.node) c.in-Idle.is)
 
 pub returns-in-Reading : goal.returns-in-Reading
 unfolding write_pass
-returns-in-Reading c = rw c.in-Reading.is
+returns-in-Reading c = sym (ap (write_pass c.args.f c.args.s c.args.s.node) c.in-Reading.is)
 
 pub returns-else-is_quorum : goal.returns-else-is_quorum
 returns-else-is_quorum c =
@@ -52,8 +51,8 @@ returns-else-is_quorum c =
 
 pub returns-in-Comparing : goal.returns-in-Comparing
 unfolding write_pass
-returns-in-Comparing c = rw c.in-Comparing.is
+returns-in-Comparing c = sym (ap (write_pass c.args.f c.args.s c.args.s.node) c.in-Comparing.is)
 
 pub returns-in-Borrowing : goal.returns-in-Borrowing
 unfolding write_pass
-returns-in-Borrowing c = rw c.in-Borrowing.is
+returns-in-Borrowing c = sym (ap (write_pass c.args.f c.args.s c.args.s.node) c.in-Borrowing.is)
