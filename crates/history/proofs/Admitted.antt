@@ -33,6 +33,7 @@ each : (P : ℕ → Type 0) → P 0 → P 2 → P 4 → (t : ℕ) → t ∈ line
 each P a b c t (Memᴰ.head e) = subst P (sym e) a
 each P a b c t (Memᴰ.tail (Memᴰ.head e)) = subst P (sym e) b
 each P a b c t (Memᴰ.tail (Memᴰ.tail (Memᴰ.head e))) = subst P (sym e) c
+each P a b c t (Memᴰ.tail (Memᴰ.tail (Memᴰ.tail h))) = elim h [ ]
 
 story-once : Once line
 story-once = (first, (second, (λ i. Memᴰ.not-nil i, tt)))
@@ -40,9 +41,11 @@ story-once = (first, (second, (λ i. Memᴰ.not-nil i, tt)))
     first : ¬ ◌∈◌ {A = ℕ} 0 (2 ∷ 4 ∷ [])
     first (Memᴰ.head e) = omega (arith, e)
     first (Memᴰ.tail (Memᴰ.head e)) = omega (arith, e)
+    first (Memᴰ.tail (Memᴰ.tail h)) = elim h [ ]
 
     second : ¬ ◌∈◌ {A = ℕ} 2 (4 ∷ [])
     second (Memᴰ.head e) = omega (arith, e)
+    second (Memᴰ.tail h) = elim h [ ]
 
 story-kinds : (t : ℕ) → EndsInKind 3 (begun story t) (fate story t)
 unfolding first_ending ℕ_discrete decide
