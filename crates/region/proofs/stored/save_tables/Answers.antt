@@ -8,18 +8,12 @@ use Rattle.octets.proofs.Word.{length-word_bytes}
 use Rattle.octets.proofs.Put.{put_then}
 use Rattle.table.specs.Table.{cells}
 use Rattle.region.specs.Record.{view_place, views_bytes, heard_place, last_in}
-use Rattle.region.proofs.stored.save_tables.Statement.{statement}
-use Rattle.region.proofs.stored.save_tables.Tie as tie
+use Rattle.region.proofs.stored.save_tables.Goals as goal
 
-returns : tie.Need-returns
+pub returns : goal.returns
 returns c =
-    let a = c.before.before.before.before.before.before.before.before.before.before.before.args in
+    let a = c.args in
     let long : length a.c.heard ≡ cells = search rules in
     put_then a.b.now heard_place (word_bytes a.c.heard) (views_bytes a.c) (view_place last_in) (omega arith)
     (omega (arith, long, length-word_bytes a.c.heard))
-    c.before.before.before.before.before.before.put-table256.ensures c.before.before.save-views.ensures
-
-pub save-tables-spec : {M : Type 1} → statement M
-save-tables-spec =
-    tie.close
-    (tie.spec (λ c κs. search rules) (λ c κs. search rules) (λ c. search rules) returns)
+    c.put_table256.ensures c.save_views.ensures
