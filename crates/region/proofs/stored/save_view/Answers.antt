@@ -22,5 +22,5 @@ returns c = let b = c.args.b.now in
     length-view_bytes nodes c.args.v ∙ sym (length_part b at (view_size nodes)
     (omega arith)) in
     lent_back b at (view_size nodes) (λ (t : List ℕ). put t 0 v) refl (omega arith)
-    c.write_view.auto.out.1.0 c.write_view.ensures
+    c.write_view.auto.out c.write_view.ensures
     ∙ ap (put b at) (put-over (part b at (view_size nodes)) v same)
