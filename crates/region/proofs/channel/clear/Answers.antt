@@ -1,5 +1,4 @@
 -- `region::channel::clear` meets its contract.
-use borrow.Author.Rules.{rules}
 use mathlib.Core.Path.{refl}
 use Rattle.region.specs.Channel.{clear}
 use Rattle.region.proofs.channel.clear.Goals as goal

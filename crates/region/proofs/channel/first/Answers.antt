@@ -1,5 +1,4 @@
 -- `region::channel::first` meets its contract.
-use borrow.Author.Rules.{rules}
 use mathlib.Core.Path.{refl, sym}
 use Rattle.octets.proofs.Lent.{lent}
 use Rattle.region.specs.Channel.{slot_at, slot_size}

@@ -1,5 +1,4 @@
 -- `region::channel::pop` meets its contract.
-use borrow.Author.Rules.{rules}
 use borrow.Author.Tests.{lt-ltb, le-ltb}
 use Rattle.region.specs.Channel.{pop}
 use Rattle.region.proofs.channel.pop.Goals as goal

@@ -1,5 +1,4 @@
 -- `region::channel::push` meets its contract.
-use borrow.Author.Rules.{rules}
 use borrow.Author.Tests.{lt-ltb, le-ltb}
 use Rattle.region.specs.Channel.{push}
 use Rattle.region.proofs.channel.push.Goals as goal

@@ -1,5 +1,4 @@
 -- `region::head::codes_known` meets its contract.
-use borrow.Author.Rules.{rules}
 use borrow.Author.Tests.{eq-eqb, ne_eqb}
 use mathlib.Core.Path.{sym, ◌∙◌}
 use Rattle.region.proofs.head.codes_known.Goals as goal

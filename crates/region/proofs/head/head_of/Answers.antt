@@ -1,5 +1,4 @@
 -- `region::head::head_of` meets its contract.
-use borrow.Author.Rules.{rules}
 use Rattle.region.proofs.head.head_of.Goals as goal
 
 pub returns : goal.returns

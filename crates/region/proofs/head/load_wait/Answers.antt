@@ -1,5 +1,4 @@
 -- `region::head::load_wait` meets its contract.
-use borrow.Author.Rules.{rules}
 use mathlib.Core.Path.{refl}
 use Rattle.octets.proofs.Lent.{lent}
 use Rattle.view.specs.Size.{report_size}

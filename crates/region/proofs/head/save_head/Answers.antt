@@ -1,5 +1,4 @@
 -- `region::head::save_head` meets its contract.
-use borrow.Author.Rules.{rules}
 use native.Mathlib.Omega.{arith}
 use Rattle.octets.specs.Word.{word_bytes}
 use Rattle.octets.proofs.Put.{put_then}

@@ -1,5 +1,4 @@
 -- `region::head::wait_of` meets its contract.
-use borrow.Author.Rules.{rules}
 use borrow.Author.Tests.{eq-eqb, ne_eqb}
 use Rattle.region.proofs.head.wait_of.Goals as goal
 

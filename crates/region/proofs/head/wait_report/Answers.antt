@@ -1,5 +1,4 @@
 -- `region::head::wait_report` meets its contract.
-use borrow.Author.Rules.{rules}
 use Rattle.region.proofs.head.wait_report.Goals as goal
 
 pub returns-in-Update : goal.returns-in-Update

@@ -1,5 +1,4 @@
 -- `region::head::wait_words` meets its contract.
-use borrow.Author.Rules.{rules}
 use Rattle.region.proofs.head.wait_words.Goals as goal
 
 pub returns-in-Update : goal.returns-in-Update

@@ -1,5 +1,4 @@
 -- `region::stored::load_view` meets its contract.
-use borrow.Author.Rules.{rules}
 use mathlib.Core.Path.{◌∙◌, ap, sym, refl}
 use Rattle.octets.specs.Bytes.{part}
 use Rattle.octets.proofs.Lent.{lent}

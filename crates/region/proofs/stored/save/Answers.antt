@@ -1,5 +1,4 @@
 -- `region::stored::save` meets its contract.
-use borrow.Author.Rules.{rules}
 use native.Mathlib.Omega.{arith}
 use mathlib.Core.List.{◌++◌, append_assoc}
 use mathlib.Core.Path.{sym, ap, ◌∙◌}

@@ -1,5 +1,4 @@
 -- `region::stored::save_view` meets its contract.
-use borrow.Author.Rules.{rules}
 use mathlib.Core.Path.{refl, sym, ap, ◌∙◌, ◌≡◌}
 use lib.ListN.{length}
 use Rattle.octets.specs.Bytes.{put, part}
