@@ -1,5 +1,4 @@
 -- `block::judge::view_sound` meets its contract.
-use borrow.Author.Rules.{rules}
 use Prim.Native.Nat.{ℕ, ◌+◌, ◌≤◌}
 use mathlib.Core.Path.{refl, ap, ◌∙◌}
 use mathlib.Core.List.{List}
@@ -12,21 +11,14 @@ use Rattle.view.specs.Size.{nodes, view_size}
 use Rattle.view.specs.View.{view_ok}
 use Rattle.region.specs.Record.{view_place}
 use Rattle.block.proofs.Judged.{view-within}
-use Rattle.block.proofs.judge.view_sound.Statement.{statement}
-use Rattle.block.proofs.judge.view_sound.Tie as tie
+use Rattle.block.proofs.judge.view_sound.Goals as goal
 
-returns : tie.Need-returns
+pub returns : goal.returns
 returns c =
-    let a = c.before.before.before.args in
+    let a = c.args in
     let r = a.r.now in
     let l : view_place a.i + view_size nodes ≤ length r = omega arith in
-    c.view-ok.ensures ∙ ap (λ (s : List ℕ). view_ok nodes a.top s) (lent r (view_place a.i) (view_size nodes) refl)
+    c.view_ok.ensures ∙ ap (λ (s : List ℕ). view_ok nodes a.top s) (lent r (view_place a.i) (view_size nodes) refl)
     ∙ view-within a.top (part r (view_place a.i) (view_size nodes))
-    (part_bytes r (view_place a.i) (view_size nodes) (λ i. (c.before.before.shared-slice-known.given i).fits))
+    (part_bytes r (view_place a.i) (view_size nodes) (λ i. (c.shared_slice_known-1.given i).fits))
     (length_part r (view_place a.i) (view_size nodes) l)
-
-pub view-sound-spec : {M : Type 1} → statement M
-view-sound-spec =
-    tie.close
-    (tie.spec (λ c. search rules) (λ c. search rules) (λ c. search rules) (λ c. search rules) (λ c. search rules)
-    (λ c. search rules) (λ c κs. search rules) returns)
