@@ -5,7 +5,7 @@ fn main() {
     let folder = std::env::var("SNAPSHOT_LIB").unwrap_or_else(|_| written.to_string());
     if !std::path::Path::new(&folder).join("libsnapshot.a").exists() {
         println!(
-            "cargo:warning=no libsnapshot.a in {folder}: `rt lib --cpu x86-64` in crates/snapshot writes it; or set SNAPSHOT_LIB"
+            "cargo:warning={folder} has no libsnapshot.a: `rt lib --cpu x86-64` in crates/snapshot, or set SNAPSHOT_LIB"
         );
     }
     println!("cargo:rustc-link-search=native={folder}");
