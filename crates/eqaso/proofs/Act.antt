@@ -12,7 +12,7 @@ use Rattle.logs.proofs.Log.{push-or}
 use Rattle.history.specs.Message.{Value, Message, read, read_answer, write, write_answer, echo, value, good}
 use Rattle.history.specs.Event.{Operation, update, scan, Ending, none, done, shown, spent}
 use Rattle.algorithm.specs.Algorithm.{nobody, Wait, reading, writing, comparing, borrowing, Node, Step, sending}
-use Rattle.algorithm.specs.Algorithm.{◌then◌, react, message_step, begin_step}
+use Rattle.algorithm.specs.Algorithm.{◌then◌, react, message_step, begin_step, idle}
 use Rattle.algorithm.proofs.Read.{read_tag}
 use Rattle.algorithm.proofs.Cases.{raise-cases, receive-by, read-cases, write-cases}
 use Rattle.algorithm.proofs.Passes.{Claim, On}
@@ -65,6 +65,7 @@ react-kind k (value v) ν = receive-by (Reacts (value v) ν) k v ν (λ m. (alik
   where
     sent : ¬ (v ∈ ν.all) → Only (Passed (value v) ν) (value v ∷ [])
     sent new u (Memᴰ.head e) = (sym e, λ m. new (subst (λ z. z ∈ ν.all) (cc e) m))
+    sent new u (Memᴰ.tail h) = elim h [ ]
 react-kind k (good t v) ν = (alike ν.wait, none_in _)
 
 -- A step of an operation past its reading, and of one that reads.
@@ -108,6 +109,7 @@ module _ (n f i : ℕ) (half : f + f < n) (k : ℕ) (m : Message) (ν : Node) wh
           → On (λ ν l. Rests ν.wait × Only K l) (λ e ν l. ⊥) e step.node (push step.sent [])
           → (step.ending ≡ none) × Rests step.node.wait × Only K step.sent
       go none e (a, b) = (e, a, listed K step.sent b)
+      go _ e h = elim h [ ]
 
   pub staged-course : Staged ν.wait → GoesBy K step.ending step.node.wait step.sent
   staged-course h = go step.ending
@@ -116,6 +118,7 @@ module _ (n f i : ℕ) (half : f + f < n) (k : ℕ) (m : Message) (ν : Node) wh
       go : (e : Ending) → On (λ ν l. Staged ν.wait × Only K l) (λ e ν l. EndsBy K e ν.wait l) e step.node
           (push step.sent [])
           → GoesBy K e step.node.wait step.sent
+      go spent h = elim h [ ]
       go none (a, b) = (a, listed K step.sent b)
       go (done rule v) (a, b) = (a, listed K step.sent b)
       go (shown rule v) (a, b) = (a, listed K step.sent b)
@@ -133,6 +136,8 @@ module _ (n f i : ℕ) (half : f + f < n) (k : ℕ) (m : Message) (ν : Node) wh
       go : (e : Ending) → On (Asks K n f i half op r (tag_after r)) (λ e ν l. SpentBy K e ν.wait l) e step.node
           (push step.sent [])
           → AsksBy i (tag_after r) op K e step.node.wait step.sent
+      go (shown _ _) h = elim h [ ]
+      go (done _ _) h = elim h [ ]
       go none (inl a) = inl (a.reads, listed K step.sent a.only)
       go none (inr (o, made)) = inr (o, makes-listed K i (tag_after r) op step.sent made)
       go spent (a, b) = (a, listed K step.sent b)
@@ -142,6 +147,8 @@ module _ (n f i : ℕ) (half : f + f < n) (k : ℕ) (m : Message) (ν : Node) wh
   staged-tag r h = go (react k m ν).node.wait ((react-kind k m ν).0.staged h)
     where
       go : (w : Wait) → Staged w → read_tag n f r (react k m ν).node w ≡ r
+      go (reading _ _ largest) h = elim h [ ]
+      go idle h = elim h [ ]
       go (writing o rnd t s) h = refl
       go (comparing o rnd t) h = refl
       go (borrowing o t) h = refl
@@ -181,3 +188,4 @@ module _ (n f i : ℕ) (half : f + f < n) (op : Operation) where
           → ((begin_step n f i op ν).ending ≡ none) × Reads (begin_step n f i op ν).node.wait
           × Only (λ v. ⊥) (begin_step n f i op ν).sent
       go none e (a, b) = (e, subst Reads (sym a) tt, listed (λ v. ⊥) (begin_step n f i op ν).sent b)
+      go _ e h = elim h [ ]

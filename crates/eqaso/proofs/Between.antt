@@ -88,9 +88,9 @@ pub between-place : {b : ℕ} {got : Log} (l : List Message) (m : Message) (rest
     → Between b got (l ++ (m ∷ rest)) gone
     → (p : Log) × (got ⊑ p) × ((m ∷ p) ⊑ gone) × ((x : Message) → x ∈ l → x ∈ p)
 between-place [] m rest c = let d = hand-over c in (d.place, d.late, handed-at d, λ x i. elim i [ ])
-between-place (y ∷ l) m rest c =
+between-place {got} (y ∷ l) m rest c =
     let d = hand-over c in
-    let (p, up, at, in_p) = between-place l m rest d.left in
+    let (p, up, at, in_p) = between-place {got = y ∷ d.place} l m rest d.left in
     (p, ⊑_trans d.late (⊑-cons up), at, λ x i. go up in_p x i)
   where
     go : {q p : Log} → (y ∷ q) ⊑ p → ((x : Message) → x ∈ l → x ∈ p) → (x : Message) → x ∈ (y ∷ l) → x ∈ p

@@ -31,6 +31,7 @@ Source k out v l =
 pub pending-own : (i r : ℕ) (op : Operation) (w : Wait) (u : Value) → Pending i r op w u → u.writer ≡ i
 pending-own i r (update p) (writing o round0 t s) u e = ap (λ z. z.writer) e
 pending-own i r scan (writing o round0 t s) u e = absurd e
+pending-own i r _ _ u e = elim e [ ]
 
 module _ (n f : ℕ) (out : Logs) (dues : Dues n f out) where
   value-due : (k : ℕ) {v : Value} {p : Log} → (value v ∷ p) ⊑ out k → ValueDue k out v p
@@ -89,6 +90,7 @@ module _ (n f : ℕ) (out : Logs) (dues : Dues n f out) where
     pending-top (update p) (writing o round0 t s) e (inl d) h = e ∙ sym d
     pending-top (update p) (writing o round0 t s) e (inr (d, low)) h = absurd (omega (arith, ap (λ z. z.tag) e))
     pending-top scan (writing o round0 t s) e d h = absurd e
+    pending-top _ _ e d h = elim e [ ]
 
     pub all_closed : {u v : Value} → v ∈ ν.all → value u ∈ out u.writer → UpTo u v → u ∈ ν.all
     all_closed {u} {v} m sent (e, h) = go (c.have (value u) (closed i here (c.sent v m) sent (e, h))).0

@@ -6,9 +6,9 @@ use native.Mathlib.Omega.{arith}
 use mathlib.Core.Path.{◌≡◌, ◌∙◌, subst}
 use Rattle.order.specs.Sequence.{before}
 use Rattle.history.specs.Message.{absent}
-use Rattle.history.specs.Event.{done, spent}
+use Rattle.history.specs.Event.{done, spent, none, shown}
 use Rattle.history.specs.Trace.{Trace, Begun, updating, scanning, begun, Fate, unfinished, ended, fate, tag_at, scan_view}
-use Rattle.history.specs.Trace.{entry_at}
+use Rattle.history.specs.Trace.{entry_at, nothing}
 use Rattle.history.specs.Order.{OneTo, Finished, IsScan, PlacedBy, EndedBefore, SingleOrder}
 use Rattle.history.specs.Views.{HasView, end_view}
 use Rattle.history.proofs.Written.{written_none}
@@ -18,6 +18,8 @@ use Rattle.eqaso.proofs.Items.{own_view}
 use Rattle.eqaso.proofs.Kept.{Kept}
 
 scan-placed : (tr : Trace) (s : ℕ) (b : Begun) (x : Fate) → IsScan b → Finished x → PlacedBy tr s b x
+scan-placed tr s (updating node report) x h f = elim h [ ]
+scan-placed tr s nothing x h f = elim h [ ]
 scan-placed tr s (scanning c) x h f = f
 
 pub scan-without-updates : {n : ℕ} {tr : Trace} → SingleOrder n tr
@@ -38,5 +40,7 @@ view-has-earlier {n} {tr} k u c p t is pos before viewed =
   where
     one_of : (x : Fate) → Fit n (updating c p) x (tag_at tr u c) → OneTo n c
     one_of unfinished h = h
+    one_of (ended i (shown _ _)) h = elim h [ ]
+    one_of (ended i none) h = elim h [ ]
     one_of (ended i (done r v)) h = h.0
     one_of (ended i spent) h = h.0

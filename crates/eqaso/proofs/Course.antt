@@ -65,6 +65,7 @@ Later (borrowing o t) = Unit {0}
 later-not-reading : (w : Wait) → Later w → Reads w → ⊥
 later-not-reading (comparing o r t) h x = x
 later-not-reading (borrowing o t) h x = x
+later-not-reading _ h x = elim h [ ]
 
 abbrev pub answered : Wait → Nodes
 answered idle = nobody

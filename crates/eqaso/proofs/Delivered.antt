@@ -94,6 +94,8 @@ module _ {n f : ℕ} {half : f + f < n} {stopped : ℕ → Bool} {σ : Sites} {g
 
         go : (e : Ending) → (step D).ending ≡ e
             → AsksBy c (site D).tag (σ c).op (Passed m (σ c).node) e (step D).node.wait (step D).sent → Noted D
+        go (shown _ _) e h = elim h [ ]
+        go (done _ _) e h = elim h [ ]
         go none e (inl (y, from)) = quiet D (calm e) from
             (λ _. (mode-reads n f (B D) c (σ c).op (site D).tag (σ c).past.base (step D).node.wait y).1 before)
         go none e (inr (o, made)) = opens (σ c).op refl e o made
@@ -108,6 +110,7 @@ module _ {n f : ℕ} {half : f + f < n} {stopped : ℕ → Bool} {σ : Sites} {g
 
         go : (e : Ending) → (step D).ending ≡ e → GoesBy (Passed m (σ c).node) e (step D).node.wait (step D).sent
             → Noted D
+        go spent e h = elim h [ ]
         go none e (y, from) = quiet D (calm e) from
             (λ _. (mode-staged n f (B D) c (σ c).op (site D).tag (σ c).past.base (step D).node.wait y).1
             (let (t, r, z) = (mode-staged n f (B D) c (σ c).op (σ c).tag (σ c).past.base (σ c).node.wait h).0

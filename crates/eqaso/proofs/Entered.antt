@@ -11,7 +11,7 @@ use Rattle.logs.specs.Log.{◌∈◌}
 use Rattle.logs.proofs.Update.{upd-all}
 use Rattle.history.specs.Event.{Ending, none, done, shown, spent}
 use Rattle.history.specs.Trace.{Seen, Trace, handler, Begun, nothing, updating, scanning, begun, ending_at, unfinished}
-use Rattle.history.specs.Trace.{ended, fate_by, fate_at, fate_of, fate, up_to_end, own_tags, largest, tag_at}
+use Rattle.history.specs.Trace.{ended, fate_by, fate_at, fate_of, up_to_end, own_tags, largest, tag_at}
 use Rattle.eqaso.proofs.Book.{tag_of, book_of, begins, tags, ends, At, OpenAt}
 use Rattle.eqaso.proofs.Tags.{largest-above, largest-below, first-low, first_next, first-only}
 use Rattle.eqaso.proofs.Append.{or_else}
@@ -29,6 +29,7 @@ Given (shown r v) = Unit {0}
 Given spent = Unit {0}
 
 given-fate : (k : ℕ) (e : Ending) → Given e → fate_by k e unfinished ≡ ended k e
+given-fate k none g = elim g [ ]
 given-fate k (done r v) g = refl
 given-fate k (shown r v) g = refl
 given-fate k spent g = refl
@@ -158,6 +159,7 @@ module _ (tr : Trace) (o : Seen) where
 
       go : (b : Begun) → At b node → fate_of tr t b ≡ unfinished
           → row_of next t b ≡ (b, ended (length tr) e, tag_of tr t b)
+      go nothing same free = elim same [ ]
       go (updating c p) same free = λ i. (updating c p, met c same free i, tag-calm tr o t c lt (known told c) i)
       go (scanning c) same free = λ i. (scanning c, met c same free i, 0)
 

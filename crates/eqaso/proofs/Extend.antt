@@ -11,8 +11,8 @@ use Rattle.eqaso.proofs.Append.{get_d-last, drop-append, drop-length, take-appen
 use Rattle.eqaso.proofs.Append.{ending-append, Inside, ending-inside, own-append}
 
 -- The own tags that an entry lets out, if node c handles it.
-abbrev pub field_own : ℕ → Seen → List ℕ
-field_own c o = own_tags c (o ∷ [])
+abbrev pub own_at : ℕ → Seen → List ℕ
+own_at c o = own_tags c (o ∷ [])
 
 -- Past its end nothing begins in a trace.
 pub begun-past : (l : Trace) (t : ℕ) → length l ≤ t → begun l t ≡ nothing
@@ -69,7 +69,7 @@ module _ (tr : Trace) (o : Seen) where
   span-by t spent = ap (drop t) (take_all (suc (length tr)) next (omega (arith, length-append tr (o ∷ []))))
 
   pub tag_open : (t c : ℕ) → t < length tr → fate_at tr t c ≡ unfinished → tag_at next t c
-      ≡ first_above (largest (own_tags c (take t tr))) (own_tags c (up_to_end t (fate_at tr t c) tr) ++ field_own c o)
+      ≡ first_above (largest (own_tags c (take t tr))) (own_tags c (up_to_end t (fate_at tr t c) tr) ++ own_at c o)
   tag_open t c lt is =
       ap (λ b. first_above (largest (own_tags c b)) (own_tags c (up_to_end t (fate_at next t c) next)))
       (take-append t tr (o ∷ []) (omega arith))
@@ -78,10 +78,10 @@ module _ (tr : Trace) (o : Seen) where
       ∙ ap (λ x. or_else x (fate_by (length tr) (ending_at c o) unfinished)) is)
       ∙ ap (own_tags c) (span-by t (ending_at c o) ∙ drop-append t tr (o ∷ []) (omega arith))
       ∙ own-append c (drop t tr) (o ∷ [])
-      ∙ ap (λ x. own_tags c (up_to_end t x tr) ++ field_own c o) (sym is))
+      ∙ ap (λ x. own_tags c (up_to_end t x tr) ++ own_at c o) (sym is))
 
   pub tag-last : (c : ℕ) → fate_at next (length tr) c ≡ unfinished
-      → tag_at next (length tr) c ≡ first_above (largest (own_tags c tr)) (field_own c o)
+      → tag_at next (length tr) c ≡ first_above (largest (own_tags c tr)) (own_at c o)
   tag-last c is =
       ap (λ b. first_above (largest (own_tags c b)) (own_tags c (up_to_end (length tr) (fate_at next (length tr) c) next)))
       (take-append (length tr) tr (o ∷ []) (omega arith) ∙ take_all (length tr) tr (omega arith))

@@ -94,13 +94,17 @@ module _ (n f : ℕ) where
   pub mode-rests : (B : Book) (c : ℕ) (op : Operation) (r : ℕ) (base : Logs) (w : Wait) → Rests w
       → Mode B c op r base w ↔ IdleAt B c
   mode-rests B c op r base idle h = (λ x. x, λ x. x)
+  mode-rests B c op r base _ h = elim h [ ]
 
   pub mode-reads : (B : Book) (c : ℕ) (op : Operation) (r : ℕ) (base : Logs) (w : Wait) → Reads w
       → Mode B c op r base w ↔ ((t : ℕ) × Runs B c op base t × (B.tag t ≡ 0))
   mode-reads B c op r base (reading o s u) h = (λ x. x, λ x. x)
+  mode-reads B c op r base _ h = elim h [ ]
 
   pub mode-staged : (B : Book) (c : ℕ) (op : Operation) (r : ℕ) (base : Logs) (w : Wait) → Staged w
       → Mode B c op r base w ↔ ((t : ℕ) × Runs B c op base t × Tagged op r (B.tag t))
+  mode-staged B c op r base (reading _ answered largest) h = elim h [ ]
+  mode-staged B c op r base idle h = elim h [ ]
   mode-staged B c op r base (writing o rnd u s) h = (λ x. x, λ x. x)
   mode-staged B c op r base (comparing o rnd u) h = (λ x. x, λ x. x)
   mode-staged B c op r base (borrowing o u) h = (λ x. x, λ x. x)

@@ -86,6 +86,7 @@ module _ {n : ℕ} {stopped : ℕ → Bool} {nodes : ℕ → Node} {gone : ℕ �
 
   opened-low : (w : Wait) → Opened M w → Low (suc M) w
   opened-low (writing op r t s) h = h
+  opened-low _ h = elim h [ ]
 
   module _ (d : Leapt M ν (push new [])) where
     leap-said : (m : Message) → m ∈ (write d.q (suc M) ∷ good M d.view ∷ d.before) → Below (suc M) m
@@ -121,6 +122,7 @@ module _ {n : ℕ} {stopped : ℕ → Bool} {nodes : ℕ → Node} {gone : ℕ �
       where
         only : (m : Message) → m ∈ (good M d.view ∷ []) → Below M m
         only m (Memᴰ.head e) = subst (Below M) (sym e) tt
+        only m (Memᴰ.tail h) = elim h [ ]
 
 -- Node c takes a step after which its state is ν, and sends new.
 pub marks-act : {n : ℕ} {stopped : ℕ → Bool} {nodes : ℕ → Node} {gone : ℕ → Logs} {M : ℕ} → Marks n stopped nodes gone M

@@ -12,7 +12,7 @@ use Rattle.order.specs.Line.{Kind, update, scan, Items, May, Sound}
 use Rattle.order.proofs.Select.{select, select-from, select-to, select-once}
 use Rattle.order.proofs.Total.{total, total_mono, total-tight}
 use Rattle.history.specs.Message.{View}
-use Rattle.history.specs.Event.{done, shown, spent}
+use Rattle.history.specs.Event.{done, shown, spent, none}
 use Rattle.history.specs.Trace.{Trace, Begun, nothing, updating, scanning, begun, Fate, unfinished, ended, fate}
 use Rattle.history.specs.Trace.{scan_view, entry_at}
 use Rattle.history.specs.Order.{OneTo, Finished, IsScan, PlacedBy, Placed, EndedBefore}
@@ -53,6 +53,9 @@ holds-by? v (scanning c) s = no λ h. h
 -- An update that ended before something began ended with a view that has it.
 pub own_view : (n : ℕ) (x : Fate) (c p s t : ℕ) → Fit n (updating c p) x s → 0 < s → EndedBefore x t
     → HasView x × (s ≤ (entry_at (end_view x) c).tag)
+own_view n (ended k (shown _ _)) c p s t g pos h = elim g [ ]
+own_view n (ended k none) c p s t g pos h = elim g [ ]
+own_view n unfinished c p s t g pos h = elim h [ ]
 own_view n (ended k (done r v)) c p s t g pos h = (tt, g.2)
 own_view n (ended k spent) c p s t g pos h = absurd (omega (arith, g.1, pos))
 
@@ -80,6 +83,7 @@ module _ (n : ℕ) (tr : Trace) (F : Facts n (length tr) (plain tr)) where
   update-by t (updating c p) unfinished h g k = (c, p, refl, g, h.1.tagged)
   update-by t (updating c p) (ended i (done r v)) h g k = (c, p, refl, g.0, g.1)
   update-by t (updating c p) (ended i spent) h g k = absurd h
+  update-by t _ _ h g k = elim h [ ]
 
   -- A placed scan ended with its view.
   pub record Scan (t : ℕ) : Type 0 where
@@ -90,6 +94,11 @@ module _ (n : ℕ) (tr : Trace) (F : Facts n (length tr) (plain tr)) where
 
   scan-by : (t : ℕ) (b : Begun) (x : Fate) → PlacedBy tr t b x → Fit n b x (tag_of tr t b) → kind_of b ≡ scan
       → IsScan b × Finished x × HasView x × (end_view x ≡ scan_view x)
+  scan-by t (scanning c) (ended i spent) h g k = elim g [ ]
+  scan-by t (scanning c) (ended i (done _ _)) h g k = elim g [ ]
+  scan-by t (scanning c) (ended i none) h g k = elim g [ ]
+  scan-by t (scanning c) unfinished h g k = elim h [ ]
+  scan-by t nothing x h g k = elim h [ ]
   scan-by t (updating c p) x h g k = absurd (subst IsScanKind (sym k) tt)
   scan-by t (scanning c) (ended i (shown r v)) h g k = (tt, tt, tt, refl)
 
@@ -183,12 +192,16 @@ module _ (n : ℕ) (tr : Trace) (F : Facts n (length tr) (plain tr)) where
       )
 
   rank-scan : (b : Begun) (x : Fate) (s : ℕ) → IsScan b → rank_by b x s ≡ end_of x
+  rank-scan (updating node report) x s h = elim h [ ]
+  rank-scan nothing x s h = elim h [ ]
   rank-scan (scanning c) x s h = refl
 
   end_before : (x : Fate) (t : ℕ) → EndedBefore x t → end_of x < t
+  end_before unfinished t h = elim h [ ]
   end_before (ended k e) t h = h
 
   end_after : (x : Fate) (t now : ℕ) → Finished x → Between t now x → t < end_of x
+  end_after unfinished t now f h = elim f [ ]
   end_after (ended k e) t now f h = h.0
 
   may-ss : (a b : ℕ) → Scan a → Scan b → Precedes a b → May items scan scan a b

@@ -8,8 +8,8 @@ use mathlib.Core.Logic.{inl, inr}
 use Rattle.logs.specs.Update.{upd}
 use Rattle.logs.proofs.Update.{upd_other, upd-all}
 use Rattle.history.specs.Message.{Entry}
-use Rattle.history.specs.Event.{done, shown, spent}
-use Rattle.history.specs.Trace.{Begun, updating, scanning, Fate, unfinished, ended}
+use Rattle.history.specs.Event.{done, shown, spent, none}
+use Rattle.history.specs.Trace.{Begun, updating, scanning, Fate, unfinished, ended, nothing}
 use Rattle.history.specs.Order.{OneTo, EndedBefore}
 use Rattle.history.specs.Views.{HasView}
 use Rattle.eqaso.proofs.Book.{Book, begins, At, IdleAt, OpenAt}
@@ -21,6 +21,7 @@ not-ended t e h = subst (λ y. EndedBefore y t) e h
 
 -- An operation is of one node.
 pub at_same : (b : Begun) (c d : ℕ) → At b c → At b d → c ≡ d
+at_same nothing c d e h = elim e [ ]
 at_same (updating a p) c d e h = sym e ∙ h
 at_same (scanning a) c d e h = sym e ∙ h
 
@@ -72,6 +73,12 @@ module _ {n now : ℕ} {B : Book} (f : Facts n now B) where
       [ yes l ↦ l | no l ↦ absurd (subst HasView (unwritten t (omega arith)).0 h) ]
 
   fit-one : (b : Begun) (x : Fate) (s c : ℕ) → At b c → Fit n b x s → OneTo n c
+  fit-one (scanning a) (ended k spent) s c e h = elim h [ ]
+  fit-one (scanning a) (ended k (done r v)) s c e h = elim h [ ]
+  fit-one (scanning a) (ended k none) s c e h = elim h [ ]
+  fit-one (updating a p) (ended k (shown r v)) s c e h = elim h [ ]
+  fit-one (updating a p) (ended k none) s c e h = elim h [ ]
+  fit-one nothing _ s c e h = elim e [ ]
   fit-one (scanning a) unfinished s c e h = subst (OneTo n) e h.0
   fit-one (scanning a) (ended k (shown r v)) s c e h = subst (OneTo n) e h.0
   fit-one (updating a p) unfinished s c e h = subst (OneTo n) e h
@@ -84,6 +91,7 @@ module _ {n now : ℕ} {B : Book} (f : Facts n now B) where
   scan-zero : (c : ℕ) (x : Fate) (s : ℕ) → Fit n (scanning c) x s → s ≡ 0
   scan-zero c unfinished s h = h.1
   scan-zero c (ended k (shown r v)) s h = h.1
+  scan-zero c _ s h = elim h [ ]
 
   pub scan-bare : (t c : ℕ) → B.begun t ≡ scanning c → B.tag t ≡ 0
   scan-bare t c e = scan-zero c (B.fate t) (B.tag t) (subst (λ b. Fit n b (B.fate t) (B.tag t)) e (f.fit t))
@@ -99,6 +107,7 @@ module _ {n now : ℕ} {B : Book} (f : Facts n now B) (b : Begun) where
       let lt = tagged-old f u pos in inr (u, p, upd_other B.begun now b u (omega arith) ∙ h, pos, is)
 
   begin-fits : (d : Begun) (c : ℕ) → OneTo n c → At d c → Fit n d unfinished 0
+  begin-fits nothing c one e = elim e [ ]
   begin-fits (updating a p) c one e = subst (OneTo n) (sym e) one
   begin-fits (scanning a) c one e = (subst (OneTo n) (sym e) one, refl)
 

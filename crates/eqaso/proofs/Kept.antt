@@ -10,7 +10,7 @@ use Rattle.logs.specs.Log.{◌∈◌}
 use Rattle.logs.proofs.Update.{upd_same, upd_other}
 use Rattle.history.specs.Message.{View}
 use Rattle.history.specs.Event.{Ending, none, done, shown, spent, Rule}
-use Rattle.history.specs.Trace.{Seen, Trace, handler, Begun, nothing, updating, scanning, begun, ended, own_tags}
+use Rattle.history.specs.Trace.{Seen, Trace, handler, Begun, nothing, updating, scanning, ended, own_tags}
 use Rattle.history.specs.Order.{OneTo}
 use Rattle.history.specs.Views.{HasView, end_view}
 use Rattle.eqaso.proofs.Book.{Book, book_of, begins, tags, ends, At, IdleAt, OpenAt}

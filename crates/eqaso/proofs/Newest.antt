@@ -90,16 +90,19 @@ newest-value w t l h = elim (newest-from w t l) [ inl e ↦ absurd (omega (arith
 -- No value of the writer up to the tag is above it.
 pub newest-above : (w t : ℕ) {l : List Value} {v : Value} → v ∈ l → v.writer ≡ w → v.tag ≤ t
     → v.tag ≤ (newest w t l).tag
-newest-above w t {l} {v} (Memᴰ.head {x} {xs} d) e h = go (newest-cases w t xs x)
+newest-above w t {v} m e h = go m
   where
-    go : Taken w t xs x ⊎ Left w t xs x → v.tag ≤ (newest w t (x ∷ xs)).tag
-    go (inl (z, p, q, r)) = rw z (rw d (omega arith))
-    go (inr (z, b)) = rw z (rw d (b (rw (← d) e) (rw (← d) h)))
-newest-above w t {l} {v} (Memᴰ.tail {x} {xs} m) e h = go (newest-cases w t xs x) (newest-above w t m e h)
-  where
-    go : Taken w t xs x ⊎ Left w t xs x → v.tag ≤ (newest w t xs).tag → v.tag ≤ (newest w t (x ∷ xs)).tag
-    go (inl (z, p, q, r)) ih = rw z (omega arith)
-    go (inr (z, b)) ih = rw z ih
+    go : {l : List Value} → v ∈ l → v.tag ≤ (newest w t l).tag
+    go (Memᴰ.head {x} {xs} d) = here (newest-cases w t xs x)
+      where
+        here : Taken w t xs x ⊎ Left w t xs x → v.tag ≤ (newest w t (x ∷ xs)).tag
+        here (inl (z, p, q, r)) = rw z (rw d (omega arith))
+        here (inr (z, b)) = rw z (rw d (b (rw (← d) e) (rw (← d) h)))
+    go (Memᴰ.tail {x} {xs} m) = further (newest-cases w t xs x) (go m)
+      where
+        further : Taken w t xs x ⊎ Left w t xs x → v.tag ≤ (newest w t xs).tag → v.tag ≤ (newest w t (x ∷ xs)).tag
+        further (inl (z, p, q, r)) ih = rw z (omega arith)
+        further (inr (z, b)) ih = rw z ih
 
 -- What lists have of a writer in common up to two tags, they show in common.
 pub newest-same : (w t u : ℕ) (l : List Value) → ((v : Value) → v ∈ l → v.writer ≡ w → (v.tag ≤ t) ↔ (v.tag ≤ u))
@@ -116,8 +119,11 @@ newest-same w t u (x ∷ l) h = go (newest-cases w t l x) (newest-same w t u l (
 
 pub highest-above : {l : List Value} {v : Value} → v ∈ l → v.tag ≤ highest l
 unfolding highest
-highest-above (Memᴰ.head d) = rw d (omega arith)
-highest-above (Memᴰ.tail m) = let h = highest-above m in omega arith
+highest-above {v} m = go m
+  where
+    go : {l : List Value} → v ∈ l → v.tag ≤ highest l
+    go (Memᴰ.head d) = rw d (omega arith)
+    go (Memᴰ.tail m) = let h = go m in omega arith
 
 pub latest-above : (w : ℕ) {l : List Value} {v : Value} → v ∈ l → v.writer ≡ w → v.tag ≤ (latest w l).tag
 latest-above w m e = newest-above w _ m e (highest-above m)

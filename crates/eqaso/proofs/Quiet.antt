@@ -42,6 +42,7 @@ node_of : (n c : ℕ) (b : Begun) (x : Fate) (s : ℕ) → At b c → x ≡ unfi
 node_of n c b x s at e fit = go b at (subst (λ z. Fit n b z s) e fit)
   where
     go : (b : Begun) → At b c → Fit n b unfinished s → OneTo n c
+    go nothing h o = elim h [ ]
     go (updating a p) h o = subst (OneTo n) h o
     go (scanning a) h o = subst (OneTo n) h o.0
 

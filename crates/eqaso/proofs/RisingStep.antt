@@ -67,6 +67,7 @@ module _ (i : ℕ) where
     where
       old : (v : Value) → Marked v.tag l ⊎ Young (reading (update p) s u) v → Marked v.tag l
       old v (inl m) = m
+      old v (inr h) = elim h [ ]
 
       own : (v : Value) → value v ∈ (value (of (suc t) i p) ∷ l) → v.writer ≡ i
           → Marked v.tag (value (of (suc t) i p) ∷ l) ⊎ Young (writing (update p) round0 t nobody) v
@@ -75,9 +76,11 @@ module _ (i : ℕ) where
 
   young-low : (r : Round) (o : Operation) (t : ℕ) (v : Value) → Young (comparing o r t) v → v.tag ≤ suc t
   young-low round0 o t v y = omega arith
+  young-low _ o t v y = elim y [ ]
 
   late : (r : Round) (o : Operation) (t : ℕ) → Last r → (v : Value) → Young (comparing o r t) v → ⊥
   late round0 o t h v y = h
+  late _ o t h v y = elim y [ ]
 
   rising-moves : (n f : ℕ) → Moves n f i Rises Rises (λ e. Rises)
   rising-moves n f = record {
@@ -99,6 +102,7 @@ module _ (i : ℕ) where
       comparing-young : (r : Round) (o : Operation) (t : ℕ) (s : Nodes) (v : Value) → Young (writing o r t s) v
           → Young (comparing o r t) v
       comparing-young round0 o t s v y = y
+      comparing-young _ o t s v y = elim y [ ]
 
   -- An operation begins.
   pub rising-begin : (n f : ℕ) (op : Operation) (ν : Node) (l : Log) → ν.wait ≡ idle → Rising i ν.wait l
@@ -110,6 +114,7 @@ module _ (i : ℕ) where
   still-young : (r : Round) (o : Operation) (t : ℕ) (s s' : Nodes) (v : Value) → Young (writing o r t s) v
       → Young (writing o r t s') v
   still-young round0 o t s s' v y = y
+  still-young _ o t s s' v y = elim y [ ]
 
   module _ (n f : ℕ) (out : Logs) (dues : Dues n f out) (orders : Orders out) {γ : Past} {r : ℕ} {op : Operation}
       {ν : Node} (c : Local n f out γ i r op ν (out i)) (x : Rising i ν.wait (out i)) (k : ℕ) where

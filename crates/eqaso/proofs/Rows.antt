@@ -10,7 +10,7 @@ use lib.ListN.{length, take, drop, take-append-drop}
 use Rattle.logs.specs.Log.{◌∈◌}
 use Rattle.history.specs.Event.{none}
 use Rattle.history.specs.Trace.{Seen, Trace, Begun, nothing, updating, scanning, begun, ending_at, Fate, unfinished}
-use Rattle.history.specs.Trace.{ended, fate_by, fate_at, fate_of, fate, up_to_end, own_tags, largest, tag_at}
+use Rattle.history.specs.Trace.{ended, fate_by, fate_at, fate_of, up_to_end, own_tags, largest, tag_at}
 use Rattle.eqaso.proofs.Book.{Book, tag_of, book_of, At}
 use Rattle.eqaso.proofs.Tags.{largest-above, first_fits, first-none, first-low, first-keeps, first_next}
 use Rattle.eqaso.proofs.Append.{or_else, own-append}

@@ -23,6 +23,8 @@ use Rattle.eqaso.proofs.Items.{holds_of, items, Precedes, sound}
 use Rattle.eqaso.proofs.Kept.{Kept}
 
 scan-kind : (b : Begun) → IsScan b → kind_of b ≡ scan
+scan-kind (updating node report) h = elim h [ ]
+scan-kind nothing h = elim h [ ]
 scan-kind (scanning c) h = refl
 
 ends-in-kind : (n : ℕ) (b : Begun) (x : Fate) (s : ℕ) → Fit n b x s → (HasView x → length (end_view x) ≡ n)
@@ -33,12 +35,15 @@ ends-in-kind n (updating c p) (ended k (done r v)) s fit sized = sized tt
 ends-in-kind n (updating c p) (ended k spent) s fit sized = tt
 ends-in-kind n (scanning c) unfinished s fit sized = tt
 ends-in-kind n (scanning c) (ended k (shown r v)) s fit sized = sized tt
+ends-in-kind n _ _ s fit sized = elim fit [ ]
 
 module _ (n : ℕ) (tr : Trace) (F : Facts n (length tr) (plain tr)) where
   -- An update with a tag that a scan shows has a place.
   shown-placed : (x : Fate) (u w p s : ℕ) → Fit n (updating w p) x (tag_at tr u w) → Shows tr s w (tag_at tr u w) p
       → PlacedBy tr u (updating w p) x
   shown-placed unfinished u w p s f h = (s, h)
+  shown-placed (ended k (shown _ _)) u w p s f h = elim f [ ]
+  shown-placed (ended k none) u w p s f h = elim f [ ]
   shown-placed (ended k (done r v)) u w p s f h = tt
   shown-placed (ended k spent) u w p s f h = absurd (omega (arith, f.1, h.tagged))
 

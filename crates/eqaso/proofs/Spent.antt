@@ -70,6 +70,7 @@ spent-then n f i s goes-on last = subst (λ e. Ended (record { node = s.node; se
     read-spent : (ν : Node) (w : Wait) → ReadLast n f ν w → read_pass n f i ν w ≡ ended spent [] (with_wait idle ν)
     read-spent ν (reading (update p) s u) (q, e) =
         if_pos (quorum? n f s) q _ _ ∙ if_pos (ℕ_discrete (max u ν.maxtag) limit) e _ _
+    read-spent ν _ h = elim h [ ]
 
 pub spent-last : (n f : ℕ) → SpentLast n f
 spent-last n f = record {

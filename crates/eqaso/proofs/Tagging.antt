@@ -36,6 +36,7 @@ use Rattle.eqaso.proofs.Recorded.{own-from, own_out, history-next}
 use Rattle.eqaso.proofs.Views.{settled-of, tag-due}
 use Rattle.eqaso.proofs.Deliver.{Delivery, step, site, entry, B, F, Noted, base-booked, left-now, silent}
 use Rattle.eqaso.proofs.Deliver.{mode-before}
+use Rattle.algorithm.specs.Node.{idle}
 
 pub dec-in : (x : ℕ) (l : List ℕ) → Dec (x ∈ l)
 dec-in x [] = no λ m. elim m [ ]
@@ -66,10 +67,13 @@ given-none (cut k) = refl
 
 reads-settled : (i r : ℕ) (op : Operation) (w : Wait) (v : Value) → Reads w → Pending i r op w v → ⊥
 reads-settled i r op (reading o s u) v h e = e
+reads-settled i r op _ v h e = elim h [ ]
 
 -- The reading behind a wait past it.
 pub stage-of : (n f : ℕ) (out : Logs) (γ : Past) (i r : ℕ) (op : Operation) (q : ℕ) (l : Log) (w : Wait) → Staged w
     → Phase n f out γ i r op q l w → (rnd : Round) × (t : ℕ) × Stage n f out γ i r op l rnd t
+stage-of n f out γ i r op q l (reading _ answered largest) h p = elim h [ ]
+stage-of n f out γ i r op q l idle h p = elim h [ ]
 stage-of n f out γ i r op q l (writing o rnd t s) h p = (rnd, t, p.1.stage)
 stage-of n f out γ i r op q l (comparing o rnd t) h p = (rnd, t, p.1.stage)
 stage-of n f out γ i r op q l (borrowing o t) h p = (round3, t, p.1)

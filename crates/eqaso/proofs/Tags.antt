@@ -11,6 +11,7 @@ use Rattle.history.specs.Trace.{largest, first_above}
 
 pub largest-above : {x : ℕ} (l : List ℕ) → x ∈ l → x ≤ largest l
 unfolding largest
+largest-above [] h = elim h [ ]
 largest-above (t ∷ l) (Memᴰ.head e) = omega arith
 largest-above (t ∷ l) (Memᴰ.tail i) = omega (arith, largest-above l i)
 
@@ -75,6 +76,7 @@ first_next b (t ∷ l) m e = go (dec_lt b t) (first_next b l m) e
 -- Where all are s, and s is above the bound, it is s.
 pub first-only : (b s : ℕ) (l : List ℕ) → b < s → s ∈ l → ((x : ℕ) → x ∈ l → x ≡ s) → first_above b l ≡ s
 unfolding first_above
+first-only b s [] lt i h = elim i [ ]
 first-only b s (t ∷ l) lt i h = go (dec_lt b t) (h t (Memᴰ.head refl))
   where
     go : (d : Dec (b < t)) → t ≡ s → ite d t (first_above b l) ≡ s

@@ -12,7 +12,7 @@ use Rattle.logs.proofs.Count.{meet}
 use Rattle.logs.specs.Log.{◌∈◌, ◌⊑◌, Each}
 use Rattle.logs.proofs.Log.{⊑_trans, ⊑-cons, mem_up, place, each_at}
 use Rattle.history.specs.Message.{Value, of, absent, View, value}
-use Rattle.history.specs.Event.{Operation, Round, done, shown, spent}
+use Rattle.history.specs.Event.{Operation, Round, done, shown, spent, none}
 use Rattle.history.specs.Trace.{Begun, nothing, updating, scanning, Fate, unfinished, ended, entry_at}
 use Rattle.history.specs.Order.{OneTo, EndedBefore}
 use Rattle.history.specs.Views.{HasView, end_view, Below, Comparable}
@@ -57,6 +57,14 @@ module _ (n f : ℕ) where
   pub certified-of : (lg : Logs) (b : Begun) (x : Fate) (s : ℕ) → Fit n b x s → HasView x → Left n f lg b x s
       → Certified n f lg (end_view x)
   certified-of lg nothing x s fit h l = absurd (subst HasView fit.0 h)
+  certified-of lg (scanning c) (ended k spent) s fit h l = elim fit [ ]
+  certified-of lg (scanning c) (ended k (done r v)) s fit h l = elim fit [ ]
+  certified-of lg (scanning c) (ended k none) s fit h l = elim fit [ ]
+  certified-of lg (scanning c) unfinished s fit h l = elim h [ ]
+  certified-of lg (updating c p) (ended k spent) s fit h l = elim h [ ]
+  certified-of lg (updating c p) (ended k (shown r v)) s fit h l = elim fit [ ]
+  certified-of lg (updating c p) (ended k none) s fit h l = elim fit [ ]
+  certified-of lg (updating c p) unfinished s fit h l = elim h [ ]
   certified-of lg (updating c p) (ended k (done r v)) s fit h l = l.0
   certified-of lg (scanning c) (ended k (shown r v)) s fit h l = l
 
@@ -65,6 +73,8 @@ module _ (n f : ℕ) where
     where
       go : (x : Fate) → Fit n (updating c p) x s → OneTo n c
       go unfinished h = h
+      go (ended k (shown _ _)) h = elim h [ ]
+      go (ended k none) h = elim h [ ]
       go (ended k (done r v)) h = h.0
       go (ended k spent) h = h.0
 
@@ -75,6 +85,9 @@ module _ (n f : ℕ) where
     where
       go : (x : Fate) → Fit n (updating d p) x s → EndedBefore x t → Left n f lg (updating d p) x s
           → (s ≡ 0) ⊎ Settled n f lg (of s d p)
+      go (ended k (shown _ _)) fit h l = elim fit [ ]
+      go (ended k none) fit h l = elim fit [ ]
+      go unfinished fit h l = elim h [ ]
       go (ended k (done r v)) fit h l = inr l.1
       go (ended k spent) fit h l = inl fit.1
 

@@ -10,7 +10,7 @@ use mathlib.Core.List.{List, [], ◌∷◌}
 use lib.ListN.{take}
 use Rattle.logs.specs.Log.{◌∈◌}
 use Rattle.history.specs.Trace.{Trace, updating, begun, Fate, ended, fate_at, fate_of, fate, up_to_end, own_tags, largest}
-use Rattle.history.specs.Trace.{tag_at}
+use Rattle.history.specs.Trace.{tag_at, unfinished}
 use Rattle.history.specs.Order.{EndedBefore}
 use Rattle.history.specs.Tags.{IsTag, TagsAsWorded}
 use Rattle.eqaso.proofs.Book.{tag_of, book_of, At}
@@ -72,6 +72,7 @@ take-take {A} (suc m) (suc j) (x ∷ l) le = ap {B = List A} (λ r. x ∷ r) (ta
 -- What was let out up to an ending before j was let out before j.
 span-before : (tr : Trace) (c t j : ℕ) (y : Fate) {x : ℕ} → EndedBefore y j → x ∈ own_tags c (up_to_end t y tr)
     → x ∈ own_tags c (take j tr)
+span-before tr c t j unfinished lt m = elim lt [ ]
 span-before tr c t j (ended k e) {x} lt m = own-take c (suc k) (take j tr)
     (subst (λ l. x ∈ own_tags c l) (sym (take-take (suc k) j tr lt)) (own-drop c t (take (suc k) tr) m))
 
