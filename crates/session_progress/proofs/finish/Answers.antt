@@ -1,0 +1,49 @@
+-- `session_progress::finish` meets its contract.
+use Prim.Native.Nat.{ℕ, ◌+◌, ◌≤◌}
+use mathlib.Core.Path.{◌≡◌, refl, sym, ◌∙◌}
+use mathlib.Core.List.{List}
+use native.Mathlib.Nat.{zero-add}
+use native.Mathlib.Omega.{arith}
+use lib.ListN.{length}
+use borrow.Author.Tests.{eq-eqb, ne_eqb}
+use Rattle.octets.specs.Bytes.{put}
+use Rattle.octets.proofs.Put.{put-nil}
+use Rattle.session_progress.specs.Progress.{text_size, finished}
+use Rattle.session_progress.specs.declared.Progress.{Progress}
+use Rattle.session_progress.proofs.Short.{finish-short}
+use Rattle.session_progress.proofs.finish.Goals as goal
+
+-- what is printed at the end has room
+ends : (o : List ℕ) {b : List ℕ} {k : ℕ} (p : Progress) → (b ≡ put o 0 (finished p)) × (k ≡ 0 + length (finished p))
+    → (b ≡ put o 0 (finished p)) × (k ≡ length (finished p)) × (k ≤ text_size)
+ends o p e = (e.0, e.1 ∙ zero-add (length (finished p)), omega (arith, e.1, finish-short p))
+
+pub returns-in-First : goal.returns-in-First
+unfolding finished
+returns-in-First c = ends c.args.out.now c.args.p
+    (rw c.in-First.is c.put_bad.ensures)
+
+pub returns-then-p-eq0 : goal.returns-then-p-eq0
+unfolding finished
+returns-then-p-eq0 c =
+    let x = c.args in
+    ends x.out.now x.p (rw (
+      c.in-Events.is,
+      eq-eqb x.p.carry.size 0
+          c.if-p-eq0.true,
+    ) (sym (put-nil x.out.now 0), refl))
+
+pub returns-else-p-eq0 : goal.returns-else-p-eq0
+unfolding finished
+returns-else-p-eq0 c =
+    let x = c.args in
+    ends x.out.now x.p (rw (
+      c.in-Events.is,
+      ne_eqb
+          x.p.carry.size 0 c.if-p-eq0.false,
+    ) c.put_bad-else-p-eq0.ensures)
+
+pub returns-in-Over : goal.returns-in-Over
+unfolding finished
+returns-in-Over c = ends c.args.out.now c.args.p
+    (rw c.in-Over.is (sym (put-nil c.args.out.now 0), refl))
