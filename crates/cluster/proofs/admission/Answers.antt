@@ -1,0 +1,57 @@
+-- `cluster::admission` meets its contract.
+use borrow.Author.Rules.{rules}
+use mathlib.Core.Path.{sym, ap₂, ◌∙◌}
+use Rattle.octets.specs.Test.{both}
+use Rattle.layout.proofs.Check.{fits-some}
+use Rattle.events.proofs.Admitted.{is-unfit, is-unsound, is-nowhere, has_block, is-stopped, is-admitted}
+use Rattle.cluster.proofs.admission.Goals as goal
+
+pub returns-then-not-is_fit : goal.returns-then-not-is_fit
+returns-then-not-is_fit c =
+    let a = c.args in is-unfit a.a a.c a.b.now (sym c.is_fit.ensures ∙ c.if-not-is_fit.true)
+
+pub is_sound-requires : goal.is_sound-requires
+is_sound-requires c =
+    sym c.is_fit.ensures ∙ c.if-not-is_fit.false
+
+pub returns-then-not-is_sound : goal.returns-then-not-is_sound
+returns-then-not-is_sound c =
+    let a = c.args in
+    is-unsound a.a a.c a.b.now (sym c.is_fit.ensures ∙ c.if-not-is_fit.false)
+    (sym c.is_sound.ensures ∙ c.if-not-is_sound.true)
+
+pub bounds-b-0 : goal.bounds-b-0
+bounds-b-0 c =
+    let h = fits-some c.args.b.now (sym c.is_fit.ensures ∙ c.if-not-is_fit.false) in search rules
+
+pub returns-then-not-and : goal.returns-then-not-and
+returns-then-not-and c =
+    let a = c.args in
+    let test = c.and.ensures ∙ ap₂ both c.is_node.ensures c.is_node-2.ensures in
+    is-nowhere a.a a.c a.b.now c.index-n.result c.index-n.ensures.0
+    (sym c.is_fit.ensures ∙ c.if-not-is_fit.false) (sym c.is_sound.ensures ∙ c.if-not-is_sound.false)
+    (sym test ∙ c.if-not-and.true)
+
+pub stopped_at-requires : goal.stopped_at-requires
+stopped_at-requires c =
+    let a = c.args in
+    let test = c.and.ensures ∙ ap₂ both c.is_node.ensures c.is_node-2.ensures in
+    has_block a.a a.c a.b.now c.index-n.result c.index-n.ensures.0
+    (sym c.is_fit.ensures ∙ c.if-not-is_fit.false) (sym c.is_sound.ensures ∙ c.if-not-is_sound.false)
+    (sym test ∙ c.if-not-and.false)
+
+pub returns-then-stopped_at : goal.returns-then-stopped_at
+returns-then-stopped_at c =
+    let a = c.args in
+    let test = c.and.ensures ∙ ap₂ both c.is_node.ensures c.is_node-2.ensures in
+    is-stopped a.a a.c a.b.now c.index-n.result c.index-n.ensures.0
+    (sym c.is_fit.ensures ∙ c.if-not-is_fit.false) (sym c.is_sound.ensures ∙ c.if-not-is_sound.false)
+    (sym test ∙ c.if-not-and.false) (sym c.stopped_at.ensures ∙ c.if-stopped_at.true)
+
+pub returns : goal.returns
+returns c =
+    let a = c.args in
+    let test = c.and.ensures ∙ ap₂ both c.is_node.ensures c.is_node-2.ensures in
+    is-admitted a.a a.c a.b.now c.index-n.result c.index-n.ensures.0
+    (sym c.is_fit.ensures ∙ c.if-not-is_fit.false) (sym c.is_sound.ensures ∙ c.if-not-is_sound.false)
+    (sym test ∙ c.if-not-and.false) (sym c.stopped_at.ensures ∙ c.if-stopped_at.false)
