@@ -56,7 +56,7 @@ not-ended Spent h = true-false true refl h
 
 pub record Stand (n : ℕ) (p : LentResult) (x : Ending) : Type 0 where
   pub ends : p.ending ≡ returned x
-  pub Tells : told (returned x) (told_view p.answer) ≡ p.answer
+  pub tells : told (returned x) (told_view p.answer) ≡ p.answer
   pub long : length p.bytes ≡ record_size
   pub known : codes_known p.bytes ≡ true
   pub can-step : usable (record_of p.bytes) ≡ true
@@ -73,7 +73,7 @@ unfolding walk_by
 stand-first r n out l k u e =
     record {
       ends = refl;
-      Tells = refl;
+      tells = refl;
       long = l;
       known = k;
       can-step = u;

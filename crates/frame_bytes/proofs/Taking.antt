@@ -205,7 +205,7 @@ module _ (n s : ℕ) (low : 1 ≤ s) (high : s ≤ n) (t : List ℕ) (p : LentRe
                 ∙ i
             by false c =
                 does.1 ∙ ap (event_view (next_call s p piece).answer)
-                (i ∙ none_told (not-ended x c) h.stand.Tells first)
+                (i ∙ none_told (not-ended x c) h.stand.tells first)
 
 -- what was lent from a place on, given back
 pub back : (at : ℕ) (out o : List ℕ) → take at out ++ (o ++ drop (length out - at) (drop at out)) ≡ take at out ++ o

@@ -234,7 +234,7 @@ module _ (n s : ℕ) (low : 1 ≤ s) (high : s ≤ n) (p : LentResult) (x : Endi
         let node-is = holds.same in
         record {
           ends = ending-then p a h.ends next-ends;
-          Tells = rw (answer-then p a h.ends next-ends) (told-by (is_ending x));
+          tells = rw (answer-then p a h.ends next-ends) (told-by (is_ending x));
           long = o.long;
           known = o.known;
           can-step = o.can-step;
@@ -255,7 +255,7 @@ module _ (n s : ℕ) (low : 1 ≤ s) (high : s ≤ n) (p : LentResult) (x : Endi
         told-by : (t : Bool)
             → told (returned (pick t x turn.ending)) (told_view (pick t p.answer (next_call s p m).answer))
             ≡ pick t p.answer (next_call s p m).answer
-        told-by true = h.Tells
+        told-by true = h.tells
         told-by false =
             ap (λ (y : Told). told (returned turn.ending) (told_view y)) next-tells
             ∙ told-told_view turn.ending turn.view ∙ sym next-tells

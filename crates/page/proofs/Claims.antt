@@ -92,8 +92,8 @@ same-contents n m v w t u e =
       ap (λ (c : Contents). c.figures) e,
     )
 
-pub Tells : claim.Tells
-Tells n m v w p b d e f =
+pub tells : claim.Tells
+tells n m v w p b d e f =
     let g = printing n v p e in
     let h = printing m w p f in
     let q : returned (contents n v g.totals) ≡ returned (contents m w h.totals) =

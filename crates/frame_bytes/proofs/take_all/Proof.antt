@@ -222,7 +222,7 @@ returns-2 c =
     let st = l.invariant.1.stand in
     subst (λ (e : LentResult). Shows (called l.ending l.at) l.r l.out l.view e c5.args.view.now)
     (last-along c5.args.n c5.args.s l.t.now _ l.ending _ l.invariant.1 (empty l.t.now c.loop-test.false))
-    ((st.Tells, refl, refl, refl, refl), l.invariant.2)
+    ((st.tells, refl, refl, refl, refl), l.invariant.2)
 
 pub take_all_spec : {M : Type 1} → statement M
 take_all_spec =

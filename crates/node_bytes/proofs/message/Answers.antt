@@ -1,0 +1,110 @@
+-- `node_bytes::message` meets its contract.
+use borrow.Author.Rules.{rules}
+use mathlib.Core.Path.{refl, sym, ap, ◌∙◌}
+use mathlib.Core.List.{List}
+use Prim.Native.Nat.{ℕ}
+use lib.Dec.{leb}
+use borrow.Author.Tests.{le-ltb, leb-true}
+use Rattle.octets.specs.Answer.{returned}
+use Rattle.octets.specs.Test.{both}
+use Rattle.octets.proofs.Test.{both_left, both_right}
+use Rattle.wire.specs.Codec.{decode, view_part}
+use Rattle.wire.specs.Layout.{encode, allowed}
+use Rattle.wire.specs.Outcome.{parsed}
+use Rattle.wire.proofs.Handed.{read-room, read_view}
+use Rattle.wire.proofs.RoundTrip.{read_only}
+use Rattle.calls.specs.Entry as N
+use Rattle.calls.proofs.Refusals.{message-2, message-3, message-7, message-read}
+use Rattle.region.specs.Record.{record_of}
+use Rattle.calls_bytes.specs.Entry.{in_bytes}
+use Rattle.node_bytes.proofs.Admitted.{admitted, turned, at-admitted, refused-at, own-n}
+use Rattle.node_bytes.proofs.Stepped.{becomes-shown}
+use Rattle.node_bytes.proofs.message.Goals as goal
+
+pub returns-then-k-ne0 : goal.returns-then-k-ne0
+returns-then-k-ne0 c =
+    let a = c.args in
+    becomes-shown c.turned_away.result _ _ _ _ (turned a.r.now a.out.now (λ d. N.message d a.s
+    a.b.now a.out.now)
+    (λ l u. message-2 _ a.s a.b.now a.out.now (le-ltb _ _ l) u) c.admission-k.ensures
+    c.if-k-ne0.true)
+    (c.turned_away.ensures _ _, refl)
+
+pub get_word-n-requires : goal.get_word-n-requires
+get_word-n-requires c =
+    let long = (admitted N.least_output c.args.r.now c.args.out.now (sym c.admission-k.ensures
+    ∙ c.if-k-ne0.false)).long in search rules
+
+pub returns-then-not-and : goal.returns-then-not-and
+returns-then-not-and c =
+    let a = c.args in
+    let h = admitted N.least_output a.r.now a.out.now (sym c.admission-k.ensures ∙ c.if-k-ne0.false) in
+    let d = record_of a.r.now in
+    let e = own-n a.r.now c.get_word-n.ensures in
+    becomes-shown c.turned_away-then-not-and.result _ _ _ _ (refused-at a.r.now a.out.now (λ d. N.message d a.s
+    a.b.now a.out.now) h
+    (message-3 d a.s a.b.now a.out.now (le-ltb _ _ h.room) h.can-step
+    (sym (c.and.ensures ∙ ap (λ (j : ℕ). both (leb 1 a.s) (leb a.s j)) (sym e)) ∙ c.if-not-and.true)))
+    (c.turned_away-then-not-and.ensures _ _, refl)
+
+pub parsed_view-requires : goal.parsed_view-requires
+parsed_view-requires c =
+    read-room c.get_word-n.result c.args.b.now _ (ap parsed (sym c.in-Got.is) ∙ c.parse-p.ensures)
+
+pub take_message-requires : goal.take_message-requires
+take_message-requires c =
+    let a = c.args in
+    let h = admitted N.least_output a.r.now a.out.now (sym c.admission-k.ensures ∙ c.if-k-ne0.false) in
+    let d = record_of a.r.now in
+    let e = own-n a.r.now c.get_word-n.ensures in
+    let n = c.get_word-n.result in
+    let m = c.in-Got.m in
+    let read = sym c.parse-p.ensures ∙ ap parsed c.in-Got.is in
+    let whole = read_only n a.b.now m read in
+    let view = c.parsed_view.ensures.0 ∙ read_view n a.b.now _ (sym read) in
+    let low = leb 1 a.s in
+    let high = leb a.s n in
+    let sender = sym c.and.ensures ∙ c.if-not-and.false in (
+      h.long,
+      h.can-step,
+      e,
+      leb-true _ _ (both_left low high sender),
+      leb-true _ _ (both_right low high sender),
+      ap (λ (v : List ℕ). allowed n m v) view ∙ whole.allowed-is,
+      h.room,
+      whole.bytes ∙ ap (encode m) (sym view),
+    )
+
+pub returns-in-Got : goal.returns-in-Got
+returns-in-Got c =
+    let a = c.args in
+    let h = admitted N.least_output a.r.now a.out.now (sym c.admission-k.ensures ∙ c.if-k-ne0.false) in
+    let d = record_of a.r.now in
+    let e = own-n a.r.now c.get_word-n.ensures in
+    let sender = sym (c.and.ensures ∙ ap (λ (j : ℕ). both (leb 1 a.s) (leb a.s j)) (sym e)) ∙ c.if-not-and.false in
+    let n = c.get_word-n.result in
+    let m = c.in-Got.m in
+    let read = sym c.parse-p.ensures ∙ ap parsed c.in-Got.is in
+    let view = c.parsed_view.ensures.0 ∙ read_view n a.b.now _ (sym read) ∙ ap (λ (j : ℕ). view_part j
+    a.b.now) (sym e) in
+    becomes-shown c.take_message.result _ _ _ _
+    (at-admitted a.r.now a.out.now (λ d. N.message d a.s a.b.now a.out.now) h
+    ∙ ap (in_bytes a.r.now) (message-read d a.s a.b.now a.out.now (le-ltb _ _ h.room)
+    h.can-step sender m
+    (ap (λ (j : ℕ). decode j a.b.now) e ∙ read)
+    ∙ ap (λ (v : List ℕ). N.taken d a.s v a.out.now (returned m)) (sym view)))
+    c.take_message.ensures
+
+pub returns-in-Refused : goal.returns-in-Refused
+returns-in-Refused c =
+    let a = c.args in
+    let h = admitted N.least_output a.r.now a.out.now (sym c.admission-k.ensures ∙ c.if-k-ne0.false) in
+    let d = record_of a.r.now in
+    let e = own-n a.r.now c.get_word-n.ensures in
+    let sender = sym (c.and.ensures ∙ ap (λ (j : ℕ). both (leb 1 a.s) (leb a.s j)) (sym e)) ∙ c.if-not-and.false in
+    let read = sym c.parse-p.ensures ∙ ap parsed c.in-Refused.is in
+    becomes-shown c.turned_away-in-Refused.result _ _ _ _ (refused-at a.r.now a.out.now (λ d. N.message d a.s
+    a.b.now a.out.now) h
+    (message-7 d a.s a.b.now a.out.now (le-ltb _ _ h.room) h.can-step sender _
+    (ap (λ (j : ℕ). decode j a.b.now) e ∙ read)))
+    (c.turned_away-in-Refused.ensures _ _, refl)
