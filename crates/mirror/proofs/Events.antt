@@ -12,7 +12,6 @@ use Rattle.logs.specs.Count as C
 use Rattle.logs.proofs.Count.{count-one}
 use Rattle.octets.specs.Test.{both}
 use Rattle.view.specs.Size.{nodes}
-use Rattle.table.specs.Loop.{count}
 use Rattle.record.specs.Usable.{is_open}
 use Rattle.record.specs.declared.Operation.{Operation}
 use Rattle.step.specs.Move.{begin_step}

@@ -27,6 +27,7 @@ module _ (n : ℕ) where
 
   fits_one : (e : Entry) → Fit n e → Fits (e ∷ [])
   fits_one e f x (Memᴰ.head h) = subst (Fit n) (sym h) f
+  fits_one e f x (Memᴰ.tail h) = elim h [ ]
 
   pub fits-take : (m : ℕ) (l : List Entry) → Fits l → Fits (take m l)
   fits-take zero l f e x = elim x [ ]

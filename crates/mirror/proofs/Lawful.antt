@@ -15,6 +15,7 @@ use Rattle.step.proofs.Allowed.{lawful-allowed}
 
 pub each-allowed : (n : ℕ) → n ≤ nodes → (v : View) (l : List Message) → AllLawful n v l → (m : Message) → m ∈ l
     → allowed n m (view_bytes n v) ≡ true
+each-allowed n small v List.[] _ m h = elim h [ ]
 each-allowed n small v (x ∷ l) (h, r) m (Memᴰ.head e) =
     subst (λ z. allowed n z (view_bytes n v) ≡ true) (sym e) (lawful-allowed n x v small h)
 each-allowed n small v (x ∷ l) (h, r) m (Memᴰ.tail i) = each-allowed n small v l r m i

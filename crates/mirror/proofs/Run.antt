@@ -56,19 +56,19 @@ module _ (n f : ℕ) (low : 1 ≤ n) (small : n ≤ nodes) (half : f + f < n) wh
   same-run : {b : List ℕ} (ks : List H.Event) → Mirrors n f b (reached ks) → (es : List Event)
       → Mirrors n f (after b es) (K.after n f channel_room (reached ks) (map meaning es))
   unfolding after K.after
-  same-run ks mirror [] = mirror
+  same-run {b} ks mirror [] = mirror
   same-run {b} ks mirror (e ∷ es) = subst
       (λ σ. Mirrors n f (after (event e b).bytes es) (K.after n f channel_room σ (map meaning es)))
-      (one_more ks (meaning e)) (same-run (ks ++ (meaning e ∷ [])) (next ks mirror e) es)
+      (one_more ks (meaning e)) (same-run {b = (event e b).bytes} (ks ++ (meaning e ∷ [])) (next ks mirror e) es)
 
   same-trace : {b : List ℕ} (ks : List H.Event) → Mirrors n f b (reached ks) → (es : List Event)
       → trace_from n b es ≡ K.trace_from n f channel_room (reached ks) (map meaning es)
   unfolding trace_from K.trace_from
-  same-trace ks mirror [] = refl
+  same-trace {b} ks mirror [] = refl
   same-trace {b} ks mirror (e ∷ es) =
       let r = same-event ks mirror e in
       ap₂ (λ x l. x ∷ l) (ap₂ (λ x l. record { event = meaning e; answer = x; sent = l }) r.answer r.sent)
-      (same-trace (ks ++ (meaning e ∷ [])) (next ks mirror e) es
+      (same-trace {b = (event e b).bytes} (ks ++ (meaning e ∷ [])) (next ks mirror e) es
       ∙ ap (λ σ. K.trace_from n f channel_room σ (map meaning es)) (one_more ks (meaning e)))
 
   module _ (b : List ℕ) (long : length b ≡ cluster_size n) where

@@ -10,7 +10,6 @@ use borrow.Author.Tests.{eq-eqb}
 use Rattle.logs.specs.Update.{upd}
 use Rattle.logs.proofs.Update.{upd-all}
 use Rattle.octets.specs.Answer.{returned}
-use Rattle.octets.specs.Test.{both}
 use Rattle.octets.proofs.Test.{both_true}
 use Rattle.view.specs.Size.{nodes}
 use Rattle.record.specs.Usable.{usable}

@@ -6,7 +6,7 @@ use mathlib.Core.Bool.{Bool, true, false}
 use lib.Dec.{leb, eqb}
 use borrow.Author.Tests.{le-leb, leb-true, eq-eqb, eqb-true}
 use Rattle.logs.specs.Count as C
-use Rattle.table.specs.Loop.{either, all, count}
+use Rattle.table.specs.Loop.{either, all}
 use Rattle.table.specs.Table.{at, tag_of, heard_of}
 use Rattle.table.specs.Quorum.{agrees, agreeing, is_quorum}
 use Rattle.table.proofs.Laws.{all-at, all-all}

@@ -10,7 +10,6 @@ use Rattle.logs.specs.Count as C
 use Rattle.view.specs.declared.View.{View}
 use Rattle.wire.specs.declared.Message.TheVariants.{Good}
 use Rattle.view.specs.View.{no_view, first_of}
-use Rattle.table.specs.Quorum.{agreeing}
 use Rattle.record.specs.Record.{closed}
 use Rattle.record.specs.declared.Node.{Node}
 use Rattle.record.specs.declared.Wait.{Wait}

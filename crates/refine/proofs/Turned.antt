@@ -8,7 +8,7 @@ use lib.ListN.{length-replicate}
 use Rattle.view.specs.Size.{nodes}
 use Rattle.view.specs.declared.View.{View}
 use Rattle.table.specs.Table.{newest, tag_of, cells}
-use Rattle.record.specs.Record.{blank, set_wait, with_wait, closed}
+use Rattle.record.specs.Record.{blank, set_wait, closed}
 use Rattle.record.specs.declared.Node.{Node}
 use Rattle.record.specs.declared.Wait.{Wait}
 use Rattle.record.specs.declared.Wait.TheVariants.{Idle}
