@@ -13,7 +13,6 @@ use Rattle.record.specs.declared.Node.{Node}
 use Rattle.step.specs.declared.Step.{Step}
 use Rattle.step.specs.React.{react}
 use Rattle.step.specs.Stale.{stale_message}
-use Rattle.step.specs.Step.{messages}
 use Rattle.step.proofs.Judged.{alike-stale}
 use Rattle.calls.specs.Bytes.{out_bytes}
 use Rattle.calls.specs.Entry as N

@@ -153,7 +153,7 @@ module _ (r : List ℕ) (s : ℕ) (b out : List ℕ) (h : Admitted frame_output 
         after_none a (refused k) q f =
             ap (or_refused r out (and_then (at_start r out) a)) (refused-then (at_start r out) a refl q) ∙ sym (f k q)
         after_none a (returned y) q f =
-            rw q (ap (λ (l : ℕ). record {
+            rw (q, q) (ap (λ (l : ℕ). record {
               answer = a.answer;
               ending = returned y;
               bytes = a.bytes;

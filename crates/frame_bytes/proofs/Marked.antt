@@ -2,11 +2,9 @@
 use Prim.Native.Nat.{ℕ, ◌+◌, ◌-◌, ◌≤◌, ◌<◌, max}
 use mathlib.Core.Path.{◌≡◌, refl, sym, ap, ◌∙◌, subst}
 use mathlib.Core.Bool.{true, false}
-use mathlib.Core.List.{List, [], ◌∷◌}
+use mathlib.Core.List.{List}
 use native.Mathlib.Decide.{ℕ_discrete}
 use native.Mathlib.Omega.{arith}
-use denote.Enum.Declared.{tag_of as kind_of}
-use types.Run.{OneOf, miss}
 use lib.Dec.{leb, ltb}
 use lib.ListN.{length, get_or, set, length-set}
 use lib.Seq.{get_or-set_same, get_or-set_other}
@@ -18,7 +16,6 @@ use Rattle.view.specs.declared.Report.{Report}
 use Rattle.view.specs.declared.View.{View}
 use Rattle.wire.specs.declared.Message.{Message}
 use Rattle.wire.specs.declared.Message.TheVariants.{Read, ReadAnswer, Write, WriteAnswer, Echo, Value, Good}
-use Rattle.wire.specs.contracts.Message as message
 use Rattle.table.specs.Table.{at, tag_of, heard_of, cell, put_entry}
 use Rattle.table.proofs.Entries.{put_entry-tag, put_entry-tag-other}
 use Rattle.record.specs.declared.Node.{Node}
@@ -28,27 +25,26 @@ use Rattle.step.proofs.Numbers.{on-pick}
 use Rattle.region.proofs.Back.{SizedNode}
 use Rattle.frame_bytes.specs.Marks.{late_by, heard_after, last_after, top_after}
 
--- ---- the kinds that change nothing, by their numbers
+-- ---- the kinds that change nothing
 
-pub other-top : (top : ℕ) (m : Message) → OneOf (0 ∷ 1 ∷ 3 ∷ 5 ∷ 6 ∷ []) (kind_of message.the_type m)
+pub other-top : (top : ℕ) (m : Message) → ((q t : ℕ) → m ≡ Write q t → ⊥) → ((t : ℕ) → m ≡ Echo t → ⊥)
     → top ≡ top_after top m
-other-top top (Read q) k = refl
-other-top top (ReadAnswer q t) k = refl
-other-top top (Write q t) k = elim (miss (0 ∷ 1 ∷ 3 ∷ 5 ∷ 6 ∷ []) 2 tt k) [ ]
-other-top top (WriteAnswer q t) k = refl
-other-top top (Echo t) k = elim (miss (0 ∷ 1 ∷ 3 ∷ 5 ∷ 6 ∷ []) 4 tt k) [ ]
-other-top top (Value t w p) k = refl
-other-top top (Good t) k = refl
+other-top top (Read q) k l = refl
+other-top top (ReadAnswer q t) k l = refl
+other-top top (Write q t) k l = absurd (k q t refl)
+other-top top (WriteAnswer q t) k l = refl
+other-top top (Echo t) k l = absurd (l t refl)
+other-top top (Value t w p) k l = refl
+other-top top (Good t) k l = refl
 
-pub other-kind : (heard last : List ℕ) (top : ℕ) (m : Message)
-    → OneOf (0 ∷ 1 ∷ 2 ∷ 3 ∷ 4 ∷ 6 ∷ []) (kind_of message.the_type m)
+pub other-kind : (heard last : List ℕ) (top : ℕ) (m : Message) → ((t w : ℕ) (p : Report) → m ≡ Value t w p → ⊥)
     → (false ≡ late_by heard last top m) × (heard ≡ heard_after heard m) × (last ≡ last_after last m)
 other-kind heard last top (Read q) k = (refl, refl, refl)
 other-kind heard last top (ReadAnswer q t) k = (refl, refl, refl)
 other-kind heard last top (Write q t) k = (refl, refl, refl)
 other-kind heard last top (WriteAnswer q t) k = (refl, refl, refl)
 other-kind heard last top (Echo t) k = (refl, refl, refl)
-other-kind heard last top (Value t w p) k = elim (miss (0 ∷ 1 ∷ 2 ∷ 3 ∷ 4 ∷ 6 ∷ []) 5 tt k) [ ]
+other-kind heard last top (Value t w p) k = absurd (k t w p refl)
 other-kind heard last top (Good t) k = (refl, refl, refl)
 
 -- the writer of a value

@@ -1,6 +1,6 @@
 -- Message calls in turn, none of them refused: what one adds to those before it, and what is known of what they left.
 -- Assumes nothing.
-use Prim.Native.Nat.{ℕ, ◌-◌, ◌≤◌}
+use Prim.Native.Nat.{ℕ, ◌≤◌}
 use mathlib.Core.Path.{◌≡◌, refl, ap₂, subst}
 use mathlib.Core.Bool.{Bool, true, false}
 use mathlib.Core.List.{List}
@@ -17,12 +17,10 @@ use Rattle.record.proofs.Parts.{parts}
 use Rattle.step.specs.declared.Ending.{Ending}
 use Rattle.step.specs.declared.Ending.TheVariants.{None, Done, Scan, Spent}
 use Rattle.step.specs.Told.{told, told_view}
-use Rattle.calls.specs.Entry as N
 use Rattle.region.specs.Record.{record_size, record_of, codes_known}
 use Rattle.calls_bytes.specs.Entry.{LentResult}
 use Rattle.calls_bytes.specs.Frame.{is_whole, is_ending, first_stands, and_then, at_start}
 use Rattle.calls_bytes.specs.Walk.{walk_by}
-use Rattle.node_bytes.proofs.Left.{left}
 
 -- ---- a call after others
 

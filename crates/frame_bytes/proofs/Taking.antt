@@ -25,7 +25,7 @@ use Rattle.calls.specs.CallResult.{CallResult}
 use Rattle.calls.specs.Entry as N
 use Rattle.region.specs.Record.{record_size, record_of}
 use Rattle.events.specs.Outcome.{answer_of}
-use Rattle.calls_bytes.specs.Entry.{LentResult, fits, at_record, in_bytes, message}
+use Rattle.calls_bytes.specs.Entry.{LentResult, fits, at_record, in_bytes}
 use Rattle.calls_bytes.specs.Frame.{is_whole, is_ending, and_then, next_call, in_turn, at_start, one_by_one}
 use Rattle.calls_bytes.specs.Shown.{event_view}
 use Rattle.calls_bytes.specs.Walk.{Piece, walk_by, walk}

@@ -41,7 +41,7 @@ use Rattle.emit.specs.Room.{Room}
 use Rattle.emit.proofs.Runs.{room_of, run_length}
 use Rattle.reply.proofs.Tells.{told-told_view}
 use Rattle.region.specs.Record.{record_of}
-use Rattle.calls_bytes.specs.Entry.{LentResult, in_bytes, message}
+use Rattle.calls_bytes.specs.Entry.{LentResult, in_bytes}
 use Rattle.calls_bytes.specs.Frame.{is_whole, is_ending, and_then, next_call}
 use Rattle.calls_bytes.specs.Walk.{Piece, walk, pieces_of}
 use Rattle.calls_bytes.proofs.Walk.{walked, whole-both, whole-written}
