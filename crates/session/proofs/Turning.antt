@@ -1,6 +1,6 @@
 -- A piece is read byte by byte: what one byte more does, and how the buffer fills, within the room for its bytes.
 use Prim.Native.Nat.{ℕ, ◌+◌, ◌*◌, ◌<◌, ◌≤◌, min}
-use mathlib.Core.Path.{◌≡◌, refl, sym, ap, subst, ◌∙◌}
+use mathlib.Core.Path.{◌≡◌, refl, sym, ap, ◌∙◌}
 use mathlib.Core.List.{List, [], ◌∷◌, ◌++◌, append_assoc, append-nil}
 use native.Mathlib.Nat.{zero-add, lt_of_not-le}
 use native.Mathlib.Numerals.{add-one}

@@ -1,5 +1,4 @@
 -- `session_line::run_at` meets its contract.
-use borrow.Author.Rules.{rules}
 use Prim.Native.Nat.{ℕ}
 use mathlib.Core.Path.{◌≡◌, refl, sym, ap, ap₂, ◌∙◌}
 use mathlib.Core.List.{List}
@@ -17,29 +16,7 @@ use Rattle.answers.specs.declared.Printed.{Printed}
 use Rattle.answers.specs.Answer.{line}
 use Rattle.session_reply.specs.Reply.{handler, printed_for}
 use Rattle.session_line.specs.Act.{ran, printed}
-use Rattle.session_line.proofs.run_at.Statement.{statement}
-use Rattle.session_line.proofs.run_at.Tie as tie
-
-nodes-in-requires : tie.Need-nodes-in-requires
-nodes-in-requires c κs = search rules
-
-act-requires : tie.Need-act-requires
-act-requires c κs = search rules
-
-handler-requires : tie.Need-handler-requires
-handler-requires c κs = search rules
-
-printed-at-requires : tie.Need-printed-at-requires
-printed-at-requires c κs = search rules
-
-put-line-requires : tie.Need-put-line-requires
-put-line-requires c κs = search rules
-
-same_length : tie.Need-same-length
-same_length c = search rules
-
-same-length-2 : tie.Need-same-length-2
-same-length-2 c = search rules
+use Rattle.session_line.proofs.run_at.Goals as goal
 
 -- only a scan's view is printed
 seen : (e c n : ℕ) (x : Answer Ending) (v : View)
@@ -61,27 +38,13 @@ says e l b k {c} {n} a {r} p q s t =
     ∙ ap (λ (x : Told). line e (printed_for c x) n (told_view x)) u
     ∙ ap₂ (λ (i j : ℕ). line e (printed_for i (told_of (ran l b))) j (told_view (told_of (ran l b)))) q p
 
-returns : tie.Need-returns
+pub returns : goal.returns
 returns c =
-    let c10 = c.before.before.before.before.before.before.before.before.before.before in
-    let x = c10.before.before.before.before.args in
-    let a = c.before.before.before.before.before.before.before.before.act.ensures in
-    let p = c.before.before.put-line.ensures in
+    let x = c.args in
+    let a = c.act-a.ensures in
+    let p = c.put_line.ensures in
     let s = says x.e x.l x.b.now _
-    c.before.before.before.before.before.before.before.before.act.result
-    c.before.before.before.before.before.before.before.before.before.before.nodes-in.ensures
-    c.before.before.before.before.handler.ensures c.before.before.before.printed-at.ensures a in
+    c.act-a.result
+    c.nodes_in-n.ensures
+    c.handler.ensures c.printed_at.ensures a in
     rw (sym s) (a.3, p.0, p.1)
-
-pub run-at-spec : {M : Type 1} → statement M
-run-at-spec =
-    tie.close
-    (tie.spec
-    nodes-in-requires
-    act-requires
-    handler-requires
-    printed-at-requires
-    put-line-requires
-    same_length
-    same-length-2
-    returns)
