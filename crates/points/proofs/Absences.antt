@@ -11,7 +11,7 @@ use Rattle.octets.proofs.Test.{true-false}
 use Rattle.view.specs.Size.{nodes}
 use Rattle.record.specs.declared.Operation.TheVariants.{Scan}
 use Rattle.step.specs.declared.Ending.TheVariants.{None}
-use Rattle.layout.specs.Layout.{cluster_size, stated, stopped, node}
+use Rattle.layout.specs.Layout.{cluster_size, stated, node}
 use Rattle.events.specs.Event as E
 use Rattle.outgoing.specs.declared.Extent.TheVariants.{Whole}
 use Rattle.history.specs.Message.{Entry, absent}
@@ -93,6 +93,10 @@ all-absent (x ∷ v) h = ap₂ (λ y l. y ∷ l) (h 0 (omega arith)) (all-absent
 
 absent-view : (n c : ℕ) (x : T.Fate) → EndsInKind n (T.scanning c) x → Finished x
     → ((w : ℕ) → OneTo n w → T.entry_at (T.scan_view x) w ≡ absent) → T.scan_view x ≡ replicate n absent
+absent-view n c T.unfinished long end each = elim end [ ]
+absent-view n c (T.ended k H.none) long end each = elim long [ ]
+absent-view n c (T.ended k (H.done _ _)) long end each = elim long [ ]
+absent-view n c (T.ended k H.spent) long end each = elim long [ ]
 absent-view n c (T.ended k (H.shown r v)) long end each = all-absent v
     (λ i h.
     let e : i ≡ suc i - 1 = omega arith in

@@ -1,6 +1,6 @@
 -- The begin of an operation on the channels of a cluster: it is judged as document 01 says, and lets one message out to
 -- every node.
-use Prim.Native.Nat.{ℕ, ◌+◌, ◌-◌, ◌*◌, ◌≤◌, ◌<◌}
+use Prim.Native.Nat.{ℕ, ◌+◌, ◌-◌, ◌≤◌, ◌<◌}
 use native.Mathlib.Omega.{arith}
 use mathlib.Core.Path.{◌≡◌, refl, ap, ◌∙◌}
 use mathlib.Core.Bool.{true, false}
@@ -10,7 +10,6 @@ use borrow.Author.Tests.{lt-ltb}
 use Rattle.octets.specs.Answer.{returned}
 use Rattle.octets.proofs.Test.{true-false}
 use Rattle.table.specs.Table.{cells}
-use Rattle.view.specs.Size.{nodes}
 use Rattle.view.specs.View.{no_view}
 use Rattle.wire.specs.declared.Message.TheVariants.{Read}
 use Rattle.table.specs.Loop.{count}
@@ -20,7 +19,6 @@ use Rattle.step.specs.declared.Step.{Step}
 use Rattle.step.specs.declared.Ending.TheVariants.{None}
 use Rattle.step.proofs.Waits.{begin-asks}
 use Rattle.region.specs.Channel.{capacity, count_of}
-use Rattle.region.specs.Record.{record_of}
 use Rattle.block.specs.Block.{record_in}
 use Rattle.outgoing.specs.Entries.{addressed, entries, go_to}
 use Rattle.outgoing.proofs.Laws.{entries-one, go_to-once, others-reach}

@@ -19,7 +19,7 @@ use Rattle.view.proofs.ViewBytes.{view-absent}
 use Rattle.wire.specs.Codec.{view_at}
 use Rattle.wire.specs.declared.Message.{Message}
 use Rattle.wire.specs.declared.Message.TheVariants.{Read, ReadAnswer, Write, WriteAnswer, Echo}
-use Rattle.record.specs.Usable.{is_open, full}
+use Rattle.record.specs.Usable.{is_open}
 use Rattle.record.specs.declared.Node.{Node}
 use Rattle.record.specs.declared.Wait.{Wait}
 use Rattle.record.specs.declared.Wait.TheVariants.{Idle, Reading, Writing, Comparing, Borrowing}
@@ -39,7 +39,7 @@ use Rattle.outgoing.proofs.Laws.{entries-two, go_to-append, go_to-once}
 use Rattle.react_bytes.proofs.Handling.{reacted}
 use Rattle.layout.specs.Layout.{stated, block, stopped, node, channel, on_block, faults_in}
 use Rattle.layout.proofs.Check.{is-size, sound-size, sound-channel}
-use Rattle.events.specs.Event.{Result, refuse, begin, deliver, settle}
+use Rattle.events.specs.Event.{Result, refuse, deliver, settle}
 use Rattle.outgoing.specs.declared.Extent.{Extent}
 use Rattle.outgoing.specs.declared.Extent.TheVariants.{Whole}
 use Rattle.outgoing.proofs.Judged.{heard-read}

@@ -15,7 +15,7 @@ use Rattle.octets.specs.Loop.{each}
 use Rattle.octets.specs.Test.{pick}
 use Rattle.octets.proofs.Put.{length-put}
 use Rattle.table.specs.Table.{cells}
-use Rattle.view.specs.Size.{is_size, nodes}
+use Rattle.view.specs.Size.{is_size}
 use Rattle.view.specs.View.{view_bytes}
 use Rattle.view.specs.declared.View.{View}
 use Rattle.wire.specs.Codec.{answer, after}

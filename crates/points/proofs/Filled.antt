@@ -25,7 +25,7 @@ use Rattle.record.specs.declared.Node.{Node}
 use Rattle.step.specs.Stale.{stale_message}
 use Rattle.region.specs.Channel.{capacity, count_of, first}
 use Rattle.outgoing.specs.Entries.{Entry, entry, go_to}
-use Rattle.layout.specs.Layout.{cluster_size, stated, channel}
+use Rattle.layout.specs.Layout.{cluster_size, stated, node, channel}
 use Rattle.events.specs.Event.{fresh_bytes}
 use Rattle.outgoing.specs.Outgoing.{let_out}
 use Rattle.history.specs.Message as M
@@ -172,7 +172,7 @@ module _ (n f : ℕ) (size : OneTo nodes n) (half : f + f < n) (d : ℕ) (at : O
         some = omega (arith, holds);
         size = reads.0;
         says = subst (λ k. front k slot ≡ returned (m, reads.0)) (sym shows.states) reads.1;
-        new = new _;
+        new = new (node b d);
         cut = λ h. true-false false h refl;
       };
       states = shows.states;

@@ -29,7 +29,6 @@ use Rattle.record.specs.declared.Operation.TheVariants.{Update}
 use Rattle.step.specs.declared.Ending.TheVariants.{None}
 use Rattle.step.specs.Told.{nothing}
 use Rattle.calls.specs.CallResult.{CallResult}
-use Rattle.calls.specs.Entry as N
 use Rattle.region.specs.Channel.{count_of}
 use Rattle.outgoing.specs.Entries.{go_to}
 use Rattle.layout.specs.Layout.{stated, stopped, node, channel}

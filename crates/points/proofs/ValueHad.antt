@@ -20,11 +20,9 @@ use Rattle.step.specs.React.{is_new, received, react}
 use Rattle.step.specs.declared.Step.{Step}
 use Rattle.step.specs.Allowed.{lawful}
 use Rattle.table.proofs.Entries.{put_entry-tag}
-use Rattle.outgoing.specs.Entries.{Entry}
 use Rattle.outgoing.specs.Outgoing.{is_cut}
 use Rattle.outgoing.specs.declared.Extent.{Extent}
 use Rattle.layout.specs.Layout.{node}
-use Rattle.events.specs.Event.{fresh}
 use Rattle.history.specs.Message as M
 use Rattle.history.specs.Order.{OneTo}
 use Rattle.algorithm.specs.Algorithm as A

@@ -40,7 +40,7 @@ use Rattle.outgoing.specs.Outgoing.{let_out, shortened, is_cut}
 use Rattle.outgoing.specs.declared.Extent.{Extent}
 use Rattle.outgoing.specs.declared.Extent.TheVariants.{Whole, Cut}
 use Rattle.outgoing.proofs.Laws.{entries-one, go_to-once, others-reach, others-miss, nothing-to}
-use Rattle.layout.specs.Layout.{cluster_size, stated, stopped, faults_in, node, channel, on_block}
+use Rattle.layout.specs.Layout.{cluster_size, stated, faults_in, node, channel, on_block}
 use Rattle.events.specs.Event.{fresh}
 use Rattle.history.specs.Message as M
 use Rattle.history.specs.Order.{OneTo}

@@ -2,7 +2,6 @@
 use Rattle.std.specs.Prelude.{ℕ, ◌+◌, ◌-◌, ◌≤◌, ◌<◌, ◌≡◌, true, false, List, eqb}
 use Rattle.octets.specs.Answer.{returned}
 use Rattle.octets.specs.Test.{pick, both}
-use Rattle.view.specs.Size.{nodes}
 use Rattle.view.specs.View.{view_of}
 use Rattle.wire.specs.Codec.{front, view_at}
 use Rattle.wire.specs.declared.Message.{Message}
