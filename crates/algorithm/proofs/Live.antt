@@ -47,6 +47,7 @@ Numbered ν (good t v) = Unit {0}
 not-both : (i : ℕ) (m : Message) → Meant i m → Others i m → ⊥
 not-both i (read_answer to q t) h o = o h
 not-both i (write_answer to q t) h o = o h
+not-both i _ h o = elim o [ ]
 
 module _ (n : ℕ) where
   -- What a message from node k has led to at the node that it was handed to.

@@ -36,6 +36,7 @@ abbrev pub whose : (b : ℕ) (m : Message) → Meant b m ⊎ Others b m
 whose b m = whose-by b (address m)
 
 not-both : (b : ℕ) (d : Address) → MeantBy b d → OthersBy b d → ⊥
+not-both b all h o = elim o [ ]
 not-both b (one to) h o = o h
 
 abbrev pub keep-by : {P Q : Type 0} → P ⊎ Q → Message → List Message → List Message

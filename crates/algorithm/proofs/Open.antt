@@ -2,7 +2,7 @@
 use Prim.Native.Nat.{ℕ, suc, ◌+◌, ◌≤◌, ◌<◌}
 use native.Mathlib.Omega.{arith}
 use mathlib.Core.Path.{refl, sym, subst}
-use mathlib.Core.Logic.{inl}
+use mathlib.Core.Logic.{inl, inr}
 use mathlib.Core.Bool.{false≢true}
 use mathlib.Core.List.Memᴰ
 use mathlib.Core.List.{◌∷◌}
@@ -22,6 +22,7 @@ rise-le (update p) round0 h = omega arith
 rise-le (update p) round1 h = omega arith
 rise-le (update p) round2 h = omega arith
 rise-le (update p) round3 h = omega arith
+rise-le scan round0 h = elim h [ ]
 rise-le scan round1 h = omega arith
 rise-le scan round2 h = omega arith
 rise-le scan round3 h = omega arith
@@ -67,6 +68,7 @@ module _ (n f : ℕ) (half : f + f < n) {out : Logs} {γ : Past} {i r : ℕ} {op
       old round1 v (inl m, x) = (inl m, x)
       old round2 v (inl m, x) = (inl m, x)
       old round3 v (inl m, x) = (inl m, x)
+      old _ v (inr h, x) = elim h [ ]
 
       have : (m : Message) → m ∈ (write (suc ν.request) t ∷ l)
           → Have n f out γ.base i r op (with_request_and_wait (suc ν.request) w ν) m

@@ -11,7 +11,7 @@ use Rattle.logs.specs.Log.{◌∈◌, ◌⊑◌, here, push, Each}
 use Rattle.logs.proofs.Log.{⊑_trans, placed, comparable, cons-or, before-it, each_at}
 use Rattle.history.specs.Message.{Value, of, read, read_answer, write, write_answer, echo, value}
 use Rattle.history.specs.Event.{Operation, update, scan, Round, round0, round1, round2, round3, none}
-use Rattle.algorithm.specs.Algorithm.{Nodes, Wait, reading, writing, Node, Step, with_wait, has, raise}
+use Rattle.algorithm.specs.Algorithm.{Nodes, Wait, reading, writing, Node, Step, with_wait, raise}
 use Rattle.algorithm.specs.Algorithm.{read_answered, write_answered}
 use Rattle.algorithm.proofs.Cert.{Log, Logs}
 use Rattle.algorithm.proofs.Local.{Past, Held, WriteDue, Due, Have, ReadBy, WroteBy, Writes, Local}

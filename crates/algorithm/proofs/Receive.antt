@@ -31,6 +31,7 @@ module _ (n f : ℕ) (half : f + f < n) where
   pending-newest out base i r (update p) (writing o round0 t s) u v e (inr (d, h)) =
       inr (subst (λ z. u.tag < z.tag) (sym e) (omega arith))
   pending-newest out base i r scan (writing o round0 t s) u v e x = absurd e
+  pending-newest out base i r _ _ u v e x = elim e [ ]
 
   module _ {out : Logs} {γ : Past} {i r : ℕ} {op : Operation} {ν : Node} {l : Log}
       (c : Local n f out γ i r op ν l) (k : ℕ) (v : Value) (at : (value v ∷ γ.got k) ⊑ out k)

@@ -46,11 +46,15 @@ has-to (x ∷ l) v e = go (or_cases (decide (same v x)) (has l v) e) (has-to l v
 
 pub has_of : {l : List Value} {v : Value} → v ∈ l → has l v ≡ true
 unfolding has
-has_of {l} {v} (Memᴰ.head {x} {xs} e) = or_left (decide (same v x)) (has xs v) ((decide_iff (same v x)).1 e)
-has_of {l} {v} (Memᴰ.tail {x} {xs} m) = or_right (decide (same v x)) (has xs v) (has_of m)
+has_of {v} m = go m
+  where
+    go : {l : List Value} → v ∈ l → has l v ≡ true
+    go (Memᴰ.head {x} {xs} e) = or_left (decide (same v x)) (has xs v) ((decide_iff (same v x)).1 e)
+    go (Memᴰ.tail {x} {xs} m) = or_right (decide (same v x)) (has xs v) (go m)
 
 pub included_up_to-to : (t : ℕ) (a b : List Value) → included_up_to t a b ≡ true → (v : Value) → v ∈ a → v.tag ≤ t → v ∈ b
 unfolding included_up_to
+included_up_to-to t [] b e v i h = elim i [ ]
 included_up_to-to t (x ∷ a) b e v (Memᴰ.head d) h =
     let (p, q) = and_both (cond (decide (dec_le x.tag t)) (has b x) true) (included_up_to t a b) e in
     let low : x.tag ≤ t = subst (λ z. z.tag ≤ t) d h in

@@ -11,7 +11,6 @@ use Rattle.algorithm.proofs.Cert.{Log, Logs}
 use Rattle.algorithm.proofs.Local.{Past}
 use Rattle.algorithm.proofs.Meant.{Meant, Others}
 use Rattle.algorithm.proofs.Change.{handing}
-use Rattle.algorithm.proofs.Turn
 use Rattle.algorithm.proofs.Read.{read_tag}
 
 -- A node with all that the proof remembers of it: what it has sent, what it was handed, its last operation, and the tag

@@ -135,6 +135,7 @@ module _ (n f : ℕ) {out : Logs} {γ : Past} {i r : ℕ} {op : Operation} {ν :
       answer : (y : Message) → Others i y → Took k ν y
       answer (read_answer to q t) o = tt
       answer (write_answer to q t) o = tt
+      answer _ o = elim o [ ]
 
       new : (y : Message) → y ∈ p → Took k ν y
       new y e = elim (others y e) [ inl h ↦ c.took k y h | inr o ↦ answer y o ]

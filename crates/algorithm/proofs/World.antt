@@ -47,6 +47,7 @@ module _ (n f : ℕ) where
   ended-up up base i r (update p) spent x = tt
   ended-up up base i r scan (shown rule view) (T, A, x) =
       (T, A, record { is = x.is; cert = carry up x.cert; covers = x.covers })
+  ended-up up base i r _ _ x = elim x [ ]
 
   -- The invariant with another site for node i, which has sent more.
   pub commit : {σ : Sites} → Inv σ → (i : ℕ) (s : Site) → (σ i).log ⊑ s.log

@@ -9,7 +9,7 @@ use Rattle.logs.proofs.Count.{meet}
 use Rattle.logs.specs.Log.{◌∈◌, here}
 use Rattle.logs.proofs.Log.{mem_up, ⊑-cons}
 use Rattle.history.specs.Message.{Value, value}
-use Rattle.history.specs.Event.{Operation, update, Round, round0}
+use Rattle.history.specs.Event.{Operation, update, Round, round0, scan}
 use Rattle.algorithm.specs.Algorithm.{Nodes, Wait, idle, reading, writing, comparing, borrowing, Node, still}
 use Rattle.algorithm.specs.Algorithm.{with_wait, quorum?, write_pass}
 use Rattle.algorithm.proofs.Cert.{Log, Logs}
@@ -23,6 +23,7 @@ module _ (n f : ℕ) (half : f + f < n) where
       (many : n - f ≤ count s n) where
     back : (op : Operation) (a : Log) (v : Value) → (value v ∈ a → v ∈ ν.all) → Own i r op v → Held i r op a
         → v ∈ ν.all
+    back scan a v got e h = elim e [ ]
     back (update p) a v got e h = got (subst (λ z. value z ∈ a) (sym e) h)
 
     written : (rnd : Round) → Local n f out γ i r op (with_wait (writing o rnd t s) ν) l
@@ -51,6 +52,7 @@ module _ (n f : ℕ) (half : f + f < n) where
             let (k, lo, hi, y, z) = meet n f half s s many many in
             let (a, wrote) = c.phase.1.counted k y in
             back op a v (λ m. (c.took k (value v) (mem_up wrote.sits m)).1) e wrote.has
+        known _ c v (inr e) = elim e [ ]
 
   pub write-pass : {out : Logs} {γ : Past} {i r : ℕ} {op : Operation} {l : Log} (ν : Node) (w : Wait)
       → Local n f out γ i r op (with_wait w ν) l → Fine n f out γ i r op l (write_pass n f (with_wait w ν) w)

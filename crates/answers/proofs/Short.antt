@@ -1,8 +1,7 @@
 -- Every line that is printed fits in its room.
-use Prim.Native.Nat.{ℕ, zero, suc, ◌+◌, ◌*◌, ◌/◌, ◌≤◌, min}
-use mathlib.Core.Path.{◌≡◌, refl, ap, ◌∙◌}
+use Prim.Native.Nat.{ℕ, zero, suc, ◌*◌, ◌≤◌, min}
 use mathlib.Core.Bool.{Bool, true, false}
-use mathlib.Core.List.{List, [], ◌∷◌, ◌++◌}
+use mathlib.Core.List.{List, [], ◌∷◌}
 use native.Mathlib.Omega.{arith}
 use lib.ListN.{length, length-append}
 use lib.Dec.{eqb}
@@ -11,11 +10,10 @@ use Rattle.octets.specs.Bytes.{be}
 use Rattle.octets.specs.Loop.{join}
 use Rattle.view.specs.Size.{nodes, report_size}
 use Rattle.view.specs.declared.View.{View}
-use Rattle.digits.specs.Decimal.{decimal}
 use Rattle.digits.specs.Hex.{hex_text}
 use Rattle.digits.proofs.DecimalBack.{length-decimal}
 use Rattle.digits.proofs.HexBack.{length-text}
-use Rattle.answers.specs.Answer.{done_is, scan_is, spent_is, no_is, start, entry, entry_at, entries, feed, line, room}
+use Rattle.answers.specs.Answer.{done_is, scan_is, spent_is, no_is, start, entry, entry_at, entries, line, room}
 use Rattle.answers.specs.Answer.{word_room, start_room, entry_room}
 use Rattle.answers.specs.declared.Printed.{Printed}
 use Rattle.answers.specs.declared.Printed.TheVariants.{Done, Scan, Spent, No, Nothing}

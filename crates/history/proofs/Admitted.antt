@@ -33,6 +33,7 @@ each : (P : ℕ → Type 0) → P 0 → P 2 → P 4 → (t : ℕ) → t ∈ line
 each P a b c t (Memᴰ.head e) = subst P (sym e) a
 each P a b c t (Memᴰ.tail (Memᴰ.head e)) = subst P (sym e) b
 each P a b c t (Memᴰ.tail (Memᴰ.tail (Memᴰ.head e))) = subst P (sym e) c
+each P a b c t (Memᴰ.tail (Memᴰ.tail (Memᴰ.tail h))) = elim h [ ]
 
 story-once : Once line
 story-once = (first, (second, (λ i. Memᴰ.not-nil i, tt)))
@@ -40,9 +41,11 @@ story-once = (first, (second, (λ i. Memᴰ.not-nil i, tt)))
     first : ¬ ◌∈◌ {A = ℕ} 0 (2 ∷ 4 ∷ [])
     first (Memᴰ.head e) = omega (arith, e)
     first (Memᴰ.tail (Memᴰ.head e)) = omega (arith, e)
+    first (Memᴰ.tail (Memᴰ.tail h)) = elim h [ ]
 
     second : ¬ ◌∈◌ {A = ℕ} 2 (4 ∷ [])
     second (Memᴰ.head e) = omega (arith, e)
+    second (Memᴰ.tail h) = elim h [ ]
 
 story-kinds : (t : ℕ) → EndsInKind 3 (begun story t) (fate story t)
 unfolding first_ending ℕ_discrete decide
@@ -59,17 +62,6 @@ placed : (t : ℕ) → t ∈ line → Placed story t
 unfolding first_ending tags_sent own_tags largest first_above ℕ_discrete dec_lt decide
 placed = each (Placed story) tt (4, record { scan = tt; finished = tt; tagged = omega arith; entry = refl }) tt
 
-stands : (t : ℕ) → Placed story t → t ∈ line
-unfolding first_ending tags_sent own_tags largest first_above ℕ_discrete dec_lt decide
-stands zero h = Memᴰ.head refl
-stands (suc zero) h = absurd h
-stands (suc (suc zero)) h = Memᴰ.tail (Memᴰ.head refl)
-stands (suc (suc (suc zero))) h = absurd h
-stands (suc (suc (suc (suc zero)))) h = Memᴰ.tail (Memᴰ.tail (Memᴰ.head refl))
-stands (suc (suc (suc (suc (suc zero))))) h = absurd h
-stands (suc (suc (suc (suc (suc (suc zero)))))) (s, h) = absurd (omega (arith, h.tagged))
-stands (suc (suc (suc (suc (suc (suc (suc t))))))) h = absurd h
-
 story-tagged : (t : ℕ) → t ∈ line → (c p : ℕ) → begun story t ≡ updating c p → 0 < tag_at story t c
 unfolding first_ending tags_sent own_tags largest first_above ℕ_discrete dec_lt decide
 story-tagged = each (λ t. (c p : ℕ) → begun story t ≡ updating c p → 0 < tag_at story t c)
@@ -80,22 +72,6 @@ story-tagged = each (λ t. (c p : ℕ) → begun story t ≡ updating c p → 0 
 abbrev Legal : ℕ → Type 0
 Legal s = IsScan (begun story s) → (w : ℕ) → OneTo 3 w
     → entry_at (scan_view (fate story s)) w ≡ written story w (before ℕ_discrete s line) absent
-
-first-legal : Legal 0
-unfolding first_ending written before ℕ_discrete decide
-first-legal h zero (low, high) = absurd (omega arith)
-first-legal h (suc zero) one = refl
-first-legal h (suc (suc zero)) one = refl
-first-legal h (suc (suc (suc zero))) one = refl
-first-legal h (suc (suc (suc (suc w)))) (low, high) = absurd (omega arith)
-
-second-legal : Legal 4
-unfolding first_ending tags_sent own_tags largest first_above written before ℕ_discrete dec_lt decide
-second-legal h zero (low, high) = absurd (omega arith)
-second-legal h (suc zero) one = refl
-second-legal h (suc (suc zero)) one = refl
-second-legal h (suc (suc (suc zero))) one = refl
-second-legal h (suc (suc (suc (suc w)))) (low, high) = absurd (omega arith)
 
 abbrev Timely : ℕ → ℕ → Type 0
 Timely a b = EndedBefore (fate story a) b → a ∈ before ℕ_discrete b line
@@ -108,6 +84,7 @@ timely = each (λ a. (b : ℕ) → b ∈ line → Timely a b)
     (each (Timely 4) (λ h. absurd (omega (arith, h))) (λ h. absurd (omega (arith, h))) (λ h. absurd (omega (arith, h))))
 
 pub story-ordered : SingleOrder 3 story
+unfolding first_ending tags_sent own_tags largest first_above written before ℕ_discrete dec_lt decide
 story-ordered = record {
   kinds = story-kinds;
   line = line;
@@ -117,6 +94,30 @@ story-ordered = record {
   legal = each Legal first-legal (λ h. absurd h) second-legal;
   timely = λ a b i j. timely a i b j;
 }
+  where
+    stands : (t : ℕ) → Placed story t → t ∈ line
+    stands zero h = Memᴰ.head refl
+    stands (suc zero) h = absurd h
+    stands (suc (suc zero)) h = Memᴰ.tail (Memᴰ.head refl)
+    stands (suc (suc (suc zero))) h = absurd h
+    stands (suc (suc (suc (suc zero)))) h = Memᴰ.tail (Memᴰ.tail (Memᴰ.head refl))
+    stands (suc (suc (suc (suc (suc zero))))) h = absurd h
+    stands (suc (suc (suc (suc (suc (suc zero)))))) (s, h) = absurd (omega (arith, h.tagged))
+    stands (suc (suc (suc (suc (suc (suc (suc t))))))) h = absurd h
+
+    first-legal : Legal 0
+    first-legal h zero (low, high) = absurd (omega arith)
+    first-legal h (suc zero) one = refl
+    first-legal h (suc (suc zero)) one = refl
+    first-legal h (suc (suc (suc zero))) one = refl
+    first-legal h (suc (suc (suc (suc w)))) (low, high) = absurd (omega arith)
+
+    second-legal : Legal 4
+    second-legal h zero (low, high) = absurd (omega arith)
+    second-legal h (suc zero) one = refl
+    second-legal h (suc (suc zero)) one = refl
+    second-legal h (suc (suc (suc zero))) one = refl
+    second-legal h (suc (suc (suc (suc w)))) (low, high) = absurd (omega arith)
 
 -- Node 2 lets a read out to node 1 and stops. It waits, so that the scan of node 1 may be open.
 abbrev waited : Trace

@@ -45,6 +45,7 @@ module _ (tr : Trace) (w : ℕ) where
   pub written_last : {u : ℕ} (p : ℕ) → begun tr u ≡ updating w p → (l : List ℕ) (old : Entry) → Last (UpdateOf tr w) u l
       → written tr w l old ≡ record { tag = tag_at tr u w; report = p }
   unfolding written
+  written_last p is [] old h = elim h [ ]
   written_last p is (t ∷ l) old (later m) = written_last p is l (writes_by tr t w (begun tr t) old) m
   written_last {u} p is (t ∷ l) old (here e q rest) =
       written_none l (writes_by tr t w (begun tr t) old) rest
@@ -79,6 +80,7 @@ module _ (tr : Trace) (w : ℕ) (tagged : (u p : ℕ) → begun tr u ≡ updatin
   pub update-written : {u : ℕ} (p : ℕ) → begun tr u ≡ updating w p → (l : List ℕ) (old : Entry) → u ∈ l
       → 0 < (written tr w l old).tag
   unfolding written
+  update-written p e [] old h = elim h [ ]
   update-written p e (t ∷ l) old (Memᴰ.head h) = written-some l (writes_by tr t w (begun tr t) old)
       (update-writes t p old (subst (λ x. begun tr x ≡ updating w p) h e))
   update-written p e (t ∷ l) old (Memᴰ.tail i) = update-written p e l (writes_by tr t w (begun tr t) old) i

@@ -24,8 +24,11 @@ module _ {ℓ} {A : Type ℓ} where
   -- Of two earlier states of one log, one is earlier.
   pub comparable : {a b c : List A} → a ⊑ c → b ⊑ c → (a ⊑ b) ⊎ (b ⊑ a)
   comparable here q = inr q
-  comparable (more p) here = inl (more p)
-  comparable (more p) (more q) = comparable p q
+  comparable {a} {b = e} (more {x} {m} p) q = go q (λ b. comparable {b = b} p)
+    where
+      go : {b : List A} → b ⊑ (x ∷ m) → ((d : List A) → d ⊑ m → (a ⊑ d) ⊎ (d ⊑ a)) → (a ⊑ b) ⊎ (b ⊑ a)
+      go here h = inl (more p)
+      go (more q) h = h _ q
 
   -- Of two earlier states of one log, what has not a member of the other is the earlier one.
   pub earlier : {x : A} {a b c : List A} → a ⊑ c → b ⊑ c → x ∈ b → ¬ (x ∈ a) → a ⊑ b

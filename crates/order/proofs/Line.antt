@@ -21,6 +21,7 @@ largest f (x ∷ l) = max (f x) (largest f l)
 
 largest-above : {A : Type 0} (f : A → ℕ) {a : A} (l : List A) → a ∈ l → f a ≤ largest f l
 unfolding largest
+largest-above f [] h = elim h [ ]
 largest-above f (x ∷ l) (Memᴰ.head e) = omega (arith, ap f e)
 largest-above f (x ∷ l) (Memᴰ.tail i) = omega (arith, largest-above f l i)
 

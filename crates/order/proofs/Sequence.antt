@@ -13,6 +13,7 @@ module _ {A : Type 0} (same : Discrete A) where
   before-in {a} x (y ∷ l) m = go (same y x) (before-in x l) m
     where
       go : (d : Dec (y ≡ x)) → (a ∈ before same x l → a ∈ l) → a ∈ ite d [] (y ∷ before same x l) → a ∈ (y ∷ l)
+      go (yes _) rest h = elim h [ ]
       go (no e) rest (Memᴰ.head p) = Memᴰ.head p
       go (no e) rest (Memᴰ.tail p) = Memᴰ.tail (rest p)
 
@@ -28,10 +29,13 @@ module _ {A : Type 0} (same : Discrete A) where
   -- Of two items not each stands before the other.
   pub before-asym : {a b : A} (l : List A) → a ∈ before same b l → ¬ (b ∈ before same a l)
   unfolding before
+  before-asym [] m n = elim m [ ]
   before-asym {a} {b} (y ∷ l) m n = go (same y b) (same y a) (before-asym l) m n
     where
       go : (d : Dec (y ≡ b)) (e : Dec (y ≡ a)) → (a ∈ before same b l → ¬ (b ∈ before same a l))
           → a ∈ ite d [] (y ∷ before same b l) → ¬ (b ∈ ite e [] (y ∷ before same a l))
+      go (no d) (yes _) rest _ q = elim q [ ]
+      go (yes _) e rest h q = elim h [ ]
       go (no d) (no e) rest (Memᴰ.head p) q = e (sym p)
       go (no d) (no e) rest (Memᴰ.tail p) (Memᴰ.head q) = d (sym q)
       go (no d) (no e) rest (Memᴰ.tail p) (Memᴰ.tail q) = rest p q
@@ -40,11 +44,13 @@ module _ {A : Type 0} (same : Discrete A) where
   pub before-within : {a u : A} (s : A) (l : List A) → u ∈ before same s l → a ∈ before same u l
       → a ∈ before same u (before same s l)
   unfolding before
+  before-within s [] m n = elim m [ ]
   before-within {a} {u} s (y ∷ l) m n = go (same y s) (before-within s l) m n
     where
       under : (e : Dec (y ≡ u)) → (u ∈ before same s l → a ∈ before same u l → a ∈ before same u (before same s l))
           → u ∈ (y ∷ before same s l) → a ∈ ite e [] (y ∷ before same u l)
           → a ∈ ite e [] (y ∷ before same u (before same s l))
+      under (yes _) rest _ q = elim q [ ]
       under (no e) rest (Memᴰ.head p) q = absurd (e (sym p))
       under (no e) rest (Memᴰ.tail p) (Memᴰ.head q) = Memᴰ.head q
       under (no e) rest (Memᴰ.tail p) (Memᴰ.tail q) = Memᴰ.tail (rest p q)
@@ -53,6 +59,7 @@ module _ {A : Type 0} (same : Discrete A) where
           → (u ∈ before same s l → a ∈ before same u l → a ∈ before same u (before same s l))
           → u ∈ ite d [] (y ∷ before same s l) → a ∈ ite (same y u) [] (y ∷ before same u l)
           → a ∈ before same u (ite d [] (y ∷ before same s l))
+      go (yes _) rest p q = elim p [ ]
       go (no d) rest p q = under (same y u) rest p q
 
   -- Standing before is transitive.
@@ -63,10 +70,12 @@ module _ {A : Type 0} (same : Discrete A) where
   pub last_of : {P : A → Type 0} {u : A} (l : List A) → u ∈ l → P u → Once l
       → ((v : A) → v ∈ l → P v → (v ≡ u) ⊎ (v ∈ before same u l)) → Last P u l
   unfolding before
+  last_of [] m p _ others = elim m [ ]
   last_of {P} {u} (y ∷ l) m p (new, once) others = go (same y u) (last_of l) m others
     where
       gone : (v : A) → v ∈ l → y ≡ u → (v ≡ u) ⊎ (v ∈ []) → ⊥
       gone v j e (inl h) = new (subst (λ z. z ∈ l) (h ∙ sym e) j)
+      gone v j e (inr h) = elim h [ ]
 
       left : (v : A) → v ∈ l → (v ≡ u) ⊎ (v ∈ (y ∷ before same u l)) → (v ≡ u) ⊎ (v ∈ before same u l)
       left v j (inl h) = inl h

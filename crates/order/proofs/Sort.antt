@@ -34,6 +34,7 @@ module _ {A : Type 0} (R : A → A → Type 0) (o : Strict R) where
   insert-from : {a b : A} (l : List A) → b ∈ insert a l → (b ≡ a) ⊎ (b ∈ l)
   unfolding insert
   insert-from [] (Memᴰ.head e) = inl e
+  insert-from [] (Memᴰ.tail h) = elim h [ ]
   insert-from {a} {b} (x ∷ l) m = go (o.dec x a) (insert-from l) m
     where
       up : (b ≡ a) ⊎ (b ∈ l) → (b ≡ a) ⊎ (b ∈ (x ∷ l))
@@ -58,6 +59,7 @@ module _ {A : Type 0} (R : A → A → Type 0) (o : Strict R) where
 
   insert-old : (a : A) {b : A} (l : List A) → b ∈ l → b ∈ insert a l
   unfolding insert
+  insert-old a [] m = elim m [ ]
   insert-old a {b} (x ∷ l) m = go (o.dec x a) (insert-old a l) m
     where
       go : {P : Type 0} (d : Dec P) → (b ∈ l → b ∈ insert a l) → b ∈ (x ∷ l) → b ∈ place d a x l (insert a l)
@@ -124,6 +126,7 @@ module _ {A : Type 0} (R : A → A → Type 0) (o : Strict R) where
   pub sorted-ahead : (same : Discrete A) {a b : A} (l : List A) → Sorted R l → a ∈ l → b ∈ l → R a b
       → a ∈ before same b l
   unfolding before
+  sorted-ahead same [] _ i j r = elim i [ ]
   sorted-ahead same {a} {b} (x ∷ l) (late, s) i j r = go (same x b) (sorted-ahead same l s) i j
     where
       go : (d : Dec (x ≡ b)) → (a ∈ l → b ∈ l → R a b → a ∈ before same b l) → a ∈ (x ∷ l) → b ∈ (x ∷ l)

@@ -1,5 +1,4 @@
 -- `rounds_value::after_failed` meets its contract. Assumes nothing.
-use borrow.Author.Rules.{rules}
 use borrow.Author.Tests.{lt-ltb, le-ltb}
 use Rattle.step.specs.Move.{after_failed}
 use Rattle.rounds_value.proofs.after_failed.Goals as goal

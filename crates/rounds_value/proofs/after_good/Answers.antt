@@ -1,5 +1,4 @@
 -- `rounds_value::after_good` meets its contract. Assumes nothing.
-use borrow.Author.Rules.{rules}
 use borrow.Author.Tests.{eq-eqb, ne_eqb}
 use Rattle.step.specs.Move.{after_good}
 use Rattle.rounds_value.proofs.after_good.Goals as goal
@@ -25,6 +24,6 @@ returns c =
       c.ended_step.ensures,
       c.after_comparing-told.ensures,
       c.closed_node.ensures,
-      c.Ending-of.ensures,
+      c.ending_of.ensures,
       c.first_of-held.ensures,
     )

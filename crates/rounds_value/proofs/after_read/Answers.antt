@@ -1,5 +1,4 @@
 -- `rounds_value::after_read` meets its contract. Assumes nothing.
-use borrow.Author.Rules.{rules}
 use borrow.Author.Tests.{eq-eqb, ne_eqb}
 use Rattle.step.specs.Move.{after_read}
 use Rattle.rounds_value.proofs.after_read.Goals as goal

@@ -1,5 +1,4 @@
 -- `rounds_value::opened_node` meets its contract. Assumes nothing.
-use borrow.Author.Rules.{rules}
 use Rattle.step.specs.Move.{opened}
 use Rattle.rounds_value.proofs.opened_node.Goals as goal
 
