@@ -1,6 +1,6 @@
 /* The calls of the proved atomic snapshot, for C99 and C++: all that an engineer of a cabinet's firmware has to know.
- * They are those of crates/snapshot/src/lib.rt, in the archive that `rt staticlib snapshot` writes:
- * target/staticlib/libsnapshot.a, for x86-64 Linux (System V calling convention). README.md has a first program.
+ * They are those of crates/snapshot/src/lib.rt, in the archive that `rt lib --cpu x86-64` in crates/snapshot writes:
+ * crates/snapshot/out/libsnapshot.a, for x86-64 Linux (System V calling convention). README.md has a first program.
  *
  * In this file a node is document 01's cabinet, a cluster its house, a channel its trunk, a tag its stamp, a scan its
  * look.

@@ -1,11 +1,11 @@
-// Links the proved code, which `rt staticlib snapshot` has written. SNAPSHOT_LIB names another folder, by its full
-// path.
+// Links the proved code, which `rt lib --cpu x86-64` in crates/snapshot has written. SNAPSHOT_LIB names another folder,
+// by its full path.
 fn main() {
-    let written = concat!(env!("CARGO_MANIFEST_DIR"), "/../target/staticlib");
+    let written = concat!(env!("CARGO_MANIFEST_DIR"), "/../crates/snapshot/out");
     let folder = std::env::var("SNAPSHOT_LIB").unwrap_or_else(|_| written.to_string());
     if !std::path::Path::new(&folder).join("libsnapshot.a").exists() {
         println!(
-            "cargo:warning=no libsnapshot.a in {folder}: write it by `rt staticlib snapshot`, or set SNAPSHOT_LIB"
+            "cargo:warning={folder} has no libsnapshot.a: `rt lib --cpu x86-64` in crates/snapshot, or set SNAPSHOT_LIB"
         );
     }
     println!("cargo:rustc-link-search=native={folder}");

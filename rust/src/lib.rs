@@ -1,7 +1,7 @@
 //! The proved atomic snapshot for Rust: an exchange of up to sixteen nodes posts reports, and a scan shows all of them
 //! together, never one node's present with another's past, although messages arrive in any order and some nodes may
 //! stop for good. What is proved, and of what, is in the project's README; this crate calls that code, which
-//! `rt staticlib snapshot` builds, and needs no `unsafe` of its users.
+//! `rt lib --cpu x86-64` in `crates/snapshot` builds, and needs no `unsafe` of its users.
 //!
 //! - [`Node`] is one node, for nodes that are apart: the caller's links carry the messages of its [`Output`].
 //! - [`Cluster`] is all nodes and the channels between them in one run of bytes.

@@ -6,47 +6,58 @@
 ghost use Rattle.std.specs.Prelude.{◌≤◌, length};
 ghost use Rattle.session_progress.specs.Progress.{text_size};
 
-use libc::{STDIN_FILENO, STDOUT_FILENO};
 use session::{MEMORY, PIECE, TEXT};
+use std::io::{Read, Stdin, Stdout, Write};
 
 // Prints the front of a buffer.
-fn print_front(out: &[u8], end: usize)
+fn print_front(to: &mut Stdout, out: &[u8], end: usize)
     requires { end ≤ length out.now }
 {
-    io::write_all(STDOUT_FILENO, &out[0..end]);
+    let _ = to.write_all(&out[0..end]);
 }
 
-fn print(out: &[u8; TEXT], end: usize)
+fn print(to: &mut Stdout, out: &[u8; TEXT], end: usize)
     requires { end ≤ text_size }
 {
-    print_front(out, end);
+    print_front(to, out, end);
 }
 
 // A proved loop has to end, and nothing says that the input does. So the reads are counted down, from a number that no
 // run uses up.
-fn run_all(m: &mut [u8; MEMORY], piece: &mut [u8; PIECE], out: &mut [u8; TEXT]) {
+fn run_all(
+    from: &mut Stdin,
+    to: &mut Stdout,
+    m: &mut [u8; MEMORY],
+    piece: &mut [u8; PIECE],
+    out: &mut [u8; TEXT],
+) {
     let mut now = session::start();
     let mut turns = u64::MAX;
     while turns > 0 {
-        let got = libc::read(STDIN_FILENO, piece);
-        let count = io::count(got, piece);
+        let count = from.read(piece).unwrap_or(0);
         let t = session::read(m, now, piece, count, out);
-        print(out, t.end);
+        print(to, out, t.end);
         let next = t.progress;
         now = next;
-        if got <= 0 || session::is_over(now) {
+        if count == 0 || session::is_over(now) {
             turns = 0;
         } else {
             turns -= 1;
         }
     }
     let end = session::finish(now, out);
-    print(out, end);
+    print(to, out, end);
 }
 
-fn main() {
+fn main(rt: HostRuntime) {
     let mut memory = [0u8; MEMORY];
     let mut piece = [0u8; PIECE];
     let mut out = [0u8; TEXT];
-    run_all(&mut memory, &mut piece, &mut out);
+    run_all(
+        &mut rt.stdin(),
+        &mut rt.stdout(),
+        &mut memory,
+        &mut piece,
+        &mut out,
+    );
 }

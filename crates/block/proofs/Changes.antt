@@ -1,19 +1,16 @@
 -- What a block says after each of its changes, at the place changed and at the others.
-use Prim.Native.Nat.{ℕ, zero, suc, ◌+◌, ◌-◌, ◌*◌, ◌<◌, ◌≤◌}
+use Prim.Native.Nat.{ℕ, zero, suc, ◌+◌, ◌≤◌}
 use native.Mathlib.Omega.{arith}
-use native.Mathlib.Numerals.{add-one}
-use native.Mathlib.Decide.{ℕ_discrete}
 use mathlib.Core.Path.{◌≡◌, refl, sym, ap, ◌∙◌}
 use mathlib.Core.Bool.{Bool, true, false}
-use mathlib.Core.List.{List, []}
+use mathlib.Core.List.{List}
 use lib.ListN.{length, get_or, set, length-set}
 use lib.Seq.{get_or-set_same}
 use lib.Dec.{ltb}
-use borrow.Author.Tests.{lt-ltb}
 use Rattle.octets.specs.Test.{pick}
 use Rattle.octets.specs.Bytes.{part, put}
 use Rattle.octets.specs.Loop.{up_to}
-use Rattle.octets.proofs.Put.{part-other, part_same, get_d-other, length-put, length_part, put_one, put-over}
+use Rattle.octets.proofs.Put.{part-other, part_same, get_d-other, length-put, length_part, put-over}
 use Rattle.view.specs.Size.{nodes}
 use Rattle.table.specs.Table.{cells}
 use Rattle.record.specs.declared.Node.{Node}

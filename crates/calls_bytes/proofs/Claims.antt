@@ -31,8 +31,7 @@ use Rattle.calls.proofs.Rooms.{Fit, begin-fit, message-fit}
 use Rattle.emit.proofs.Runs.{room_of}
 use Rattle.region.specs.Record.{record_size, record_of, codes_known}
 use Rattle.region.proofs.Back.{sized_of}
-use Rattle.calls_bytes.specs.Entry.{LentResult, accepted, fits, usable_in, in_bytes, at_record, fresh, begin}
-use Rattle.calls_bytes.specs.Entry.{message}
+use Rattle.calls_bytes.specs.Entry.{LentResult, accepted, fits, usable_in, in_bytes, at_record, fresh}
 use Rattle.calls_bytes.specs.Frame.{frame_most, frame_output, is_whole, or_refused, one_by_one, frame}
 use Rattle.calls_bytes.specs.Walk.{Piece, walk, pieces_of}
 use Rattle.calls_bytes.specs.Claims as claim

@@ -1,10 +1,9 @@
 -- What a cluster's bytes say after a change of one block, in that block and in the others.
-use Prim.Native.Nat.{ℕ, ◌+◌, ◌-◌, ◌*◌, ◌%◌, ◌<◌, ◌≤◌}
+use Prim.Native.Nat.{ℕ, ◌≤◌}
 use native.Mathlib.Omega.{arith}
-use mathlib.Core.Path.{◌≡◌, refl, sym, ap, ◌∙◌}
+use mathlib.Core.Path.{◌≡◌}
 use mathlib.Core.List.{List}
-use lib.ListN.{length, get_or}
-use Rattle.octets.specs.Bytes.{part, put}
+use lib.ListN.{length}
 use Rattle.octets.proofs.Put.{part-other, part_same, get_d-other, length-put, length_part}
 use Rattle.view.specs.Size.{nodes}
 use Rattle.region.specs.Channel.{channel_size, slot_size, slot_at, oldest, first}

@@ -7,7 +7,6 @@ use Rattle.view.specs.Size.{is_size}
 use Rattle.table.specs.Loop.{all, count}
 use Rattle.table.specs.Quorum.{can_be}
 use Rattle.record.specs.declared.Node.{Node}
-use Rattle.region.specs.Channel.{count_of}
 use Rattle.block.specs.Block.{block_size, has_stopped, node_in, channel_in, change, block_sound}
 
 -- Where n and f are stated and where the blocks stand; the bytes of a cluster of n nodes, and what the library states

@@ -1,7 +1,6 @@
 -- Laws of entries: their number, the first of them, and how many go to a node.
 use Prim.Native.Nat.{ℕ, zero, suc, ◌+◌, ◌-◌, ◌*◌, ◌<◌, ◌≤◌, min}
 use native.Mathlib.Omega.{arith}
-use native.Mathlib.Numerals.{add-one}
 use native.Mathlib.Decide.{dec_le}
 use native.Mathlib.Nat.{lt_of_not-le, le_of_suc-le-suc, eq-or-lt_of_le, not-suc-le-zero}
 use mathlib.Core.Logic.{⊎_elim}
@@ -18,7 +17,7 @@ use Rattle.table.specs.Loop.{numbered}
 use Rattle.table.proofs.Laws.{length-numbered}
 use Rattle.view.specs.declared.View.{View}
 use Rattle.wire.specs.declared.Message.{Message}
-use Rattle.step.specs.Step.{listed, messages}
+use Rattle.step.specs.Step.{listed}
 use Rattle.step.specs.declared.Sent.{Sent}
 use Rattle.step.specs.declared.Sent.TheVariants.{Nothing, One, Two}
 use Rattle.step.specs.declared.Outbox.{Outbox}

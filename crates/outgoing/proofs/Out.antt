@@ -3,11 +3,11 @@ use Prim.Native.Nat.{ℕ, zero, suc, ◌+◌, ◌-◌, ◌<◌, ◌≤◌, min}
 use native.Mathlib.Omega.{arith}
 use native.Mathlib.Numerals.{add-one}
 use mathlib.Core.Path.{◌≡◌, refl, sym, ap, ap₂, ◌∙◌}
-use mathlib.Core.Bool.{Bool, true, false}
+use mathlib.Core.Bool.{true, false}
 use mathlib.Core.List.{List, [], ◌∷◌, ◌++◌}
 use lib.ListN.{length, take}
 use lib.Seq.{take_all}
-use Rattle.octets.specs.Loop.{up_to, each}
+use Rattle.octets.specs.Loop.{up_to}
 use Rattle.octets.proofs.Loop.{up_to-none, up_to-more, each_none, each-one, each_append}
 use Rattle.octets.proofs.Lent.{take-append}
 use Rattle.view.specs.Size.{nodes}
@@ -19,7 +19,7 @@ use Rattle.step.specs.Step.{listed}
 use Rattle.step.specs.declared.Outbox.{Outbox}
 use Rattle.block.specs.Block.{receive}
 use Rattle.outgoing.specs.Entries.{Entry, entry, is_answer, addressed, entries_of, entries, slot}
-use Rattle.outgoing.proofs.Laws.{entries-one, entries-two, entries-three, entries-most, cut-numbered, left_both}
+use Rattle.outgoing.proofs.Laws.{entries-two, entries-three, entries-most, cut-numbered, left_both}
 use Rattle.layout.specs.Layout.{on_block}
 use Rattle.outgoing.specs.declared.Extent.{Extent}
 use Rattle.outgoing.specs.declared.Extent.TheVariants.{Whole, Cut}

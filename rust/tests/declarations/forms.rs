@@ -5,11 +5,11 @@ use super::*;
 const RATTLE: &str = r#"
 // A comment.
 use view::REPORT;
-ghost use Rattle·codes.specs.Code.{lent, wrote};
+ghost use Rattle.codes.specs.Code.{lent, Wrote};
 
-#[no_mangle]
+#[unsafe(no_mangle)]
 pub extern "C" fn one(n: usize) -> usize
-    ensures { λ r. ⌜ r ≡ sizeFor n ⌝ }
+    ensures { result ≡ size_for n }
 {
     helper(n)
 }
@@ -18,17 +18,17 @@ fn helper(n: usize) -> usize {
     n
 }
 
-#[no_mangle]
+#[unsafe(no_mangle)]
 pub extern "C" fn two(b: &mut [u8], report: &[u8; REPORT], cut: bool, sums: &mut [u32; 4],) -> u8 {
     0
 }
 
-#[no_mangle]
+#[unsafe(no_mangle)]
 pub extern "C" fn three(out: &[u8], numbers: &[u64; 4], length: &mut usize) -> u8 {
     0
 }
 
-#[no_mangle]
+#[unsafe(no_mangle)]
 pub extern "C" fn four() -> usize {
     0
 }
@@ -150,10 +150,11 @@ fn a_changed_rattle_text_is_told_apart() {
         ("length: &mut usize", "length: &usize"),
         ("length: &mut usize", "length: usize"),
         ("numbers: &[u64; 4]", "numbers: &mut [u64; 4]"),
-        ("#[no_mangle]\npub extern \"C\" fn one", "pub extern \"C\" fn one"),
-        ("#[no_mangle]\npub extern \"C\" fn one", "#[no_mangle]\npub fn one"),
-        ("#[no_mangle]\npub extern \"C\" fn one", "pub fn one"),
-        ("#[no_mangle]\npub extern \"C\" fn one", "#[no_mangle]\nextern \"C\" fn one"),
+        ("#[unsafe(no_mangle)]\npub extern \"C\" fn one", "pub extern \"C\" fn one"),
+        ("#[unsafe(no_mangle)]\npub extern \"C\" fn one", "#[no_mangle]\npub extern \"C\" fn one"),
+        ("#[unsafe(no_mangle)]\npub extern \"C\" fn one", "#[unsafe(no_mangle)]\npub fn one"),
+        ("#[unsafe(no_mangle)]\npub extern \"C\" fn one", "pub fn one"),
+        ("#[unsafe(no_mangle)]\npub extern \"C\" fn one", "#[unsafe(no_mangle)]\nextern \"C\" fn one"),
         ("pub extern \"C\" fn four", "pub extern \"D\" fn four"),
         ("\nfn helper", "\npub fn helper"),
     ];

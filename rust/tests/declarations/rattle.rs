@@ -1,7 +1,10 @@
-//! The calls that a Rattle text has for C: each function with `#[no_mangle] pub extern "C"`. All that is public must be
-//! such a function; what else the text has, contracts and bodies among it, is not looked at.
+//! The calls that a Rattle text has for C: each function with `#[unsafe(no_mangle)] pub extern "C"`. All that is public
+//! must be such a function; what else the text has, contracts and bodies among it, is not looked at.
 use crate::tokens::{without_comments, Tokens};
 use crate::{add, file, Call, Calls, Number, Parsed, Type};
+
+/// How a call begins: `#[unsafe(no_mangle)] pub extern "C" fn`.
+const EXPORTED: [&str; 11] = ["#", "[", "unsafe", "(", "no_mangle", ")", "]", "pub", "extern", "\"C\"", "fn"];
 
 /// `value` is that of a constant which the text, by its tokens, names.
 pub fn parse(text: &str, value: &dyn Fn(&str, &str) -> Parsed<usize>) -> Parsed<Calls> {
@@ -9,7 +12,7 @@ pub fn parse(text: &str, value: &dyn Fn(&str, &str) -> Parsed<usize>) -> Parsed<
     let mut tokens = Tokens::new(&code)?;
     let mut calls = Calls::new();
     while !tokens.is_end() {
-        if tokens.take_all(&["#", "[", "no_mangle", "]", "pub", "extern", "\"C\"", "fn"]) {
+        if tokens.take_all(&EXPORTED) {
             let (name, call) = function(&mut tokens, &|name| value(&code, name))?;
             add(&mut calls, name, call)?;
         } else {
@@ -63,12 +66,19 @@ pub fn constant(code: &str, name: &str) -> Parsed<usize> {
             return sum(&mut tokens, code);
         }
         if tokens.take("use") {
-            let mut path = vec![tokens.name()?];
-            while tokens.take_all(&[":", ":"]) {
-                path.push(tokens.next()?);
+            let (mut path, mut names) = (vec![tokens.name()?], Vec::new());
+            while names.is_empty() && tokens.take_all(&[":", ":"]) {
+                if tokens.take("{") {
+                    names = tokens.listed("}", Tokens::name)?;
+                } else {
+                    path.push(tokens.next()?);
+                }
             }
-            if path.len() > 1 && path.last().is_some_and(|last| last == name) {
-                let module = if path.len() == 2 { "lib" } else { &path[1] };
+            if names.is_empty() {
+                names.extend(path.pop());
+            }
+            if !path.is_empty() && names.iter().any(|it| it == name) {
+                let module = path.get(1).map_or("lib", String::as_str);
                 let text = file(&format!("crates/{}/src/{module}.rt", path[0]))?;
                 return constant(&without_comments(&text)?, name);
             }

@@ -1,0 +1,7 @@
+-- `step_bytes::is_full_in` meets its contract.
+use Rattle.region.specs.Record.{record_of}
+use Rattle.step_bytes.proofs.is_full_in.Goals as goal
+
+pub returns : goal.returns
+unfolding record_of
+returns c = simp (c.less.ensures, c.get_word.ensures)
