@@ -28,7 +28,6 @@ use Rattle.step.specs.declared.Step.{Step}
 use Rattle.step.specs.Move.{message_step, begin_step}
 use Rattle.step.specs.Stale.{stale_message}
 use Rattle.step.specs.Told.{Told, spent_number, told, told_view}
-use Rattle.calls.specs.Entry as N
 use Rattle.region.specs.Channel.{count_of, first}
 use Rattle.block.specs.Block.{take_off}
 use Rattle.layout.specs.Layout.{cluster_size, stated, faults_in, stopped, node, channel, on_block, fits, sound, is_node}
@@ -37,8 +36,6 @@ use Rattle.outgoing.specs.Outgoing.{may_stop, may_cut, has_room}
 use Rattle.events.specs.Event.{Result, demand, admitted, settle, deliver_message, fresh, begin, deliver}
 use Rattle.events.specs.Stop.{stop}
 use Rattle.events.proofs.Admitted.{admitted-is}
-use Rattle.calls_bytes.specs.Entry as L
-use Rattle.calls_bytes.specs.Frame.{next_call}
 use Rattle.codes.specs.Code.{last_refusal, page_refusal, done_from, scan_from, rule_code, event_code, rule_in}
 use Rattle.codes.specs.Apart.{meant, rule_meant, EventCall, by-fresh, by-begin, by-deliver, by-stop}
 use Rattle.codes.specs.Apart.{Numbered}

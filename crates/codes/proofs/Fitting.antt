@@ -8,7 +8,7 @@ use lib.ListN.{length}
 use lib.Dec.{leb, ltb, eqb}
 use Rattle.octets.specs.Answer.{Answer, returned, refused}
 use Rattle.octets.specs.Test.{both, pick}
-use Rattle.wire.specs.Codec.{view_part, decode, answer}
+use Rattle.wire.specs.Codec.{view_part, decode}
 use Rattle.wire.specs.declared.Message.{Message}
 use Rattle.record.specs.Usable.{sizes_within, usable, is_open, full}
 use Rattle.record.specs.declared.Node.{Node}
@@ -22,8 +22,6 @@ use Rattle.calls.specs.CallResult.{CallResult}
 use Rattle.calls.specs.Entry as N
 use Rattle.reply.proofs.Tells.{told-told_view}
 use Rattle.region.specs.Record.{record_size, record_of, codes_known}
-use Rattle.layout.specs.Layout.{node, fits}
-use Rattle.events.specs.Event.{fresh, begin}
 use Rattle.calls_bytes.specs.Entry as L
 use Rattle.calls_bytes.specs.Frame.{frame_most, frame_output, is_whole, first_stands, and_then, next_call, in_turn, at_start}
 use Rattle.calls_bytes.specs.Frame.{or_refused, one_by_one, frame}

@@ -9,8 +9,6 @@ use Rattle.octets.specs.Answer.{returned, refused}
 use Rattle.octets.specs.Test.{both}
 use Rattle.octets.proofs.Test.{both_left, both_right}
 use Rattle.step.specs.Told.{spent_number}
-use Rattle.calls.specs.Entry as N
-use Rattle.calls_bytes.specs.Entry as L
 use Rattle.codes.specs.Code.{done_from}
 use Rattle.codes.specs.Apart.{Numbered}
 
