@@ -39,7 +39,8 @@ entries-short : (n : ℕ) (v : View) → length (entries n v) ≤ entry_room * n
 unfolding entries
 entries-short n v =
     let k : ℕ = min n nodes in
-    let l : length (join k (entry_at v)) ≤ entry_room * k = join-short k entry_room (entry_at v) (λ i. entry-short _ _) in
+    let l : length (join k (entry_at v)) ≤ entry_room * k = join-short k entry_room (entry_at v) (λ i. entry-short _ _)
+    in
     omega arith
 
 pub line-short : (e : ℕ) (r : Printed) (n : ℕ) (v : View) → length (line e r n v) ≤ room

@@ -40,13 +40,15 @@ module _ (k : List ℕ) (size : length k ≡ block_size) (f : List ℕ → List 
     pub channel-record : record_in (on_channel a f k) ≡ record_in k
     unfolding record_in
     channel-record =
-        part-other k (channel_place a) (f (part k (channel_place a) channel_size)) record_place record_size (omega arith)
+        part-other k (channel_place a) (f (part k (channel_place a) channel_size)) record_place record_size
+        (omega arith)
         (λ q. omega arith)
         (λ q. omega arith)
 
     pub channel-same : channel_in (on_channel a f k) a ≡ f (channel_in k a)
     unfolding channel_in
-    channel-same = part_same k (channel_place a) (f (part k (channel_place a) channel_size)) channel_size (omega arith) long
+    channel-same = part_same k (channel_place a) (f (part k (channel_place a) channel_size)) channel_size (omega arith)
+        long
 
     pub channel-other : (d : ℕ) → 1 ≤ d → (d ≡ a → ⊥) → channel_in (on_channel a f k) d ≡ channel_in k d
     unfolding channel_in
@@ -73,7 +75,8 @@ module _ (k : List ℕ) (size : length k ≡ block_size) (d : Node) (heard : len
 
   pub keep_record-flag : get_or (keep_record d k) 0 0 ≡ get_or k 0 0
   keep_record-flag =
-      ap (λ (t : List ℕ). get_or t 0 0) kept ∙ get_d-other k record_place (record_bytes d) 0 (omega arith) (λ q. omega arith)
+      ap (λ (t : List ℕ). get_or t 0 0) kept ∙ get_d-other k record_place (record_bytes d) 0 (omega arith)
+      (λ q. omega arith)
 
   pub keep_record-record : record_in (keep_record d k) ≡ record_bytes d
   unfolding record_in

@@ -25,9 +25,11 @@ use Rattle.view.specs.View.{tag_at, report_at, report_word, view_of, entry_ok_at
 use Rattle.view.specs.declared.Report.{Report}
 use Rattle.view.proofs.ReportBytes.{none-zero}
 use Rattle.table.specs.Loop.{either, all}
-use Rattle.table.specs.Table.{at, tag_of, report_of as report_in, entry_ok, entry_within, view_within, heard_within, cells}
+use Rattle.table.specs.Table.{at, tag_of, report_of as report_in, entry_ok, entry_within, view_within, heard_within}
+use Rattle.table.specs.Table.{cells}
 use Rattle.record.specs.Usable.{round_tag, sizes_within, numbers_within, numbers_ok, tables_ok, usable}
-use Rattle.region.specs.Record.{heard_place, view_in, wait_in, record_of, codes_known, n_place, f_place, own_place, maxtag_place}
+use Rattle.region.specs.Record.{heard_place, view_in, wait_in, record_of, codes_known, n_place, f_place, own_place}
+use Rattle.region.specs.Record.{maxtag_place}
 use Rattle.region.specs.Record.{request_place, kept_place, last_in, atmax_in, atround_in, kept_in}
 use Rattle.table.proofs.Laws.{all-at, all-all}
 use Rattle.block.specs.Block.{record_sound}
@@ -82,7 +84,8 @@ view-within t b h l = all-all_to nodes (entry_within t (view_of nodes b)) (entry
     let tag : tag_of (view_of nodes b) (i + 1) ≡ tag_at b i =
     ap (λ (j : ℕ). get_or (view_of nodes b).tags j 0) e ∙ get_d-padded nodes nodes (tag_at b) i 0 m in
     let report : report_in (view_of nodes b) (i + 1) ≡ report_at b i =
-    ap (λ (j : ℕ). get_or (view_of nodes b).reports j no_report) e ∙ get_d-padded nodes nodes (report_at b) i no_report m in
+    ap (λ (j : ℕ). get_or (view_of nodes b).reports j no_report) e ∙ get_d-padded nodes nodes (report_at b) i no_report
+    m in
     ap (both (leb (tag_at b i) t)) (beside (tag_at b i) (is_none (report_at b i)) (eqb (report_word b i) 0)
     (none-zero s (part_bytes b (entry_size * i + tag_size) report_size h) (length_part b (entry_size * i + tag_size)
     report_size (omega arith))))
@@ -134,7 +137,8 @@ module _ (n f c : ℕ) (r : List ℕ) where
       e ∙ sym (ap (λ (t : Bool). both (codes_known r) (both t (judged_as n r))) s)
       ∙ ap₂ (λ (x y : ℕ). whole x y c) (sym n-is) (sym f-is)
       ∙ ap (λ (z : ℕ). whole (word r n_place) (word r f_place) z) (sym own_is)
-      ∙ sym (ap (both (both (codes_known r) (usable (record_of r)))) h ∙ only (both (codes_known r) (usable (record_of r))))
+      ∙ sym (ap (both (both (codes_known r) (usable (record_of r)))) h
+      ∙ only (both (codes_known r) (usable (record_of r))))
     where
       only : (t : Bool) → both t true ≡ t
       only true = refl

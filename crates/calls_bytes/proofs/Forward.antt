@@ -105,7 +105,8 @@ none-sized : Sized no_view
 none-sized = record { tags = length-replicate {A = ℕ} nodes 0; reports = length-replicate nodes no_report }
 
 module _ (n f own s t w : ℕ) (p : Report) (r out : List ℕ) (sizes : sizes_within n f own ≡ true)
-    (sender : both (leb 1 s) (leb s n) ≡ true) (good : allowed n (Value t w p) [] ≡ true) (long : length r ≡ record_size)
+    (sender : both (leb 1 s) (leb s n) ≡ true) (good : allowed n (Value t w p) [] ≡ true)
+    (long : length r ≡ record_size)
     (room : N.least_output ≤ length out) where
   abbrev c : Node
   c = blank n f own

@@ -15,7 +15,8 @@ use Rattle.record.specs.declared.Wait.{Wait}
 use Rattle.record.specs.declared.Wait.TheVariants.{Idle, Reading, Writing, Comparing, Borrowing}
 use Rattle.step.specs.declared.Sent.{Sent}
 use Rattle.step.specs.declared.Step.{Step}
-use Rattle.step.specs.Move.{agreement, opened, after_read, read_pass, write_pass, after_good, after_failed, compare_pass}
+use Rattle.step.specs.Move.{agreement, opened, after_read, read_pass, write_pass, after_good, after_failed}
+use Rattle.step.specs.Move.{compare_pass}
 use Rattle.step.specs.Move.{borrow_pass, reads, writes, compares, move_on, message_step}
 use Rattle.step.specs.React.{is_new, raised, received, keep, react}
 use Rattle.step.specs.Step.{listed}

@@ -47,7 +47,8 @@ module _ (b : List ℕ) (c : ℕ) (lo : 1 ≤ c) (there : cluster_size c ≤ len
   -- bytes of a record's length, written there
   module _ (r : List ℕ) (long : length r ≡ record_size) where
     pub record-put : record_in (block (put b (record_at c) r) c) ≡ r
-    record-put = sym (record-there (put b (record_at c) r) c) ∙ part_same b (record_at c) r record_size (omega arith) long
+    record-put = sym (record-there (put b (record_at c) r) c) ∙ part_same b (record_at c) r record_size (omega arith)
+        long
 
     pub length-there : length (put b (record_at c) r) ≡ length b
     length-there = length-put b (record_at c) r (omega (arith, long))

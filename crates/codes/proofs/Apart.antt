@@ -82,7 +82,8 @@ ruled (refused k) v h =
     let below = (h.number k refl).2 in
     rw (lt-ltb k scan_from (omega (arith, below))) (omega (arith, below))
 ruled (returned None) v h = refl
-ruled (returned (Done r)) v h = rw (lt-ltb (done_from + rule_code r) scan_from (omega (arith, rule-most r))) (omega arith)
+ruled (returned (Done r)) v h = rw (lt-ltb (done_from + rule_code r) scan_from (omega (arith, rule-most r)))
+    (omega arith)
 ruled (returned (Scan r)) v h = rw (le-ltb (scan_from + rule_code r) scan_from (omega arith)) (omega arith)
 ruled (returned Spent) v h = refl
 
@@ -132,7 +133,8 @@ handed n a c x b s (refused k) = record { numbered = in-range 7 refl }
 handed n a c x b s (returned p) =
     demanded b (not (stale_message (node b c) a p.0)) 9 refl
     (demanded b (may_cut n x b) 10 refl
-    (of-settled n a c x (message_step (faults_in b) (node b c) a p.0 (view_of n (view_at n s))) (on_block c (take_off a) b)
+    (of-settled n a c x (message_step (faults_in b) (node b c) a p.0 (view_of n (view_at n s)))
+    (on_block c (take_off a) b)
     b))
 
 of-deliver : (a c : ℕ) (x : Extent) (b : List ℕ) → Proper (deliver a c x b)

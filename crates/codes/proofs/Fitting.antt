@@ -23,7 +23,8 @@ use Rattle.calls.specs.Entry as N
 use Rattle.reply.proofs.Tells.{told-told_view}
 use Rattle.region.specs.Record.{record_size, record_of, codes_known}
 use Rattle.calls_bytes.specs.Entry as L
-use Rattle.calls_bytes.specs.Frame.{frame_most, frame_output, is_whole, first_stands, and_then, next_call, in_turn, at_start}
+use Rattle.calls_bytes.specs.Frame.{frame_most, frame_output, is_whole, first_stands, and_then, next_call, in_turn}
+use Rattle.calls_bytes.specs.Frame.{at_start}
 use Rattle.calls_bytes.specs.Frame.{or_refused, one_by_one, frame}
 use Rattle.calls_bytes.specs.Walk.{Piece, walk}
 use Rattle.codes.specs.Code.{last_refusal, frame_refusal}

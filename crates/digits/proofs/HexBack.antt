@@ -16,7 +16,8 @@ use Rattle.octets.proofs.Test.{both_true}
 use Rattle.octets.proofs.Loop.{all_to-all}
 use Rattle.octets.proofs.Table.{tab-ext, tab-of, get_d-tab, length-tab}
 use Rattle.digits.specs.Decimal.{is_digit}
-use Rattle.digits.specs.Hex.{is_letter, is_hex, all_hex, hex_value, hex_digit, half, byte_of, half_of, hex_bytes, hex_text}
+use Rattle.digits.specs.Hex.{is_letter, is_hex, all_hex, hex_value, hex_digit, half, byte_of, half_of, hex_bytes}
+use Rattle.digits.specs.Hex.{hex_text}
 
 digit-is : (v : ℕ) → v < 10 → is_digit (48 + v) ≡ true
 digit-is v h = both_true (le-leb 48 (48 + v) (omega arith)) (le-leb (48 + v) 57 (omega arith))
@@ -61,7 +62,8 @@ low_half x i = simp (ne_eqb ((2 * i + 1) % 2) 0 (λ e. omega arith))
 pub bytes_back : (k : ℕ) (b : List ℕ) → Bytes b → length b ≡ k → hex_bytes k (hex_text k b) ≡ b
 unfolding hex_bytes hex_text
 bytes_back k b h e =
-    tab-ext k (byte_of (tab (2 * k) (half_of b))) (λ i. get_or b i 0) one ∙ ap (λ (j : ℕ). tab j (λ i. get_or b i 0)) (sym e)
+    tab-ext k (byte_of (tab (2 * k) (half_of b))) (λ i. get_or b i 0) one ∙ ap (λ (j : ℕ). tab j (λ i. get_or b i 0))
+    (sym e)
     ∙ tab-of b 0
   where
     one : (i : ℕ) → i < k → byte_of (tab (2 * k) (half_of b)) i ≡ get_or b i 0

@@ -1,5 +1,6 @@
 -- Numbers in base ten as text: ASCII digits, the high one first.
-use Rattle.std.specs.Prelude.{ℕ, zero, suc, ◌+◌, ◌-◌, ◌*◌, ◌/◌, ◌%◌, Bool, List, [], ◌∷◌, ◌++◌, length, get_or, leb, eqb}
+use Rattle.std.specs.Prelude.{ℕ, zero, suc, ◌+◌, ◌-◌, ◌*◌, ◌/◌, ◌%◌, Bool, List, [], ◌∷◌, ◌++◌, length, get_or, leb}
+use Rattle.std.specs.Prelude.{eqb}
 use Rattle.octets.specs.Test.{pick, both}
 use Rattle.octets.specs.Loop.{up_to, all_to}
 

@@ -25,7 +25,8 @@ either-false false = refl
 
 good-append : (a b : List Message) → any_good (a ++ b) ≡ either (any_good a) (any_good b)
 good-append [] b = refl
-good-append (m ∷ a) b = ap (either (is_good m)) (good-append a b) ∙ sym (either-assoc (is_good m) (any_good a) (any_good b))
+good-append (m ∷ a) b = ap (either (is_good m)) (good-append a b)
+    ∙ sym (either-assoc (is_good m) (any_good a) (any_good b))
   where
     either-assoc : (x y z : Bool) → either (either x y) z ≡ either x (either y z)
     either-assoc true y z = refl

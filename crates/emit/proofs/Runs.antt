@@ -257,7 +257,8 @@ room_of n v w ms room e a b h k =
     (record {
       sized = both_true (le-leb 1 n a) (le-leb n 16 b);
       fit = f;
-      enough = let q : length (run (view_bytes n v) ms) ≡ sizes n ms = run_length n (view_bytes n v) ms f in omega arith;
+      enough = let q : length (run (view_bytes n v) ms) ≡ sizes n ms = run_length n (view_bytes n v) ms f in omega
+          arith;
     })
 
 -- ---- a step that sends nothing after what its handler sends

@@ -45,7 +45,8 @@ module _ (n a c : ℕ) (x : Extent) (b s : List ℕ) (m : Message) (d : Node) (a
     pub hand-uncut : may_cut n x b ≡ false → hand_over n a c x b s m ≡ refuse 10 b
     hand-uncut h = rw (ap (λ (k : Node). stale_message k a m) (sym at) ∙ new, h) refl
 
-    pub hand-settles : may_cut n x b ≡ true → {t : Step} {f : ℕ} {v : View} → f ≡ faults_in b → v ≡ view_of n (view_at n s)
+    pub hand-settles : may_cut n x b ≡ true → {t : Step} {f : ℕ} {v : View} → f ≡ faults_in b → v ≡ view_of n
+        (view_at n s)
         → t ≡ message_step f d a m v → hand_over n a c x b s m ≡ settle n a c x t (on_block c (take_off a) b) b
     hand-settles h {t} {f} {v} e w q =
         rw (ap (λ (k : Node). stale_message k a m) (sym at) ∙ new, h)
@@ -58,7 +59,8 @@ module _ (a c : ℕ) (x : Extent) (b : List ℕ) (n : ℕ) (st : n ≡ stated b)
   deliver-empty e z = deliver-is a c x b n st ok ∙ rw (sym e ∙ z) refl
 
   module _ (some : ltb 0 (count_of (channel b a c)) ≡ true) where
-    deliver-reads : deliver a c x b ≡ deliver_message n a c x b (first (channel b a c)) (front n (first (channel b a c)))
+    deliver-reads : deliver a c x b ≡ deliver_message n a c x b (first (channel b a c))
+        (front n (first (channel b a c)))
     deliver-reads = deliver-is a c x b n st ok ∙ rw some refl
 
     pub deliver-unread : (j : ℕ) → front n (first (channel b a c)) ≡ refused j → deliver a c x b ≡ refuse 7 b

@@ -60,7 +60,8 @@ module _ (n f : ℕ) (b : List ℕ) where
 
   -- zeros, then n and f, then a fresh record in every block
   pub fresh-bytes : {z y : List ℕ} → z ≡ replicate (length b) 0
-      → y ≡ up_to n (λ i. on_block (i + 1) (keep_record (blank n f (i + 1)))) (started z) → y ≡ fresh_bytes n f (length b)
+      → y ≡ up_to n (λ i. on_block (i + 1) (keep_record (blank n f (i + 1)))) (started z) → y ≡ fresh_bytes n f
+      (length b)
   unfolding fresh_bytes
   fresh-bytes e q =
       q ∙ ap (λ (t : List ℕ). up_to n (λ i. on_block (i + 1) (keep_record (blank n f (i + 1)))) (started t)) e

@@ -87,7 +87,8 @@ abbrev pub hand_over : (n a c : ℕ) → Extent → List ℕ → (s : List ℕ) 
 hand_over n a c x b s m =
     demand (not (stale_message (node b c) a m)) 9 b
     (demand (may_cut n x b) 10 b
-    (settle n a c x (message_step (faults_in b) (node b c) a m (view_of n (view_at n s))) (on_block c (take_off a) b) b))
+    (settle n a c x (message_step (faults_in b) (node b c) a m (view_of n (view_at n s))) (on_block c (take_off a) b)
+    b))
 
 abbrev pub deliver_message : (n a c : ℕ) → Extent → List ℕ → (s : List ℕ) → Answer (Message × ℕ) → Result
 deliver_message n a c x b s (refused k) = refuse 7 b

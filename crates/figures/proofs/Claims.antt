@@ -57,7 +57,8 @@ module _ (k : ℕ) (v : List ℕ) (m : ℕ) (h : claim.Largest k v m) where
       let z : w ≡ (report_at v k).waiting = ap (λ (p : Report). p.waiting) (counted_report-some v k e) in
       record {
         most = λ i l t. below_suc l
-            (λ q. let r : (report_at v i).waiting ≡ w = ap (λ (j : ℕ). (report_at v j).waiting) q ∙ sym z in omega arith)
+            (λ q. let r : (report_at v i).waiting ≡ w = ap (λ (j : ℕ). (report_at v j).waiting) q ∙ sym z in omega
+            arith)
             (λ b. omega (arith, h.most i b t));
         some = elim (dec_le m w) [
           | yes l ↦ inl (k, omega arith, e, omega arith)

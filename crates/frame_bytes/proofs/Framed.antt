@@ -20,7 +20,8 @@ use Rattle.step.specs.declared.Ending.TheVariants.{None}
 use Rattle.calls.specs.Entry as N
 use Rattle.region.specs.Record.{record_size, record_of}
 use Rattle.calls_bytes.specs.Entry.{LentResult, refuse, fits, usable_in, in_bytes, message}
-use Rattle.calls_bytes.specs.Frame.{frame_most, frame_output, is_whole, and_then, in_turn, at_start, or_refused, one_by_one}
+use Rattle.calls_bytes.specs.Frame.{frame_most, frame_output, is_whole, and_then, in_turn, at_start, or_refused}
+use Rattle.calls_bytes.specs.Frame.{one_by_one}
 use Rattle.calls_bytes.specs.Frame.{frame}
 use Rattle.calls_bytes.specs.Walk.{Piece, walk_by, walk}
 use Rattle.calls_bytes.proofs.Claims.{refusals-keep}

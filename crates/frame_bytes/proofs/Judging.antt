@@ -34,7 +34,8 @@ use Rattle.calls.specs.Entry as N
 use Rattle.emit.proofs.NoGood.{either-none}
 use Rattle.region.specs.Record.{record_size, record_of, codes_known}
 use Rattle.calls_bytes.specs.Entry.{LentResult}
-use Rattle.calls_bytes.specs.Frame.{frame_most, frame_output, packed, is_ending, first_stands, and_then, next_call, in_turn}
+use Rattle.calls_bytes.specs.Frame.{frame_most, frame_output, packed, is_ending, first_stands, and_then, next_call}
+use Rattle.calls_bytes.specs.Frame.{in_turn}
 use Rattle.calls_bytes.specs.Frame.{at_start, one_by_one}
 use Rattle.calls_bytes.specs.Walk.{Piece, AllRead, walk}
 use Rattle.calls_bytes.proofs.Walk.{all_read}
@@ -194,7 +195,8 @@ module _ (r : List ℕ) (s : ℕ) (b out : List ℕ) (h : Readable r s b out) wh
   high = leb-true s n (both_right (leb 1 s) (leb s n) h.sender)
 
   abbrev pub big : frame_output ≤ length out
-  big = leb-true frame_output (length out) (both_right (eqb (length r) record_size) (leb frame_output (length out)) h.fit)
+  big = leb-true frame_output (length out) (both_right (eqb (length r) record_size) (leb frame_output (length out))
+      h.fit)
 
   pub few : length (packed (walk n b)) ≤ frame_most
   few =

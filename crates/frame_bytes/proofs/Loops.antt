@@ -78,7 +78,8 @@ module _ (before : Bool) (n s : ℕ) (c : Node) (t : List ℕ) where
   judged-end e = rw e (ap (λ (z : Bool). pick {A = ℕ} z 9 0) (either-false before))
 
   module _ (m : Message) (k : ℕ) (e : front n t ≡ returned (m, k)) (v : List ℕ) (w : v ≡ front_part n t) where
-    pub judged-more : verdict_after (either before (stale_message c s m)) n s (react c s m (view_of n v)).node (drop k t)
+    pub judged-more : verdict_after (either before (stale_message c s m)) n s (react c s m (view_of n v)).node
+        (drop k t)
         ≡ verdict_after before n s c t
     unfolding any_stale
     judged-more =

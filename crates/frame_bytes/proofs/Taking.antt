@@ -89,7 +89,8 @@ module _ (n s : ℕ) (low : 1 ≤ s) (high : s ≤ n) (t : List ℕ) (p : LentRe
   accepted : (z : Ending) × ((next_call s p piece).ending ≡ returned z)
   accepted = by (next_call s p piece).ending refl
     where
-      by : (a : Answer Ending) → (next_call s p piece).ending ≡ a → (z : Ending) × ((next_call s p piece).ending ≡ returned z)
+      by : (a : Answer Ending) → (next_call s p piece).ending ≡ a → (z : Ending)
+          × ((next_call s p piece).ending ≡ returned z)
       by (returned z) q = (z, q)
       by (refused j) q =
           never (sym (sticks s (and_then p (next_call s p piece)) (walk n (drop k t)) j

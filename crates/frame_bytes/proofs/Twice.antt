@@ -116,7 +116,8 @@ module _ (n f own s t w : ℕ) (p : Report) (small : n ≤ nodes) (sender : both
         ap₂ (λ (x y : List ℕ). x ++ (y ++ [])) one two ∙ append-nil value.bytes
 
 module _ (n f own s t w : ℕ) (p : Report) (r out : List ℕ) (sizes : sizes_within n f own ≡ true)
-    (sender : both (leb 1 s) (leb s n) ≡ true) (good : allowed n (Value t w p) [] ≡ true) (long : length r ≡ record_size)
+    (sender : both (leb 1 s) (leb s n) ≡ true) (good : allowed n (Value t w p) [] ≡ true)
+    (long : length r ≡ record_size)
     (room : frame_output ≤ length out) where
   abbrev v : List ℕ
   v = encode (Value t w p) []

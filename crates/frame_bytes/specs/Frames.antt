@@ -87,7 +87,8 @@ pub record Frames : Type 0 where
   -- Where none of 12, 2, 3, 14 and 7 applies, it is given 9 if one of its messages is late in turn, and else accepted.
   -- There is such a frame: two reads at a fresh record.
   pub frame-goes : (r : List ℕ) (s : ℕ) (b out : List ℕ) → Readable r s b out
-      → late_on s (record_of r) (walk (record_of r).n b) ≡ false → (x : Ending) × ((frame r s b out).ending ≡ returned x)
+      → late_on s (record_of r) (walk (record_of r).n b) ≡ false → (x : Ending)
+      × ((frame r s b out).ending ≡ returned x)
   pub frame-late : (r : List ℕ) (s : ℕ) (b out : List ℕ) → Readable r s b out
       → late_on s (record_of r) (walk (record_of r).n b) ≡ true → (frame r s b out).ending ≡ refused 9
   pub frame_fresh : (n f own s : ℕ) (r out : List ℕ) → sizes_within n f own ≡ true

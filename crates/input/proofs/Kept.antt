@@ -82,7 +82,8 @@ push-carry l x = push-carry_up_to most l x
 -- ---- reading
 
 -- a line that is kept whole, by a reader f that answers z for each longer one
-read-carry_up_to : {A : Type 0} (m : ℕ) (f : List ℕ → A) (z : A) → ((l : List ℕ) → m < length l → f l ≡ z) → (l : List ℕ)
+read-carry_up_to : {A : Type 0} (m : ℕ) (f : List ℕ → A) (z : A) → ((l : List ℕ) → m < length l → f l ≡ z)
+    → (l : List ℕ)
     → pick (leb (carry_up_to m l).size m) (f (take (carry_up_to m l).size (carry_up_to m l).bytes)) z ≡ f l
 read-carry_up_to {A = A} m f z over l = elim (dec_le (length l) m) [ yes h ↦ whole h | no h ↦ cut (lt_of_not-le h) ]
   where

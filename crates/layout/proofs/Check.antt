@@ -83,7 +83,8 @@ pub sound-sized : (b : List ℕ) (n f : ℕ) → n ≡ stated b → f ≡ faults
 unfolding sound
 sound-sized b n f e g s t = rw (sym e, sym g, s, t) refl
 
-pub sound-intolerant : (b : List ℕ) (n f : ℕ) → n ≡ stated b → f ≡ faults_in b → is_size n ≡ true → tolerates n f ≡ false
+pub sound-intolerant : (b : List ℕ) (n f : ℕ) → n ≡ stated b → f ≡ faults_in b → is_size n ≡ true → tolerates n f ≡
+    false
     → sound b ≡ false
 unfolding sound
 sound-intolerant b n f e g s t = rw (sym e, sym g, s, t) refl

@@ -91,7 +91,8 @@ module _ (b : List ℕ) (a c : ℕ) (lo : 1 ≤ a) (hi : a ≤ nodes) (from : 1 
   -- Else the message stands in the slot after those that wait, and is counted.
   pub pass-in : stopped b c ≡ false → count_of (channel b a c) < capacity → length s ≤ slot_size
       → on_block c (receive a s) b
-      ≡ set (put b (slot_place a c (oldest (channel b a c) + count_of (channel b a c))) s) (channel_at a c + count_place)
+      ≡ set (put b (slot_place a c (oldest (channel b a c) + count_of (channel b a c))) s)
+      (channel_at a c + count_place)
       (count_of (channel b a c) + 1)
   unfolding on_block receive block channel_in push
   pass-in e h l =

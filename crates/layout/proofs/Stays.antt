@@ -15,9 +15,11 @@ use Rattle.octets.proofs.Put.{part-part, part_same, part-other, length_part, len
 use Rattle.view.specs.Size.{nodes}
 use Rattle.table.specs.Table.{cells}
 use Rattle.record.specs.declared.Node.{Node}
-use Rattle.region.specs.Channel.{capacity, slot_size, slots_place, slot_at, channel_size, count_of, oldest, push, pop, clear}
+use Rattle.region.specs.Channel.{capacity, slot_size, slots_place, slot_at, channel_size, count_of, oldest, push, pop}
+use Rattle.region.specs.Channel.{clear}
 use Rattle.region.proofs.Waiting.{length-clear}
-use Rattle.block.specs.Block.{block_size, channel_place, has_stopped, channel_in, on_channel, keep_record, take_off, receive}
+use Rattle.block.specs.Block.{block_size, channel_place, has_stopped, channel_in, on_channel, keep_record, take_off}
+use Rattle.block.specs.Block.{receive}
 use Rattle.block.specs.Block.{halt}
 use Rattle.block.proofs.Changes.{channel-length, channel-same, channel-other, keep_record-length, keep_record-channel}
 use Rattle.block.proofs.Changes.{take_off-length, take_off-same, receive-length, receive-same, receive-stopped}

@@ -47,7 +47,8 @@ unfolding field_length
 field-none [] h = refl
 field-none (x ∷ t) h = absurd (omega arith)
 
-pub field-space : (t : List ℕ) → (length t ≡ 0 → ⊥) → get_or t 0 0 ≡ space → field_length t ≡ 1 + place_of space (drop 1 t)
+pub field-space : (t : List ℕ) → (length t ≡ 0 → ⊥) → get_or t 0 0 ≡ space → field_length t ≡ 1 + place_of space
+    (drop 1 t)
 unfolding field_length
 field-space [] h e = absurd (h refl)
 field-space (x ∷ t) h e = simp (eq-eqb x space e) (omega arith)

@@ -83,7 +83,8 @@ channels-more s c e l q a d = go (s d) refl (ℕ_discrete a c)
 
     go : (y : Bool) → s d ≡ y → Dec (a ≡ c) → K.channels s c l q₁ a d ≡ K.channels s c (e ∷ l) q a d
     go true p h = channel-stopped s c l q₁ a d p ∙ sym (channel-stopped s c (e ∷ l) q a d p)
-    go false p (yes h) = channel-own s c l q₁ a d p h ∙ ap (λ x. x ++ H.sent_to d l) (channel-own s c (e ∷ []) q a d p h)
+    go false p (yes h) = channel-own s c l q₁ a d p h ∙ ap (λ x. x ++ H.sent_to d l) (channel-own s c (e ∷ []) q a d p
+        h)
         ∙ append_assoc (q a d) (H.sent_to d (e ∷ [])) (H.sent_to d l) ∙ ap (λ x. q a d ++ x) (sym (sent-first d e l))
         ∙ sym (channel-own s c (e ∷ l) q a d p h)
     go false p (no h) = channel-other s c l q₁ a d p h ∙ channel-other s c (e ∷ []) q a d p h

@@ -128,7 +128,8 @@ module _ {n f : ℕ} (low : 1 ≤ n) (small : n ≤ nodes) {b : List ℕ} {σ : 
         ex : Expected n a (σ.nodes c) (message_of n c v p.0)
         ex = subst (Expected n a (σ.nodes c)) (sym means) expects
 
-    handles : SameResult n f (E.demand (ltb 0 (count_of (channel b a c))) 8 b (E.deliver_message n a c x b s (front n s)))
+    handles : SameResult n f (E.demand (ltb 0 (count_of (channel b a c))) 8 b (E.deliver_message n a c x b s
+        (front n s)))
         (K.deliver_first n f channel_room a c (extent_of x) σ (m ∷ rest))
     unfolding s
     handles =

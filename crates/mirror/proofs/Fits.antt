@@ -36,7 +36,8 @@ module _ (n : ℕ) where
   fits-take (suc m) (a ∷ l) f e (Memᴰ.tail x) = fits-take m l (λ y z. f y (Memᴰ.tail z)) e x
 
   module _ (a : ℕ) (o : OneTo n a) (v : View) where
-    fits-numbered : (k : ℕ) → k ≤ n → (m : Message) → allowed n m (view_bytes n v) ≡ true → Fits (numbered k (entry v m))
+    fits-numbered : (k : ℕ) → k ≤ n → (m : Message) → allowed n m (view_bytes n v) ≡ true
+        → Fits (numbered k (entry v m))
     unfolding numbered
     fits-numbered zero l m ok = λ e x. elim x [ ]
     fits-numbered (suc k) l m ok =

@@ -21,7 +21,8 @@ use Rattle.record.specs.Record.{blank}
 use Rattle.record.proofs.Fresh.{fresh-usable}
 use Rattle.region.specs.Channel.{slot_size, channel_size, count_of, oldest, slot_at, waiting}
 use Rattle.block.specs.Block.{block_size, channel_place, has_stopped, channel_in, keep_record}
-use Rattle.layout.specs.Layout.{cluster_size, stated_place, faults_place, block_place, stated, faults_in, block, on_block}
+use Rattle.layout.specs.Layout.{cluster_size, stated_place, faults_place, block_place, stated, faults_in, block}
+use Rattle.layout.specs.Layout.{on_block}
 use Rattle.events.specs.Event as E
 use Rattle.history.specs.Order.{OneTo}
 use Rattle.algorithm.specs.Algorithm as A
@@ -67,8 +68,10 @@ module _ (n f : ℕ) (low : 1 ≤ n) (small : n ≤ nodes) (half : f + f < n) wh
 
   start-zero : (i : ℕ) → faults_place < i → get_or start i 0 ≡ 0
   unfolding start
-  start-zero i h = get_or-set_other (set (replicate (cluster_size n) 0) stated_place n) faults_place i f 0 (λ e. omega arith)
-      ∙ get_or-set_other (replicate (cluster_size n) 0) stated_place i n 0 (λ e. omega arith) ∙ get_d-zero (cluster_size n) i
+  start-zero i h = get_or-set_other (set (replicate (cluster_size n) 0) stated_place n) faults_place i f 0
+      (λ e. omega arith)
+      ∙ get_or-set_other (replicate (cluster_size n) 0) stated_place i n 0 (λ e. omega arith)
+      ∙ get_d-zero (cluster_size n) i
 
   made_none : Made 0 start
   unfolding block channel_in start

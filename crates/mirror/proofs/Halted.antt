@@ -15,7 +15,8 @@ use Rattle.view.specs.Size.{nodes}
 use Rattle.region.specs.Channel.{channel_size, clear, waiting}
 use Rattle.region.specs.Record.{record_size}
 use Rattle.region.proofs.Waiting.{length-clear, waiting-clear}
-use Rattle.block.specs.Block.{block_size, record_place, channel_place, has_stopped, record_in, channel_in, on_channel, halt}
+use Rattle.block.specs.Block.{block_size, record_place, channel_place, has_stopped, record_in, channel_in, on_channel}
+use Rattle.block.specs.Block.{halt}
 use Rattle.block.proofs.Changes.{channel-length, channel-flag, channel-record, channel-same, channel-other}
 
 pub channel-size : (k : List ℕ) → length k ≡ block_size → (a : ℕ) → 1 ≤ a → a ≤ nodes → length (channel_in k a)

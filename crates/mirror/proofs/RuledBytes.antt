@@ -66,12 +66,14 @@ abbrev scanning : List Event
 scanning = begin 1 Scan Whole ∷ []
 
 read-waits : waits (trace 1 0 channel_room (map meaning scanning)) 1 1 ≡ M.read 1 ∷ []
-unfolding trace_from K.event K.roomy H.sent_to K.entries move_on table limit upd upd2 count ℕ_discrete dec_le dec_lt decide
+unfolding trace_from K.event K.roomy H.sent_to K.entries move_on table limit upd upd2 count ℕ_discrete dec_le dec_lt
+    decide
     let_out_to handed_over
 read-waits = refl
 
 none-stops : stopped (trace 1 0 channel_room (map meaning scanning)) 1 ≡ false
-unfolding trace_from stopped K.event K.roomy H.sent_to K.entries move_on table limit upd upd2 count ℕ_discrete dec_le dec_lt
+unfolding trace_from stopped K.event K.roomy H.sent_to K.entries move_on table limit upd upd2 count ℕ_discrete dec_le
+    dec_lt
     decide
 none-stops = refl
 
@@ -171,7 +173,8 @@ module _ (b : List ℕ) (long : length b ≡ cluster_size 3) where
 
       is : node (on_block 1 (keep_record (blank 3 0 1)) (bytes_after 3 1 b [])) 1 ≡ blank 3 0 1
       is = ap (λ t. record_of (record_in t)) (changed 3 1 (omega arith) (omega arith) (omega arith) b long [] 1 first
-          (keep_record (blank 3 0 1)) (keep_record-length (block (bytes_after 3 1 b []) 1) start-size (blank 3 0 1) heard))
+          (keep_record (blank 3 0 1)) (keep_record-length (block (bytes_after 3 1 b []) 1) start-size (blank 3 0 1)
+          heard))
           ∙ ap record_of (keep_record-record (block (bytes_after 3 1 b []) 1) start-size (blank 3 0 1) heard)
           ∙ record-back (blank 3 0 1) (sized-node (follows-fresh 3 0 1))
 

@@ -17,7 +17,8 @@ use Rattle.record.specs.declared.Node.{Node}
 use Rattle.region.specs.Channel.{capacity, channel_size, slot_size, count_of, first, push, pop, waiting}
 use Rattle.region.specs.Record.{record_of, record_bytes}
 use Rattle.region.proofs.Waiting.{waiting-push, waiting-pop, length-waiting, length_push, length-pop}
-use Rattle.block.specs.Block.{block_size, has_stopped, channel_in, record_sound, on_channel, keep_record, take_off, receive}
+use Rattle.block.specs.Block.{block_size, has_stopped, channel_in, record_sound, on_channel, keep_record, take_off}
+use Rattle.block.specs.Block.{receive}
 use Rattle.block.specs.Block.{halt}
 use Rattle.history.specs.Message as M
 use Rattle.history.specs.Order.{OneTo}
@@ -86,7 +87,8 @@ module _ {n f c : ℕ} (small : n ≤ nodes) {k : List ℕ} {ν : A.Node} {s : B
 
   -- How many wait.
   pub says-count : (a : ℕ) → OneTo n a → count_of (channel_in k a) ≡ length (q a)
-  says-count a o = sym (length-waiting (meant n c) (channel_in k a)) ∙ ap length (B.waits a o) ∙ length-map (q a) returned
+  says-count a o = sym (length-waiting (meant n c) (channel_in k a)) ∙ ap length (B.waits a o) ∙ length-map (q a)
+      returned
 
   -- Another record.
   pub says-keep_record : {ν' : A.Node} {d : Node} → Follows n f c ν' d → usable d ≡ true
@@ -102,14 +104,16 @@ module _ {n f c : ℕ} (small : n ≤ nodes) {k : List ℕ} {ν : A.Node} {s : B
     node = subst (λ r. Follows n f c ν (record_of r)) (sym (channel-record k B.size g same a lo h)) B.node;
     sound = ap (record_sound n f c) (channel-record k B.size g same a lo h) ∙ B.sound;
     stop = ap (ltb 0) (channel-flag k B.size g same a lo h) ∙ B.stop;
-    waits = λ x p. upd-all (λ x l. OneTo n x → waiting (meant n c) (channel_in (on_channel a g k) x) ≡ map returned l) q a l
+    waits = λ x p. upd-all (λ x l. OneTo n x → waiting (meant n c) (channel_in (on_channel a g k) x) ≡ map returned l)
+        q a l
         (λ x ne p. ap (waiting (meant n c)) (channel-other k B.size g same a lo h x p.0 ne) ∙ B.waits x p)
         (λ p. ap (waiting (meant n c)) (channel-same k B.size g same a lo h) ∙ e) x p;
   }
 
   -- The oldest message from a is taken off.
   pub says_first : (a : ℕ) → OneTo n a → {m : M.Message} {rest : List M.Message} → q a ≡ m ∷ rest
-      → (meant n c (first (channel_in k a)) ≡ returned m) × (waiting (meant n c) (pop (channel_in k a)) ≡ map returned rest)
+      → (meant n c (first (channel_in k a)) ≡ returned m) × (waiting (meant n c) (pop (channel_in k a)) ≡ map returned
+      rest)
   says_first a o {m} {rest} e =
       let some : 0 < count_of (channel_in k a) = rw (says-count a o, e) (omega arith) in
       let both : meant n c (first (channel_in k a)) ∷ waiting (meant n c) (pop (channel_in k a))

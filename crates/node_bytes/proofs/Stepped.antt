@@ -155,7 +155,8 @@ module _ (r : List ℕ) (n s : ℕ) (m : Message) (v : List ℕ) (e : (record_of
 -- ---- a plan for it
 
 -- a plan to rest leaves the record, and what was sent
-pub at_rest : (p : Plan) (r : List ℕ) (to : ℕ) (sent : Sent) {t : Step} → rests p ≡ true → r ≡ record_bytes (record_of r)
+pub at_rest : (p : Plan) (r : List ℕ) (to : ℕ) (sent : Sent) {t : Step} → rests p ≡ true → r ≡ record_bytes
+    (record_of r)
     → followed p (started (record_of r) to sent) ≡ t → IsStep (rested_of to sent) r t
 at_rest Rest r to sent h b w = subst (IsStep (rested_of to sent) r) w (refl, b)
 at_rest (PlanRead o t) r to sent h b w = absurd (let z : ◌≡◌ {A = ℕ} 0 1 = cc in omega arith)

@@ -81,7 +81,8 @@ pub all_to-at : (k : ℕ) (p : ℕ → Bool) (i : ℕ) → all_to k p ≡ true �
 unfolding all_to
 all_to-at zero p i h l = absurd (not-suc-le-zero l)
 all_to-at (suc k) p i h l =
-    below_suc l (λ e. ap p e ∙ both_left (p k) (all_to k p) h) (λ m. all_to-at k p i (both_right (p k) (all_to k p) h) m)
+    below_suc l (λ e. ap p e ∙ both_left (p k) (all_to k p) h) (λ m. all_to-at k p i (both_right (p k) (all_to k p) h)
+    m)
 
 pub all_to-all : (k : ℕ) (p : ℕ → Bool) → ((i : ℕ) → i < k → p i ≡ true) → all_to k p ≡ true
 unfolding all_to

@@ -9,7 +9,8 @@ use native.Mathlib.Numerals.{add-one}
 use native.Mathlib.Decide.{dec_le}
 use native.Mathlib.Omega.{arith}
 use lib.ListN.{length, take, drop, get_or, set, replicate, length-append, length-replicate, get_or-append}
-use lib.Seq.{get_or_at, get_or-append-add, take-append-le, take_all, take-add, ext_get_or, drop-cons, set_at, append_snoc}
+use lib.Seq.{get_or_at, get_or-append-add, take-append-le, take_all, take-add, ext_get_or, drop-cons, set_at}
+use lib.Seq.{append_snoc}
 use Rattle.octets.specs.Bytes.{part}
 use Rattle.octets.specs.Loop.{tab, join}
 use Rattle.octets.proofs.Put.{length_part, get_d_part, part_left, part_right, part-all}

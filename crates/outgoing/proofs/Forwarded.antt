@@ -37,7 +37,8 @@ use Rattle.outgoing.proofs.Slot.{slot-put}
 -- It goes to each of 1 to n, as far as the entries reach.
 pub let-forwarded : (n a c : ℕ) (v : View) (s : Sent) (left : ℕ) (b x : List ℕ) → is_forward s ≡ true
     → SlotIs n v s x
-    → let_out n c (take left (entries_of n a v (listed s))) b ≡ up_to (min left n) (λ i. on_block (i + 1) (receive c x)) b
+    → let_out n c (take left (entries_of n a v (listed s))) b ≡ up_to (min left n) (λ i. on_block (i + 1)
+    (receive c x)) b
 let-forwarded n a c v (One (Value t w p)) left b x e is =
     ap (λ (l : List Entry). let_out n c (take left l) b) (entries-one n a v (Value t w p))
     ∙ let-others n a c v (Value t w p) left b refl

@@ -33,7 +33,8 @@ heard-read r = length-tab cells (λ i. word r (heard_place + word_size * i))
 
 -- the record that is written then does not matter
 pub judged : (took : Bool) (n a c : ℕ) (x : Extent) (o : Outbox) (b : List ℕ) → n ≤ nodes → 1 ≤ a → a ≤ n
-    → 1 ≤ c → c ≤ n → length b ≡ cluster_size n → {t cut : Bool} {gone left : ℕ} → cut ≡ is_cut x → gone ≡ gone_in took a c
+    → 1 ≤ c → c ≤ n → length b ≡ cluster_size n → {t cut : Bool} {gone left : ℕ} → cut ≡ is_cut x → gone ≡ gone_in took
+    a c
     → left ≡ most x → t ≡ all n (room_before cut gone c (take left (entries n a o)) b)
     → (d : Node) → length d.heard ≡ cells → t ≡ has_room n a c x d o (found_in took a c b)
 judged took n a c x o b small a-lo a-hi lo hi size {t} {cut} {gone} {left} e g m q d heard =

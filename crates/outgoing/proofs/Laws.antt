@@ -116,7 +116,8 @@ unfolding go_to numbered
 go_to-past v m b zero l = refl
 go_to-past v m b (suc k) l =
     go_to-append b (numbered k (entry v m)) (entry v m (suc k) ∷ [])
-    ∙ ap₂ (λ (x : ℕ) (t : Bool). x + pick t 1 0) (go_to-past v m b k (omega arith)) (ne_eqb (suc k) b (λ e. omega arith))
+    ∙ ap₂ (λ (x : ℕ) (t : Bool). x + pick t 1 0) (go_to-past v m b k (omega arith))
+    (ne_eqb (suc k) b (λ e. omega arith))
 
 pub go_to-once : (v : View) (m : Message) (b k : ℕ) → 1 ≤ b → b ≤ k → go_to b (numbered k (entry v m)) ≡ 1
 unfolding go_to numbered

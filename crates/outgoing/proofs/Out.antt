@@ -67,7 +67,8 @@ module _ (n a c : ℕ) (v : View) (m : Message) (left : ℕ) (b : List ℕ) wher
       rw e (ap (λ (l : List Entry). let_out n c l b) (take_all left (entry v m a ∷ []) h) ∙ let-one n c (entry v m a) b)
 
   pub let-others : is_answer m ≡ false
-      → let_out n c (take left (addressed n a v m)) b ≡ up_to (min left n) (λ i. on_block (i + 1) (receive c (slot n m v)))
+      → let_out n c (take left (addressed n a v m)) b ≡ up_to (min left n) (λ i. on_block (i + 1)
+      (receive c (slot n m v)))
       b
   unfolding addressed
   let-others e =
@@ -79,7 +80,8 @@ let-empty n a c v zero b = let-none n c b
 let-empty n a c v (suc left) b = let-none n c b
 
 -- the first entries of two lists, one after the other
-pub let-then : (n c left : ℕ) (k l : List Entry) (b : List ℕ) {x y : List ℕ} {rest : ℕ} → x ≡ let_out n c (take left k) b
+pub let-then : (n c left : ℕ) (k l : List Entry) (b : List ℕ) {x y : List ℕ} {rest : ℕ} → x ≡ let_out n c (take left k)
+    b
     → rest ≡ left - length k → y ≡ let_out n c (take rest l) x → y ≡ let_out n c (take left (k ++ l)) b
 let-then n c left k l b {x} {y} {rest} p e q =
     q ∙ ap₂ (λ (r : ℕ) (t : List ℕ). let_out n c (take r l) t) e p

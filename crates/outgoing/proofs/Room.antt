@@ -16,7 +16,8 @@ use Rattle.table.specs.Loop.{either, all}
 use Rattle.record.specs.declared.Node.{Node}
 use Rattle.region.specs.Channel.{channel_size, capacity, count_of, oldest, pop}
 use Rattle.block.specs.Block.{block_size, has_stopped, channel_in, keep_record, take_off, halt}
-use Rattle.block.proofs.Changes.{keep_record-length, keep_record-flag, keep_record-channel, take_off-length, take_off-flag}
+use Rattle.block.proofs.Changes.{keep_record-length, keep_record-flag, keep_record-channel, take_off-length}
+use Rattle.block.proofs.Changes.{take_off-flag}
 use Rattle.block.proofs.Changes.{take_off-same, take_off-other, halt-length, halt-stops}
 use Rattle.outgoing.specs.Entries.{Entry, go_to}
 use Rattle.layout.specs.Layout.{cluster_size, block, stopped, channel, on_block}
@@ -84,7 +85,8 @@ module _ (n a c : ℕ) (b : List ℕ) (most : n ≤ nodes) (a-lo : 1 ≤ a) (a-h
           ∙ count-pop (channel b c c) (length-channel b c c lo (omega arith) lo (omega arith))
           ∙ sym (ap (λ (t : Bool). count_of (channel b c c) - pick t 1 0) (eq-eqb a c e))
 
-      away : (a ≡ c → ⊥) → count_of (channel_in (take_off a (block b c)) c) ≡ count_of (channel b c c) - pick (eqb a c) 1 0
+      away : (a ≡ c → ⊥) → count_of (channel_in (take_off a (block b c)) c) ≡ count_of (channel b c c) - pick (eqb a c)
+          1 0
       away e =
           ap (λ (t : List ℕ). count_of t) (take_off-other (block b c) own a a-lo (omega arith) c lo (λ q. e (sym q)))
           ∙ sym (ap (λ (t : Bool). count_of (channel b c c) - pick t 1 0) (ne_eqb a c e)
@@ -110,7 +112,8 @@ module _ (n a c : ℕ) (b : List ℕ) (most : n ≤ nodes) (a-lo : 1 ≤ a) (a-h
 
     wrote-size : length wrote ≡ cluster_size n
     unfolding wrote found
-    wrote-size = length-on_block found c lo (omega (arith, found-size took)) (keep_record d) kept-length ∙ found-size took
+    wrote-size = length-on_block found c lo (omega (arith, found-size took)) (keep_record d) kept-length
+        ∙ found-size took
 
     wrote-own : block wrote c ≡ keep_record d (block found c)
     unfolding wrote found
@@ -132,7 +135,8 @@ module _ (n a c : ℕ) (b : List ℕ) (most : n ≤ nodes) (a-lo : 1 ≤ a) (a-h
     unfolding wrote found
     wrote_count =
         ap (λ (t : List ℕ). count_of (channel_in t c)) wrote-own
-        ∙ ap (λ (t : List ℕ). count_of t) (keep_record-channel (block found c) found-length d heard c) ∙ found-count took
+        ∙ ap (λ (t : List ℕ). count_of t) (keep_record-channel (block found c) found-length d heard c)
+        ∙ found-count took
 
     halted-length : length (halt n (block wrote c)) ≡ block_size
     halted-length = halt-length (block wrote c) (length-block wrote c lo (omega (arith, wrote-size))) n most
@@ -143,7 +147,8 @@ module _ (n a c : ℕ) (b : List ℕ) (most : n ≤ nodes) (a-lo : 1 ≤ a) (a-h
     unfolding room_before
     own_room true l =
         rw (eq-eqb c c refl) (always (stopped b c))
-        ∙ sym (ap (λ (t : Bool). either t (leb (count_of (channel (on_block c (halt n) wrote) c c) + go_to c l) capacity))
+        ∙ sym (ap (λ (t : Bool). either t (leb (count_of (channel (on_block c (halt n) wrote) c c) + go_to c l)
+        capacity))
         (ap (λ (t : List ℕ). has_stopped t) (block_same wrote c lo (omega (arith, wrote-size)) (halt n) halted-length)
         ∙ halt-stops (block wrote c) (length-block wrote c lo (omega (arith, wrote-size))) n most))
       where

@@ -165,7 +165,8 @@ leaves =
 -- ---- computed
 
 pub example : Example
-unfolding page_of contents_of figures_of totals page_text join page_line right fewest tab view_ok up_to all_to part report_of
+unfolding page_of contents_of figures_of totals page_text join page_line right fewest tab view_ok up_to all_to part
+    report_of
 example = refl
 
 pub reached : Reached

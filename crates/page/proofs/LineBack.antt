@@ -46,7 +46,8 @@ placed l a b c d e f g h i =
 
 line-columns : (l a b c d : List ℕ) → length l ≤ label_width → length a ≤ count_width → length b ≤ count_width
     → length c ≤ count_width → length d ≤ count_width
-    → InColumns (page_line l a b c d) (right count_width a) (right count_width b) (right count_width c) (right count_width d)
+    → InColumns (page_line l a b c d) (right count_width a) (right count_width b) (right count_width c)
+    (right count_width d)
 unfolding page_line
 line-columns l a b c d e f g h i =
     placed (right label_width l) (right count_width a) (right count_width b) (right count_width c) (right count_width d)
@@ -84,7 +85,8 @@ module _ (l : List ℕ) (a b c d : ℕ) (e : length l ≤ label_width) (f : a < 
       (right count_width (decimal c)) (right count_width (decimal d))
   in-columns =
       line-columns l (decimal a) (decimal b) (decimal c) (decimal d) e (digits-most count_width a f (omega arith))
-      (digits-most count_width b g (omega arith)) (digits-most count_width c h (omega arith)) (digits-most count_width d i
+      (digits-most count_width b g (omega arith)) (digits-most count_width c h (omega arith))
+      (digits-most count_width d i
       (omega arith))
 
   first_said : count_in (counts_line l a b c d) 0 ≡ a

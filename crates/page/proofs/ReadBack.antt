@@ -173,7 +173,8 @@ pub reading : (b : List ℕ) (c : Contents) → read b ≡ returned c → IsRead
 unfolding read
 reading b c e = by (is_page_of b (contents_in b).shown) refl e
   where
-    by : (x : Bool) → is_page_of b (contents_in b).shown ≡ x → pick x (returned (contents_in b)) (refused 7) ≡ returned c
+    by : (x : Bool) → is_page_of b (contents_in b).shown ≡ x → pick x (returned (contents_in b)) (refused 7) ≡ returned
+        c
         → IsRead b c.shown
     by true is e =
         let q : contents_in b ≡ c = cc in

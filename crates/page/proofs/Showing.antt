@@ -49,7 +49,8 @@ module _ (n : ℕ) (v w : List ℕ) (t : Totals) (h : Accepted n v t) (long : le
         long = long;
         ok = ok;
         are = h.are ∙ totals-same n v w
-            (λ i l. counted_is v i ∙ ap (λ (o : Option Report). Option.get_or o no_report) (same i l) ∙ sym (counted_is w
+            (λ i l. counted_is v i ∙ ap (λ (o : Option Report). Option.get_or o no_report) (same i l)
+            ∙ sym (counted_is w
             i));
       }
 
@@ -118,7 +119,8 @@ abbrev pub Counted : Option Report → Type 0
 Counted o = Counts (report_for o)
 
 entry-bytes : (t : ℕ) (p : Report) → t ≤ 1 → Counts p → Bytes (entry_bytes t p)
-entry-bytes t p l c = bytes-append (be tag_size t) (report_bytes p) (be-bytes tag_size t (omega arith)) (report-bytes p c)
+entry-bytes t p l c = bytes-append (be tag_size t) (report_bytes p) (be-bytes tag_size t (omega arith))
+    (report-bytes p c)
 
 module _ (l : List (Option Report)) (counted : (i : ℕ) → i < length l → Counted (get_or l i none)) where
   bytes-for : Bytes (view_for l)
@@ -127,7 +129,8 @@ module _ (l : List (Option Report)) (counted : (i : ℕ) → i < length l → Co
       join-bytes (length l) (λ i. entry_bytes (get_or (map tag_for l) i 0) (get_or (map report_for l) i no_report))
       (λ i m. subst (λ (e : List ℕ). Bytes e)
       (sym (ap₂ (λ (t : ℕ) (p : Report). entry_bytes t p) (tag-for l i) (report-for l i)))
-      (entry-bytes (tag_for (get_or l i none)) (report_for (get_or l i none)) (tag-low (get_or l i none)) (counted i m)))
+      (entry-bytes (tag_for (get_or l i none)) (report_for (get_or l i none)) (tag-low (get_or l i none))
+      (counted i m)))
 
   pub all-bytes-for : all_bytes (view_for l) ≡ true
   all-bytes-for =

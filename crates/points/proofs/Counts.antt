@@ -26,7 +26,8 @@ use Rattle.record.specs.declared.Node.{Node}
 use Rattle.region.specs.Channel.{capacity, channel_size, slot_size, slot_at, oldest, count_of, push, pop}
 use Rattle.region.proofs.Waiting.{waiting-pop, length-waiting}
 use Rattle.block.specs.Block.{block_size, has_stopped, channel_in, keep_record, take_off, receive, halt}
-use Rattle.block.proofs.Changes.{keep_record-length, keep_record-channel, take_off-length, take_off-same, take_off-other}
+use Rattle.block.proofs.Changes.{keep_record-length, keep_record-channel, take_off-length, take_off-same}
+use Rattle.block.proofs.Changes.{take_off-other}
 use Rattle.block.proofs.Changes.{receive-length, receive-flag, receive-same, receive-stopped, receive_other}
 use Rattle.outgoing.specs.Entries.{Entry, entry, is_answer, addressed, entries_of, go_to, slot}
 use Rattle.layout.specs.Layout.{cluster_size, block, stopped, channel, on_block}
@@ -110,7 +111,8 @@ to-numbered n (suc k) h v m =
 pub to-nodes : (n a : ℕ) → OneTo n a → (v : View) (ms : List Message) → ToNodes n (entries_of n a v ms)
 unfolding entries_of addressed
 to-nodes n a o v [] = tt
-to-nodes n a o v (m ∷ ms) = to-append n (addressed n a v m) (entries_of n a v ms) (go (is_answer m)) (to-nodes n a o v ms)
+to-nodes n a o v (m ∷ ms) = to-append n (addressed n a v m) (entries_of n a v ms) (go (is_answer m))
+    (to-nodes n a o v ms)
   where
     go : (t : Bool) → ToNodes n (pick t (entry v m a ∷ []) (numbered n (entry v m)))
     go true = (o, tt)

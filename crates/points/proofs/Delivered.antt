@@ -23,7 +23,8 @@ use Rattle.step.specs.declared.Ending.{Ending}
 use Rattle.step.specs.declared.Step.{Step}
 use Rattle.region.specs.Channel.{capacity, count_of, first, waiting}
 use Rattle.block.specs.Block.{block_size, has_stopped, channel_in, keep_record, take_off, halt}
-use Rattle.block.proofs.Changes.{keep_record-length, keep_record-flag, keep_record-channel, take_off-length, take_off-flag}
+use Rattle.block.proofs.Changes.{keep_record-length, keep_record-flag, keep_record-channel, take_off-length}
+use Rattle.block.proofs.Changes.{take_off-flag}
 use Rattle.block.proofs.Changes.{halt-length, halt-stops}
 use Rattle.outgoing.specs.Entries.{Entry, entries, go_to}
 use Rattle.outgoing.specs.Outgoing.{shortened, is_cut, may_cut, has_room, room_at, roomy, stepped}

@@ -96,7 +96,8 @@ module _ (calls : Calls) where
       → calls.write n m v out ≡ (returned (length (encode m v)), put out 0 (encode m v))) where
     written : (v out : List ℕ) → length out ≡ 15 → calls.write n (Read 1) v out ≡ (returned 15, read_one)
     unfolding allowed encode
-    written v out e = write (Read 1) v out refl (omega arith) ∙ ap (λ l. (returned 15, l)) (put-over out read_one (sym e))
+    written v out e = write (Read 1) v out refl (omega arith) ∙ ap (λ l. (returned 15, l))
+        (put-over out read_one (sym e))
 
     long : (t : ℕ) (v out : List ℕ) → allowed n (Good t) v ≡ true → 18 + 16 * n ≤ length out
         → (calls.write n (Good t) v out).0 ≡ returned (18 + 16 * n)

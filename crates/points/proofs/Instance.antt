@@ -39,7 +39,8 @@ same-trace n b (e ∷ es) = ap (λ (r : Result). R.seen n e r ∷ C.trace_from C
 
 -- Computed of the algorithm over sets.
 all-handed : T.waits (K.trace 1 0 channel_room (map R.meaning (scan_then 1 five))) 1 1 ≡ []
-unfolding K.trace_from event roomy sent_to entries move_on kept table newest included_up_to has limit same upd upd2 count
+unfolding K.trace_from event roomy sent_to entries move_on kept table newest included_up_to has limit same upd upd2
+    count
     ℕ_discrete dec_le dec_lt decide T.let_out_to T.handed_over
 all-handed = refl
 

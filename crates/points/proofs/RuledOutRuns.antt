@@ -125,7 +125,8 @@ scanned = record {
 }
 
 first-seen : T.at (K.trace 1 0 channel_room (map R.meaning (scan_then 1 []))) 0 ≡ scanned
-unfolding K.trace_from K.event K.roomy H.sent_to K.entries A.move_on A.kept A.table A.newest A.included_up_to A.has A.limit
+unfolding K.trace_from K.event K.roomy H.sent_to K.entries A.move_on A.kept A.table A.newest A.included_up_to A.has
+    A.limit
     same upd upd2 count ℕ_discrete dec_le dec_lt decide
 first-seen = refl
 

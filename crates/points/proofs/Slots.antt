@@ -133,7 +133,8 @@ module _ (n : ℕ) (small : n ≤ 16) (c : ℕ) (p : OneTo n c) where
         let W' = subst (λ d. Waits n small c p (on_block d (receive c s) t) k (w + 1)) (sym e)
         (waits-here n small c p H s fits k w q W (omega arith)) in
         rw z (slots-out l h H' k (w + 1) q W' (omega arith)
-        ∙ ap (λ i. i ++ slots_to n k l) (subst (λ d. slots_on (on_block d (receive c s) t) c k ≡ slots_on t c k ++ (s ∷ []))
+        ∙ ap (λ i. i ++ slots_to n k l) (subst (λ d. slots_on (on_block d (receive c s) t) c k ≡ slots_on t c k ++
+        (s ∷ []))
         (sym e) (here (omega (arith, W.holds))))
         ∙ append_assoc (slots_on t c k) (s ∷ []) (slots_to n k l))
     | no e ↦

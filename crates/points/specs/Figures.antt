@@ -28,7 +28,9 @@ with_five p q =
 
 -- All three follow from the clause on figures that are taken, and rule out no call that it does not.
 pub record ThreeAndFive (calls : Calls) : Type 0 where
-  pub three-five : (v : List ℕ) → Waiting v 3 5 → calls.figures 2 v ≡ returned (with_five (report_at v 0) (report_at v 1))
-  pub five-three : (v : List ℕ) → Waiting v 5 3 → calls.figures 2 v ≡ returned (with_five (report_at v 0) (report_at v 1))
+  pub three-five : (v : List ℕ) → Waiting v 3 5 → calls.figures 2 v ≡ returned
+      (with_five (report_at v 0) (report_at v 1))
+  pub five-three : (v : List ℕ) → Waiting v 5 3 → calls.figures 2 v ≡ returned
+      (with_five (report_at v 0) (report_at v 1))
   pub nobody : (n : ℕ) → OneTo nodes n → (v : List ℕ) → length v ≡ 16 * n → view_ok n limit v ≡ true
       → ((i : ℕ) → i < n → tag_at v i ≡ 0) → calls.figures n v ≡ returned zeros

@@ -27,7 +27,8 @@ use Rattle.step.specs.React.{raised, round_holds, is_new, received, keep, react}
 use Rattle.step.specs.Step.{started}
 use Rattle.step.specs.declared.Sent.{Sent}
 use Rattle.step.proofs.Lawful.{react-started}
-use Rattle.region.specs.Record.{record_size, heard_place, view_place, view_in, wait_in, record_of, record_bytes, n_place}
+use Rattle.region.specs.Record.{record_size, heard_place, view_place, view_in, wait_in, record_of, record_bytes}
+use Rattle.region.specs.Record.{n_place}
 use Rattle.region.specs.Record.{maxtag_place, kept_place, last_in, atmax_in, atround_in, kept_in}
 use Rattle.octets.proofs.Word.{length-word_bytes}
 use Rattle.region.specs.Record.{head_of, head_bytes, with_maxtag, with_kept, with_wait as head_with_wait}
@@ -73,7 +74,8 @@ module _ (r : List ℕ) (h : Bytes r) (l : length r ≡ record_size) where
   kept_same t v e = rw e refl
 
   pub raised-bytes : (t : ℕ) (b : Bool) → ltb (word r maxtag_place) t ≡ b
-      → put (pick b (put r (view_place atmax_in) (view_bytes nodes (newest t (view_in r last_in) (view_in r atmax_in)))) r)
+      → put (pick b (put r (view_place atmax_in)
+      (view_bytes nodes (newest t (view_in r last_in) (view_in r atmax_in)))) r)
       n_place
       (head_bytes (pick b (with_maxtag (head_of r) t) (head_of r)))
       ≡ record_bytes (raised (record_of r) t)
@@ -85,7 +87,8 @@ module _ (r : List ℕ) (h : Bytes r) (l : length r ≡ record_size) where
           (pick x (newest t (view_in r last_in) (view_in r atmax_in)) (view_in r atmax_in))
 
       go : (x : Bool)
-          → put (pick x (put r (view_place atmax_in) (view_bytes nodes (newest t (view_in r last_in) (view_in r atmax_in)))) r)
+          → put (pick x (put r (view_place atmax_in)
+          (view_bytes nodes (newest t (view_in r last_in) (view_in r atmax_in)))) r)
           n_place
           (head_bytes (pick x (with_maxtag (head_of r) t) (head_of r)))
           ≡ record_bytes (grown x)
@@ -204,7 +207,8 @@ react-n c s (Good t) v = refl
 module _ (r r' : List ℕ) (s : ℕ) (m : Message) (v : View) (h : Sized v)
     (e : r' ≡ record_bytes (react (record_of r) s m v).node) where
   pub reacted : record_of r' ≡ (react (record_of r) s m v).node
-  reacted = ap record_of e ∙ record-back (react (record_of r) s m v).node (sized-react (record_of r) (sized_of r) s m v h)
+  reacted = ap record_of e ∙ record-back (react (record_of r) s m v).node (sized-react (record_of r) (sized_of r) s m v
+      h)
 
   pub reacted-n : (record_of r').n ≡ (record_of r).n
   reacted-n = ap (λ (d : Node). d.n) reacted ∙ react-n (record_of r) s m v

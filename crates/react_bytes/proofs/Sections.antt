@@ -28,7 +28,8 @@ use Rattle.view.proofs.ViewBytes.{length-view_bytes, view-bytes-back}
 use Rattle.table.specs.Table.{tag_of, report_of, cell, heard_of, newest, newest_tag, newest_report, put_entry, cells}
 use Rattle.table.proofs.Laws.{get_d_numbered}
 use Rattle.record.specs.declared.Node.{Node}
-use Rattle.region.specs.Record.{record_size, heard_place, view_place, view_in, record_bytes, n_place, heard_size, last_in}
+use Rattle.region.specs.Record.{record_size, heard_place, view_place, view_in, record_bytes, n_place, heard_size}
+use Rattle.region.specs.Record.{last_in}
 use Rattle.region.specs.Record.{atmax_in, atround_in, kept_in, views, head_in, head_bytes}
 use Rattle.region.proofs.Saved.{head-end}
 use Rattle.region.proofs.Back.{Sized}
@@ -110,7 +111,8 @@ module _ {r heard : List ℕ} {each : List View} (T : Tables r heard each) where
       record {
         size = length-put r (heard_place + word_size * k) (be word_size x) m ∙ long;
         count = T.count;
-        of_heard = part-inner r heard_place heard_size (word_size * k) (be word_size x) (omega (arith, long)) (omega arith)
+        of_heard = part-inner r heard_place heard_size (word_size * k) (be word_size x) (omega (arith, long))
+            (omega arith)
             ∙ ap (λ (t : List ℕ). put t (word_size * k) (be word_size x)) T.of_heard ∙ put_word heard k x (omega arith);
         of_view = λ i b. part-other r (heard_place + word_size * k) (be word_size x) (view_place i) (view_size nodes)
             (omega arith) (λ p. omega arith) (λ p. omega arith) ∙ T.of_view i b;
@@ -166,7 +168,8 @@ module _ {r heard : List ℕ} {each : List View} (T : Tables r heard each) where
     view-entry true w t p z lo hi =
         let v = get_or each k no_view in
         subst (λ (u : List ℕ). Tables u heard (set each k (put_entry v w t p)))
-        (sym (put-inside r (view_place k) (view_size nodes) (entry_size * (w - 1)) (entry_bytes t p) (omega (arith, long))
+        (sym (put-inside r (view_place k) (view_size nodes) (entry_size * (w - 1)) (entry_bytes t p)
+        (omega (arith, long))
         (omega arith)
         ∙ ap (λ (u : List ℕ). put r (view_place k) (put u (entry_size * (w - 1)) (entry_bytes t p))) (T.of_view k b)
         ∙ ap (put r (view_place k)) (put-entry v w t p z lo hi))) (view-put (put_entry v w t p))
@@ -198,7 +201,8 @@ assembled c {r} T =
         let q : length (drop heard_place r) ≤ record_size - heard_place = simp length-drop (omega arith) in
         sym (part-rest r heard_place (record_size - heard_place) q) ∙ part-add r heard_place heard_size
         (view_size nodes * views)
-        ∙ ap (λ (t : List ℕ). part r heard_place heard_size ++ t) (part-add r (view_place last_in) (view_size nodes * kept_in)
+        ∙ ap (λ (t : List ℕ). part r heard_place heard_size ++ t) (part-add r (view_place last_in)
+        (view_size nodes * kept_in)
         (view_size nodes)
         ∙ ap (λ (t : List ℕ). t ++ section r kept_in) (part-add r (view_place last_in) (view_size nodes * atround_in)
         (view_size nodes)
@@ -215,7 +219,8 @@ tag_read r i w lo hi =
 
 pub heard-read : (r : List ℕ) (s w : ℕ) → 1 ≤ s → s ≤ nodes → 1 ≤ w → w ≤ nodes
     → word r (cell_place s w) ≡ heard_of (words cells r heard_place) s w
-heard-read r s w ls hs lw hw = sym (get_d-tab cells (λ i. word r (heard_place + word_size * i)) (cell s w) 0 (omega arith))
+heard-read r s w ls hs lw hw = sym (get_d-tab cells (λ i. word r (heard_place + word_size * i)) (cell s w) 0
+    (omega arith))
 
 -- ---- the newest entries, each read where it stands and all of them one after the other
 

@@ -54,7 +54,7 @@ pub enum Wait {
     },
 }
 
-// The record. Of the cluster's n nodes at most f stop; `own` is the number of this one. `maxtag` is the source's max_tag
+// The record. Of the cluster's n nodes at most f stop; `own` is the number of this one. `maxtag` is the source's maxTag
 // (document 01: top stamp), `request` the last request number used, `heard` the last tag heard per sender and writer.
 // Per writer: `last` its last report, `atmax` the newest not above `maxtag`, `atround` the newest not above the open
 // round's tag (no reports while no round is open). `kept` and `keptview` are the good message kept.

@@ -54,8 +54,11 @@ module _ {n f i : ℕ} {ν : A.Node} {c : Node} (F : Follows n f i ν c) (b : Bo
           (rw (tag-held w (lo, hi), F.heard k w o (lo, hi)) (h w (lo, hi))))
 
   same-agrees : (k : ℕ) → OneTo n k → A.agrees i ν t k ≡ agrees n i c.heard c.atround.tags k
-  same-agrees k o = same_bool (A.agrees i ν t k) (agrees n i c.heard c.atround.tags k)
-      (λ e. (agrees-told k o).1 ((agrees-by-tags i ν b t k).0 e), λ e. (agrees-by-tags i ν b t k).1 ((agrees-told k o).0 e))
+  same-agrees k o = same_bool (A.agrees i ν t k) (agrees n i c.heard c.atround.tags k) (
+    λ e. (agrees-told k o).1 ((agrees-by-tags i ν b t k).0 e),
+    λ e. (agrees-by-tags i ν b t k).1
+        ((agrees-told k o).0 e),
+  )
 
   -- A quorum of agreeing nodes.
   pub agreeing-tells : Tells (is_quorum n f (agreeing n i c.heard c.atround.tags))

@@ -28,7 +28,8 @@ use Rattle.record.specs.declared.Kind.TheVariants.{Update as Updating, Scan as S
 use Rattle.record.specs.declared.Wait.{Wait}
 use Rattle.record.specs.declared.Wait.TheVariants.{Idle, Reading, Writing, Comparing, Borrowing}
 use Rattle.region.specs.Record.{n_place, code_place, report_place, heard_place, heard_size, view_place}
-use Rattle.region.specs.Record.{last_in, atmax_in, atround_in, kept_in, wait_in, wait_of, wait_words, wait_report, kind_of}
+use Rattle.region.specs.Record.{last_in, atmax_in, atround_in, kept_in, wait_in, wait_of, wait_words, wait_report}
+use Rattle.region.specs.Record.{kind_of}
 use Rattle.region.specs.Record.{kind_code, codes_known, head_of, head_in, head_bytes, numbers}
 use Rattle.region.specs.Record.{record_bytes, record_of, view_in}
 use Rattle.region.specs.declared.head.Head.{Head}
@@ -42,7 +43,8 @@ pub record Sized (v : View) : Type 0 where
 -- Word i of a table's bytes.
 word_at : (t : List ℕ) (i : ℕ) → i < length t → word (word_bytes t) (word_size * i) ≡ get_or t i 0
 word_at t i l =
-    ap num (part_join (length t) word_size (λ j. be word_size (get_or t j 0)) i (λ j. refl) l) ∙ num-be-suc 7 (get_or t i 0)
+    ap num (part_join (length t) word_size (λ j. be word_size (get_or t j 0)) i (λ j. refl) l)
+    ∙ num-be-suc 7 (get_or t i 0)
 
 words-at : (t : List ℕ) (k : ℕ) → length t ≡ k → words k (word_bytes t) 0 ≡ t
 words-at t k e = tab-ext k (λ i. word (word_bytes t) (0 + word_size * i)) (λ i. get_or t i 0)
@@ -185,7 +187,8 @@ head-back b h = let t = drop (n_place + length (head_bytes h)) b in head-is (hea
 -- ---- the record
 
 -- The runs after a head, each in its place.
-module _ (F H A B C D : List ℕ) (f : length F ≡ heard_place) (h : length H ≡ heard_size) (a : length A ≡ view_size nodes)
+module _ (F H A B C D : List ℕ) (f : length F ≡ heard_place) (h : length H ≡ heard_size)
+    (a : length A ≡ view_size nodes)
     (b : length B ≡ view_size nodes) (c : length C ≡ view_size nodes) (d : length D ≡ view_size nodes) where
   all : List ℕ
   all = F ++ H ++ (A ++ B ++ C ++ D)
@@ -252,7 +255,8 @@ runs c z =
     }
 
 module _ (b : List ℕ) (c : Node) (z : SizedNode c) (r : Runs b c) where
-  view-of : (v : View) (i : ℕ) → Sized v → part b (view_place i) (view_size nodes) ≡ view_bytes nodes v → view_in b i ≡ v
+  view-of : (v : View) (i : ℕ) → Sized v → part b (view_place i) (view_size nodes) ≡ view_bytes nodes v → view_in b i ≡
+      v
   view-of v i s e = ap (view_of nodes) e ∙ view-at v s
 
   heard-of : words cells b heard_place ≡ c.heard

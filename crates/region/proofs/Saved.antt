@@ -27,7 +27,8 @@ six-words (Comparing k i r) = refl
 six-words (Borrowing k r) = refl
 
 pub wait-end : (w : Wait) → code_place + length (word_bytes (wait_words w)) ≡ report_place
-wait-end w = ap (λ (k : ℕ). code_place + k) (length-word_bytes (wait_words w) ∙ ap (λ (k : ℕ). word_size * k) (six-words w))
+wait-end w = ap (λ (k : ℕ). code_place + k) (length-word_bytes (wait_words w) ∙ ap (λ (k : ℕ). word_size * k)
+    (six-words w))
 
 pub numbers-end : (h : Head) → n_place + length (word_bytes (numbers h)) ≡ code_place
 numbers-end h = ap (λ (k : ℕ). n_place + k) (length-word_bytes (numbers h))

@@ -38,7 +38,8 @@ waiting-push {A} g a m t size fits room reads =
     ∙ get_d-other t (slot_at (h + k)) m 1 (omega arith) (λ q. omega arith) in
     let old : (i : ℕ) → i < k → g (part t' (slot_at (h + i)) slot_size) ≡ g (part t (slot_at (h + i)) slot_size) =
     λ i l. ap g (part-set b 0 (k + 1) (slot_at (h + i)) slot_size (omega arith) (omega arith)
-    ∙ part-other t (slot_at (h + k)) m (slot_at (h + i)) slot_size (omega arith) (λ q. omega arith) (λ q. omega arith)) in
+    ∙ part-other t (slot_at (h + k)) m (slot_at (h + i)) slot_size (omega arith) (λ q. omega arith) (λ q. omega arith))
+    in
     let new : g (part t' (slot_at (h + k)) slot_size) ≡ a =
     ap g (part-set b 0 (k + 1) (slot_at (h + k)) slot_size (omega arith) (omega arith)
     ∙ part-front t (slot_at (h + k)) m slot_size (omega arith) fits) ∙ reads _ in

@@ -55,14 +55,16 @@ abbrev pub asks : List ℕ
 asks = text ((115 ∷ 32 ∷ 49 ∷ []) ∷ [])
 
 one-odd : (nodes_in odd ≡ 1) × (events_in odd ≡ Bad ∷ [])
-unfolding lines_from rest_from first_of number_of all_digits value all_to up_to event_of word field_length place_of after
+unfolding lines_from rest_from first_of number_of all_digits value all_to up_to event_of word field_length place_of
+    after
 one-odd = (refl, refl)
 
 abbrev scans : List Line
 scans = Scan 1 Written.Whole ∷ []
 
 one-asks : (nodes_in asks ≡ 1) × (events_in asks ≡ scans)
-unfolding lines_from rest_from first_of number_of all_digits value all_to up_to event_of word field_length place_of after tail_of
+unfolding lines_from rest_from first_of number_of all_digits value all_to up_to event_of word field_length place_of
+    after tail_of
 one-asks = (refl, refl)
 
 -- ---- pieces: what is read
@@ -119,7 +121,8 @@ prints-out s = omega (arith, ap length (s.pieces reading).prints, bad-some 0)
 
 -- It is over at once, and reads nothing.
 pub over-out : ¬ SessionsOf (ending (λ p. true) finished)
-unfolding output lines_from rest_from first_of number_of all_digits value all_to up_to word field_length place_of after finished
+unfolding output lines_from rest_from first_of number_of all_digits value all_to up_to word field_length place_of after
+    finished
     begun printed_by
 over-out s = omega (arith, ap length ((s.pieces reading).over refl (text [])), bad-some 0)
 
@@ -174,7 +177,8 @@ moved e =
     omega (arith, wrong)
 
 moved-asks : fresh_in asks ≡ R.after (fresh_in asks) (events_from asks) → ⊥
-unfolding lines_from rest_from first_of number_of all_digits value all_to up_to event_of word field_length place_of after tail_of
+unfolding lines_from rest_from first_of number_of all_digits value all_to up_to event_of word field_length place_of
+    after tail_of
 moved-asks = moved
 
 pub some-asks : nodes_in asks ≡ 0 → ⊥

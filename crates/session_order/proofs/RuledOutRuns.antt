@@ -51,13 +51,15 @@ abbrev updating : List R.Event
 updating = R.begin 1 (Update no_report) Whole ∷ replicate 10 (R.deliver 1 1 Whole)
 
 read : (nodes_in updates ≡ 1) × (events_from updates ≡ updating)
-unfolding lines_from rest_from first_of number_of all_digits value all_to up_to event_of word field_length place_of after tail_of
+unfolding lines_from rest_from first_of number_of all_digits value all_to up_to event_of word field_length place_of
+    after tail_of
     report_in all_hex hex_bytes hex_value tab report_of part
 read = (refl, refl)
 
 -- computed of the algorithm over sets
 unviewed : SingleOrder 1 (map blurred (trace 1 0 channel_room (map R.meaning updating))) → ⊥
-unfolding trace_from K.event K.roomy H.sent_to K.entries move_on kept table newest included_up_to has limit same upd upd2
+unfolding trace_from K.event K.roomy H.sent_to K.entries move_on kept table newest included_up_to has limit same upd
+    upd2
     count ℕ_discrete dec_le dec_lt decide first_ending
 unviewed o = let wrong : ◌≡◌ {A = ℕ} 0 1 = o.kinds 0 in omega (arith, wrong)
 
@@ -77,9 +79,11 @@ abbrev hushed : Seen → Seen
 hushed o = record { event = o.event; answer = o.answer; sent = kept_back o.event o.sent }
 
 open-still : Quiet 1 (map hushed (trace 1 0 channel_room (map R.meaning scanning))) → ⊥
-unfolding trace_from K.event K.roomy H.sent_to K.entries move_on table limit upd upd2 count ℕ_discrete dec_le dec_lt decide
+unfolding trace_from K.event K.roomy H.sent_to K.entries move_on table limit upd upd2 count ℕ_discrete dec_le dec_lt
+    decide
 open-still = open-scan-out
 
 pub quiet-out : ¬ SessionsOf (seeing (λ t. map hushed (trace_in t)))
-unfolding lines_from rest_from first_of number_of all_digits value all_to up_to event_of word field_length place_of after tail_of
+unfolding lines_from rest_from first_of number_of all_digits value all_to up_to event_of word field_length place_of
+    after tail_of
 quiet-out s = open-still (subst (λ tr. Quiet 1 (map hushed tr)) (traced scanning) (s.quiet asks some-asks))

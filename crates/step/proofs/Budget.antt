@@ -37,7 +37,8 @@ use Rattle.step.proofs.Lawful.{react-started, sizes-append}
 use Rattle.step.proofs.Exclusive.{handler-first}
 
 -- the budget of a round, whatever its number i
-round-most : (n i : ℕ) → n ≤ nodes → value_size * 0 + two_size * (3 - i) + good_size n * pick (eqb i 0) 2 1 ≤ budget_most
+round-most : (n i : ℕ) → n ≤ nodes → value_size * 0 + two_size * (3 - i) + good_size n * pick (eqb i 0) 2 1 ≤
+    budget_most
 round-most n i h =
     on-pick (λ (x : ℕ). value_size * 0 + two_size * (3 - i) + good_size n * x ≤ budget_most) (eqb i 0) 2 1
     (λ e. omega arith) (λ e. omega arith)

@@ -83,27 +83,28 @@ module _ {X : Type 0} (g : Node → X) (same : (c : Node) (q : ℕ) (w : Wait) (
   pub borrows-keep : g (borrows s).node ≡ g s.node
   borrows-keep = borrow-keeps s.node.wait
 
-module _ {X : Type 0} (g : Node → X) (same : (c : Node) (q : ℕ) (w : Wait) (v : View) → g (set_wait c q w v) ≡ g c) where
-  pub move-on-keeps : (f : ℕ) (s : Step) → g (move_on f s).node ≡ g s.node
-  unfolding move_on
-  move-on-keeps f s =
-      let a = reads f s in
-      let b = writes f a in
-      borrows-keep g same f (compares f b) ∙ compares-keep g same f b ∙ writes-keep g same f a ∙ reads-keep g same f s
+module _ {X : Type 0} (g : Node → X) (same : (c : Node) (q : ℕ) (w : Wait) (v : View) → g (set_wait c q w v) ≡ g c)
+  where
+    pub move-on-keeps : (f : ℕ) (s : Step) → g (move_on f s).node ≡ g s.node
+    unfolding move_on
+    move-on-keeps f s =
+        let a = reads f s in
+        let b = writes f a in
+        borrows-keep g same f (compares f b) ∙ compares-keep g same f b ∙ writes-keep g same f a ∙ reads-keep g same f s
 
-  -- so does a handler, of what its kind does not speak of
-  pub react-keeps : (c : Node) (s : ℕ) (m : Message) (v : View)
-      → ((t : ℕ) → g (raised c t) ≡ g c) → ((w t : ℕ) (p : Report) → g (received c s w t p) ≡ g c)
-      → ((t : ℕ) → g (keep c t v) ≡ g c)
-      → g (react c s m v).node ≡ g c
-  unfolding react
-  react-keeps c s (Read q) v a b d = refl
-  react-keeps c s (ReadAnswer q t) v a b d = same _ _ _ _
-  react-keeps c s (Write q t) v a b d = a t
-  react-keeps c s (WriteAnswer q t) v a b d = same _ _ _ _
-  react-keeps c s (Echo t) v a b d = a t
-  react-keeps c s (Value t w p) v a b d = b w t p
-  react-keeps c s (Good t) v a b d = d t
+    -- so does a handler, of what its kind does not speak of
+    pub react-keeps : (c : Node) (s : ℕ) (m : Message) (v : View)
+        → ((t : ℕ) → g (raised c t) ≡ g c) → ((w t : ℕ) (p : Report) → g (received c s w t p) ≡ g c)
+        → ((t : ℕ) → g (keep c t v) ≡ g c)
+        → g (react c s m v).node ≡ g c
+    unfolding react
+    react-keeps c s (Read q) v a b d = refl
+    react-keeps c s (ReadAnswer q t) v a b d = same _ _ _ _
+    react-keeps c s (Write q t) v a b d = a t
+    react-keeps c s (WriteAnswer q t) v a b d = same _ _ _ _
+    react-keeps c s (Echo t) v a b d = a t
+    react-keeps c s (Value t w p) v a b d = b w t p
+    react-keeps c s (Good t) v a b d = d t
 
 -- An answer changes of the wait no more than who is counted and the largest tag answered, and no other message changes
 -- it: g is whatever is read of a wait beside those.

@@ -69,7 +69,8 @@ updated : deliver 12 update.node (letters update) ≡
     (WriteAnswer 2 0 ∷ [])
     ∷ quiet [] ∷ quiet (Good 0 ∷ Write 3 1 ∷ []) ∷ quiet [] ∷ quiet (Echo 1 ∷ WriteAnswer 3 1 ∷ []) ∷ quiet []
     ∷ record { sent = Good 1 ∷ []; ending = Done (Direct 1); view = put_entry no_view 1 1 p } ∷ quiet [] ∷ []
-unfolding deliver update p quiet message_step begun begin_step move_on read_pass write_pass compare_pass borrow_pass after_read
+unfolding deliver update p quiet message_step begun begin_step move_on read_pass write_pass compare_pass borrow_pass
+    after_read
     after_good after_failed opened react raised received keep all count numbered newest member with members_in agrees
     agreeing first_of Octets.tab
 updated = refl
@@ -81,7 +82,9 @@ scan = begin_step 0 (last 11 update.node (letters update)) Scan
 scanned : deliver 6 scan.node (letters scan) ≡
     quiet (ReadAnswer 4 1 ∷ []) ∷ quiet (Write 5 1 ∷ []) ∷ quiet (WriteAnswer 5 1 ∷ [])
     ∷ record { sent = Good 1 ∷ []; ending = Scanned (Direct 1); view = put_entry no_view 1 1 p } ∷ quiet [] ∷ []
-unfolding deliver last scan update p quiet message_step begun begin_step move_on read_pass write_pass compare_pass borrow_pass
-    after_read after_good after_failed opened react raised received keep all count numbered newest member with members_in
+unfolding deliver last scan update p quiet message_step begun begin_step move_on read_pass write_pass compare_pass
+    borrow_pass
+    after_read after_good after_failed opened react raised received keep all count numbered newest member with
+    members_in
     agrees agreeing first_of Octets.tab
 scanned = refl

@@ -32,7 +32,8 @@ use Rattle.step.proofs.Numbers.{on-pick}
 use Rattle.step.proofs.Turns.{reads_on}
 use Rattle.step.proofs.Waits.{no-quorum, waits-still}
 use Rattle.region.specs.Record.{record_size, heard_place, view_in, wait_in, record_of, n_place, own_place, head_of}
-use Rattle.region.specs.Record.{maxtag_place, kept_place, atround_in, head_bytes, with_request, with_wait as head_with_wait}
+use Rattle.region.specs.Record.{maxtag_place, kept_place, atround_in, head_bytes, with_request}
+use Rattle.region.specs.Record.{with_wait as head_with_wait}
 use Rattle.region.specs.declared.head.Head.{Head}
 use Rattle.react_bytes.proofs.Sections.{tables-of, assembled}
 use Rattle.step_bytes.specs.declared.Effect.{Effect}
@@ -182,7 +183,8 @@ module _ (r : List ℕ) (f : ℕ) {n k : ℕ} {b : Bool} (m : (record_of r).n �
       ≡ word r own_place → b ≡ agreement f (record_of r)
   unfolding record_of
   agreed-of q o =
-      p ∙ ap (is_quorum n f) (q ∙ ap (λ (x : ℕ). agreeing n x (words cells r heard_place) (view_in r atround_in).tags) o)
+      p ∙ ap (is_quorum n f) (q ∙ ap (λ (x : ℕ). agreeing n x (words cells r heard_place) (view_in r atround_in).tags)
+      o)
       ∙ ap (λ (x : ℕ). is_quorum x f (agreeing x (word r own_place) (words cells r heard_place)
       (view_in r atround_in).tags)) (sym m)
 

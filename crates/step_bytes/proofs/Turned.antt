@@ -26,7 +26,8 @@ use Rattle.step.specs.declared.Ending.TheVariants.{None, Spent}
 use Rattle.step.specs.declared.Rule.TheVariants.{Direct, Borrowed}
 use Rattle.step.specs.declared.Step.{Step}
 use Rattle.step.specs.Step.{started, ending_of}
-use Rattle.step.specs.Move.{opened, writing, next_tag, held_view, lent_view, after_read, after_good, after_failed, borrow_pass}
+use Rattle.step.specs.Move.{opened, writing, next_tag, held_view, lent_view, after_read, after_good, after_failed}
+use Rattle.step.specs.Move.{borrow_pass}
 use Rattle.step.specs.Move.{borrows}
 use Rattle.region.specs.Record.{record_size, view_in, record_of, record_bytes, n_place, atround_in, view_place, head_of}
 use Rattle.region.specs.Record.{head_bytes, with_request, with_wait}

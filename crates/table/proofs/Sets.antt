@@ -52,7 +52,8 @@ unfolding member with
 member-same m s =
     let i = s - 1 in
     eq-eqb (bit_or m (2 ^ i) / 2 ^ i % 2) 1
-    (bit-or m i i ∙ ap (bit_or (m / 2 ^ i % 2)) (bit-same i) ∙ or-one (m / 2 ^ i % 2) (mod-lt (m / 2 ^ i) (omega arith)))
+    (bit-or m i i ∙ ap (bit_or (m / 2 ^ i % 2)) (bit-same i) ∙ or-one (m / 2 ^ i % 2)
+    (mod-lt (m / 2 ^ i) (omega arith)))
 
 pub member-other : (m s x : ℕ) → 1 ≤ s → 1 ≤ x → (x ≡ s → ⊥) → member (with m s) x ≡ member m x
 unfolding member with

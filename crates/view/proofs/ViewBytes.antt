@@ -33,7 +33,8 @@ length-view_bytes n v = length-join n entry_size (λ i. entry_bytes (get_or v.ta
     (λ i. refl)
 
 -- the bytes of more places begin with those of fewer
-one_more : (n m : ℕ) (v : View) → n ≤ m → take (view_size n) (view_bytes (suc m) v) ≡ take (view_size n) (view_bytes m v)
+one_more : (n m : ℕ) (v : View) → n ≤ m → take (view_size n) (view_bytes (suc m) v) ≡ take (view_size n)
+    (view_bytes m v)
 unfolding view_bytes join
 one_more n m v h =
     take-append-le (view_size n) (view_bytes m v) (entry_bytes (get_or v.tags m 0) (get_or v.reports m no_report))
@@ -57,7 +58,8 @@ module _ (n : ℕ) (v : View) (rest : List ℕ) (i : ℕ) (l : i < n) where
   entry-part j k h =
       let m : entry_size * i + j + k ≤ length (view_bytes n v) = rw (length-view_bytes n v) (omega arith) in
       let f : ℕ → List ℕ = λ j. entry_bytes (get_or v.tags j 0) (get_or v.reports j no_report) in
-      part_left (view_bytes n v) rest (entry_size * i + j) k m ∙ sym (part-part (view_bytes n v) (entry_size * i) entry_size
+      part_left (view_bytes n v) rest (entry_size * i + j) k m ∙ sym (part-part (view_bytes n v) (entry_size * i)
+      entry_size
       j k h)
       ∙ ap (λ (e : List ℕ). part e j k) (part_join n entry_size f i (λ j. refl) l)
 
@@ -107,7 +109,8 @@ entry-back : (b : List ℕ) (i : ℕ) → Bytes b → entry_size * i + entry_siz
     (entry_size * i) entry_size
 entry-back b i h l =
     ap₂ (λ (s t : List ℕ). s ++ t) (be-part b (entry_size * i) tag_size h (omega arith))
-    (report-bytes-back (part b (entry_size * i + tag_size) report_size) (part_bytes b (entry_size * i + tag_size) report_size
+    (report-bytes-back (part b (entry_size * i + tag_size) report_size) (part_bytes b (entry_size * i + tag_size)
+    report_size
     h)
     (length_part b (entry_size * i + tag_size) report_size (omega arith)))
     ∙ sym (part-add b (entry_size * i) tag_size report_size)
@@ -150,7 +153,8 @@ module _ (n top : ℕ) (b : List ℕ) (ok : view_ok n top b ≡ true) (i : ℕ) 
   pub ok-report : Bytes b → view_size n ≤ length b → tag_at b i ≡ 0 → report_at b i ≡ no_report
   unfolding beside
   ok-report h m e =
-      zero-report (part b (entry_size * i + tag_size) report_size) (part_bytes b (entry_size * i + tag_size) report_size h)
+      zero-report (part b (entry_size * i + tag_size) report_size) (part_bytes b (entry_size * i + tag_size)
+      report_size h)
       (length_part b (entry_size * i + tag_size) report_size (omega arith))
       (beside-zero (tag_at b i) (report_word b i) (both_right (leb (tag_at b i) top) beside entry-ok) e)
 

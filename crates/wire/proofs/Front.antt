@@ -48,11 +48,13 @@ module _ (n : ℕ) (b : List ℕ) (bytes : Bytes b) (n-ok : is_size n ≡ true) 
       (shape_is n b bytes))
 
   pub front-judged : front n b
-      ≡ pick (both (shape n b) (allowed n (said b) (view_at n b))) (returned (said b, message_size n (said b))) (refused 7)
+      ≡ pick (both (shape n b) (allowed n (said b) (view_at n b))) (returned (said b, message_size n (said b)))
+      (refused 7)
   front-judged =
       front-is
       ∙ picked (both (shape n b) (allowed n (said b) (view_at n b)))
-      (returned (said b, length (encode (said b) (view_at n b)))) (returned (said b, message_size n (said b))) (refused 7)
+      (returned (said b, length (encode (said b) (view_at n b)))) (returned (said b, message_size n (said b)))
+      (refused 7)
       (λ h. ap (λ (k : ℕ). returned (said b, k))
       (length-encode n (said b) (view_at n b) (both_right (shape n b) (allowed n (said b) (view_at n b)) h)))
 

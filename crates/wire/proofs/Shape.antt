@@ -38,7 +38,8 @@ long (Good t) v rest = omega arith
 
 -- at its kind
 heads : (n : ℕ) (m : Message) (v rest : List ℕ) → allowed n m v ≡ true
-    → both (head_at (encode m v ++ rest) 0 1 1) (shape_as (get_or (encode m v ++ rest) 3 0) n (encode m v ++ rest)) ≡ true
+    → both (head_at (encode m v ++ rest) 0 1 1) (shape_as (get_or (encode m v ++ rest) 3 0) n (encode m v ++ rest)) ≡
+    true
 unfolding encode head_at part shape_as two_heads value_heads good_heads
 heads n (Read r) v rest h = refl
 heads n (ReadAnswer r t) v rest h = both_true (le-leb (second_at + number_size)
@@ -66,112 +67,119 @@ shape-written n m v rest h =
 
 -- ---- bytes of the shape begin with the message that they say
 
-module _ (n : ℕ) (b : List ℕ) (bytes : Bytes b) (l : first_at + number_size ≤ length b) (h : head_at b 0 1 1 ≡ true) where
-  one : (k mark : ℕ) → get_or b 3 0 ≡ k → head_at b first_head mark number_size ≡ true → part b 0 (first_at + number_size)
-      ≡ kind k ++ field mark
-      (be number_size (word b first_at))
-  one k mark e f =
-      part-add b 0 first_head (head_size + number_size)
-      ∙ ap₂ (λ (s t : List ℕ). s ++ t) (byte-there b 0 1 h (omega arith) ∙ ap (λ (x : ℕ). kind x) e)
-      (word-there b first_head mark bytes f (omega arith))
+module _ (n : ℕ) (b : List ℕ) (bytes : Bytes b) (l : first_at + number_size ≤ length b) (h : head_at b 0 1 1 ≡ true)
+  where
+    one : (k mark : ℕ) → get_or b 3 0 ≡ k → head_at b first_head mark number_size ≡ true
+        → part b 0 (first_at + number_size)
+        ≡ kind k ++ field mark
+        (be number_size (word b first_at))
+    one k mark e f =
+        part-add b 0 first_head (head_size + number_size)
+        ∙ ap₂ (λ (s t : List ℕ). s ++ t) (byte-there b 0 1 h (omega arith) ∙ ap (λ (x : ℕ). kind x) e)
+        (word-there b first_head mark bytes f (omega arith))
 
-  two : (k : ℕ) → get_or b 3 0 ≡ k → two_shape b ≡ true
-      → part b 0 (second_at + number_size) ≡ kind k ++ field 2 (be number_size (word b first_at)) ++ field 3
-      (be number_size (word b second_at))
-  unfolding two_heads
-  two k e s =
-      let m : second_at + number_size ≤ length b = leb-true (second_at + number_size) (length b)
-      (both_left (leb (second_at + number_size) (length b)) (two_heads b) s) in
-      let t : two_heads b ≡ true = both_right (leb (second_at + number_size) (length b)) (two_heads b) s in
-      part-add b 0 second_head (head_size + number_size)
-      ∙ ap₂ (λ (s t : List ℕ). s ++ t) (one k 2 e (both_left (head_at b first_head 2 number_size)
-      (head_at b second_head 3 number_size) t))
-      (word-there b second_head 3 bytes (both_right (head_at b first_head 2 number_size) (head_at b second_head 3 number_size)
-      t) (omega arith))
+    two : (k : ℕ) → get_or b 3 0 ≡ k → two_shape b ≡ true
+        → part b 0 (second_at + number_size) ≡ kind k ++ field 2 (be number_size (word b first_at)) ++ field 3
+        (be number_size (word b second_at))
+    unfolding two_heads
+    two k e s =
+        let m : second_at + number_size ≤ length b = leb-true (second_at + number_size) (length b)
+        (both_left (leb (second_at + number_size) (length b)) (two_heads b) s) in
+        let t : two_heads b ≡ true = both_right (leb (second_at + number_size) (length b)) (two_heads b) s in
+        part-add b 0 second_head (head_size + number_size)
+        ∙ ap₂ (λ (s t : List ℕ). s ++ t) (one k 2 e (both_left (head_at b first_head 2 number_size)
+        (head_at b second_head 3 number_size) t))
+        (word-there b second_head 3 bytes (both_right (head_at b first_head 2 number_size)
+        (head_at b second_head 3 number_size)
+        t) (omega arith))
 
-  value : (k : ℕ) → get_or b 3 0 ≡ k → both (leb (third_at + report_size) (length b)) (value_heads b) ≡ true
-      → part b 0 (third_at + report_size)
-      ≡ kind k ++ field 3 (be number_size (word b first_at)) ++ field 4 (get_or b second_at 0 ∷ []) ++ field 5
-      (report_bytes (report_of (part b third_at report_size)))
-  unfolding value_heads
-  value k e s =
-      let m : third_at + report_size ≤ length b = leb-true (third_at + report_size) (length b)
-      (both_left (leb (third_at + report_size) (length b)) (value_heads b) s) in
-      let t : value_heads b ≡ true = both_right (leb (third_at + report_size) (length b)) (value_heads b) s in
-      let t₁ = both_left (head_at b first_head 3 number_size) (both (head_at b second_head 4 1)
-      (head_at b third_head 5 report_size)) t in
-      let u = both_right (head_at b first_head 3 number_size) (both (head_at b second_head 4 1)
-      (head_at b third_head 5 report_size)) t in
-      let t₂ = both_left (head_at b second_head 4 1) (head_at b third_head 5 report_size) u in
-      let t₃ = both_right (head_at b second_head 4 1) (head_at b third_head 5 report_size) u in
-      part-add b 0 third_head (head_size + report_size)
-      ∙ ap₂ (λ (s t : List ℕ). s ++ t)
-      (part-add b 0 second_head (head_size + 1) ∙ ap₂ (λ (s t : List ℕ). s ++ t) (one k 3 e t₁)
-      (byte-there b second_head 4 t₂ (omega arith)))
-      (field-there b third_head 5 report_size t₃ (omega arith) ∙ ap (λ (t : List ℕ). field 5 t)
-      (sym (report-bytes-back (part b third_at report_size) (part_bytes b third_at report_size bytes)
-      (length_part b third_at report_size (omega arith)))))
+    value : (k : ℕ) → get_or b 3 0 ≡ k → both (leb (third_at + report_size) (length b)) (value_heads b) ≡ true
+        → part b 0 (third_at + report_size)
+        ≡ kind k ++ field 3 (be number_size (word b first_at)) ++ field 4 (get_or b second_at 0 ∷ []) ++ field 5
+        (report_bytes (report_of (part b third_at report_size)))
+    unfolding value_heads
+    value k e s =
+        let m : third_at + report_size ≤ length b = leb-true (third_at + report_size) (length b)
+        (both_left (leb (third_at + report_size) (length b)) (value_heads b) s) in
+        let t : value_heads b ≡ true = both_right (leb (third_at + report_size) (length b)) (value_heads b) s in
+        let t₁ = both_left (head_at b first_head 3 number_size) (both (head_at b second_head 4 1)
+        (head_at b third_head 5 report_size)) t in
+        let u = both_right (head_at b first_head 3 number_size) (both (head_at b second_head 4 1)
+        (head_at b third_head 5 report_size)) t in
+        let t₂ = both_left (head_at b second_head 4 1) (head_at b third_head 5 report_size) u in
+        let t₃ = both_right (head_at b second_head 4 1) (head_at b third_head 5 report_size) u in
+        part-add b 0 third_head (head_size + report_size)
+        ∙ ap₂ (λ (s t : List ℕ). s ++ t)
+        (part-add b 0 second_head (head_size + 1) ∙ ap₂ (λ (s t : List ℕ). s ++ t) (one k 3 e t₁)
+        (byte-there b second_head 4 t₂ (omega arith)))
+        (field-there b third_head 5 report_size t₃ (omega arith) ∙ ap (λ (t : List ℕ). field 5 t)
+        (sym (report-bytes-back (part b third_at report_size) (part_bytes b third_at report_size bytes)
+        (length_part b third_at report_size (omega arith)))))
 
-  good : (k : ℕ) → get_or b 3 0 ≡ k → both (leb (good_head + view_size n) (length b)) (good_heads n b) ≡ true
-      → part b 0 (good_head + view_size n) ≡ kind k ++ field 3 (be number_size (word b first_at)) ++ field 6 (view_at n b)
-  unfolding good_heads
-  good k e s =
-      let m : good_head + view_size n ≤ length b = leb-true (good_head + view_size n) (length b)
-      (both_left (leb (good_head + view_size n) (length b)) (good_heads n b) s) in
-      let t : good_heads n b ≡ true = both_right (leb (good_head + view_size n) (length b)) (good_heads n b) s in
-      let q : good_head + view_size n ≡ second_head + (head_size + view_size n) = omega arith in
-      ap (λ (j : ℕ). part b 0 j) q ∙ part-add b 0 second_head (head_size + view_size n)
-      ∙ ap₂ (λ (s t : List ℕ). s ++ t) (one k 3 e (both_left (head_at b first_head 3 number_size)
-      (head_at b second_head 6 (view_size n)) t))
-      (field-there b second_head 6 (view_size n) (both_right (head_at b first_head 3 number_size)
-      (head_at b second_head 6 (view_size n)) t) (omega arith))
+    good : (k : ℕ) → get_or b 3 0 ≡ k → both (leb (good_head + view_size n) (length b)) (good_heads n b) ≡ true
+        → part b 0 (good_head + view_size n) ≡ kind k ++ field 3 (be number_size (word b first_at)) ++ field 6
+        (view_at n b)
+    unfolding good_heads
+    good k e s =
+        let m : good_head + view_size n ≤ length b = leb-true (good_head + view_size n) (length b)
+        (both_left (leb (good_head + view_size n) (length b)) (good_heads n b) s) in
+        let t : good_heads n b ≡ true = both_right (leb (good_head + view_size n) (length b)) (good_heads n b) s in
+        let q : good_head + view_size n ≡ second_head + (head_size + view_size n) = omega arith in
+        ap (λ (j : ℕ). part b 0 j) q ∙ part-add b 0 second_head (head_size + view_size n)
+        ∙ ap₂ (λ (s t : List ℕ). s ++ t) (one k 3 e (both_left (head_at b first_head 3 number_size)
+        (head_at b second_head 6 (view_size n)) t))
+        (field-there b second_head 6 (view_size n) (both_right (head_at b first_head 3 number_size)
+        (head_at b second_head 6 (view_size n)) t) (omega arith))
 
-  good_length : both (leb (good_head + view_size n) (length b)) (good_heads n b) ≡ true → length (view_at n b) ≡ view_size n
-  good_length s =
-      let m : good_head + view_size n ≤ length b = leb-true (good_head + view_size n) (length b)
-      (both_left (leb (good_head + view_size n) (length b)) (good_heads n b) s) in
-      length_part b good_head (view_size n) m
+    good_length : both (leb (good_head + view_size n) (length b)) (good_heads n b) ≡ true → length (view_at n b) ≡
+        view_size n
+    good_length s =
+        let m : good_head + view_size n ≤ length b = leb-true (good_head + view_size n) (length b)
+        (both_left (leb (good_head + view_size n) (length b)) (good_heads n b) s) in
+        length_part b good_head (view_size n) m
 
-  no-shape : (k : ℕ) → 8 ≤ k → shape_as k n b ≡ false
-  unfolding shape_as
-  no-shape k l =
-      simp (
-        ne_eqb k 1 (λ e. omega arith),
-        ne_eqb k 2 (λ e. omega arith),
-        ne_eqb k 3 (λ e. omega arith),
-        ne_eqb k 4 (λ e. omega arith),
-        ne_eqb k 5 (λ e. omega arith),
-        ne_eqb k 6 (λ e. omega arith),
-        ne_eqb k 7 (λ e. omega arith),
-      )
+    no-shape : (k : ℕ) → 8 ≤ k → shape_as k n b ≡ false
+    unfolding shape_as
+    no-shape k l =
+        simp (
+          ne_eqb k 1 (λ e. omega arith),
+          ne_eqb k 2 (λ e. omega arith),
+          ne_eqb k 3 (λ e. omega arith),
+          ne_eqb k 4 (λ e. omega arith),
+          ne_eqb k 5 (λ e. omega arith),
+          ne_eqb k 6 (λ e. omega arith),
+          ne_eqb k 7 (λ e. omega arith),
+        )
 
-  begins-as : (k : ℕ) → get_or b 3 0 ≡ k → shape_as k n b ≡ true → begins b (encode (said_as k b) (view_at n b)) ≡ true
-  unfolding shape_as encode
-  begins-as zero e s = absurd (subst T (sym s) tt)
-  begins-as (suc zero) e s = begins-of b (encode (Read (word b first_at)) (view_at n b)) (first_at + number_size) refl
-      (one 1 2 e s)
-  begins-as (suc (suc zero)) e s =
-      begins-of b (encode (ReadAnswer (word b first_at) (word b second_at)) (view_at n b)) (second_at + number_size) refl
-      (two 2 e s)
-  begins-as (suc (suc (suc zero))) e s = begins-of b (encode (Write (word b first_at) (word b second_at)) (view_at n b))
-      (second_at + number_size) refl
-      (two 3 e s)
-  begins-as (suc (suc (suc (suc zero)))) e s =
-      begins-of b (encode (WriteAnswer (word b first_at) (word b second_at)) (view_at n b)) (second_at + number_size) refl
-      (two 4 e s)
-  begins-as (suc (suc (suc (suc (suc zero))))) e s = begins-of b (encode (Echo (word b first_at)) (view_at n b))
-      (first_at + number_size) refl
-      (one 5 3 e s)
-  begins-as (suc (suc (suc (suc (suc (suc zero)))))) e s =
-      begins-of b (encode (Value (word b first_at) (get_or b second_at 0) (report_of (part b third_at report_size)))
-      (view_at n b)) (third_at + report_size) refl
-      (value 6 e s)
-  begins-as (suc (suc (suc (suc (suc (suc (suc zero))))))) e s =
-      let f : length (view_at n b) ≡ view_size n = good_length s in
-      begins-of b (encode (Good (word b first_at)) (view_at n b)) (good_head + view_size n) (omega arith) (good 7 e s)
-  begins-as (suc (suc (suc (suc (suc (suc (suc (suc k)))))))) e s =
-      true-false (shape_as (suc (suc (suc (suc (suc (suc (suc (suc k)))))))) n b) s
-      (no-shape (suc (suc (suc (suc (suc (suc (suc (suc k)))))))) (omega arith))
+    begins-as : (k : ℕ) → get_or b 3 0 ≡ k → shape_as k n b ≡ true → begins b (encode (said_as k b) (view_at n b)) ≡ true
+    unfolding shape_as encode
+    begins-as zero e s = absurd (subst T (sym s) tt)
+    begins-as (suc zero) e s = begins-of b (encode (Read (word b first_at)) (view_at n b)) (first_at + number_size) refl
+        (one 1 2 e s)
+    begins-as (suc (suc zero)) e s =
+        begins-of b (encode (ReadAnswer (word b first_at) (word b second_at)) (view_at n b)) (second_at + number_size)
+        refl
+        (two 2 e s)
+    begins-as (suc (suc (suc zero))) e s = begins-of b (encode (Write (word b first_at) (word b second_at)) (view_at n b))
+        (second_at + number_size) refl
+        (two 3 e s)
+    begins-as (suc (suc (suc (suc zero)))) e s =
+        begins-of b (encode (WriteAnswer (word b first_at) (word b second_at)) (view_at n b)) (second_at + number_size)
+        refl
+        (two 4 e s)
+    begins-as (suc (suc (suc (suc (suc zero))))) e s = begins-of b (encode (Echo (word b first_at)) (view_at n b))
+        (first_at + number_size) refl
+        (one 5 3 e s)
+    begins-as (suc (suc (suc (suc (suc (suc zero)))))) e s =
+        begins-of b (encode (Value (word b first_at) (get_or b second_at 0) (report_of (part b third_at report_size)))
+        (view_at n b)) (third_at + report_size) refl
+        (value 6 e s)
+    begins-as (suc (suc (suc (suc (suc (suc (suc zero))))))) e s =
+        let f : length (view_at n b) ≡ view_size n = good_length s in
+        begins-of b (encode (Good (word b first_at)) (view_at n b)) (good_head + view_size n) (omega arith) (good 7 e s)
+    begins-as (suc (suc (suc (suc (suc (suc (suc (suc k)))))))) e s =
+        true-false (shape_as (suc (suc (suc (suc (suc (suc (suc (suc k)))))))) n b) s
+        (no-shape (suc (suc (suc (suc (suc (suc (suc (suc k)))))))) (omega arith))
 
 pub shape-begins : (n : ℕ) (b : List ℕ) → Bytes b → shape n b ≡ true → begins b (encode (said b) (view_at n b)) ≡ true
 unfolding shape said

@@ -4,7 +4,8 @@ use Rattle.std.specs.Prelude.{ℕ, ◌+◌, Bool, false, List, ◌∷◌, length
 use Rattle.octets.specs.Test.{pick, both}
 use Rattle.octets.specs.Bytes.{be, part, same}
 use Rattle.view.specs.Size.{report_size, view_size}
-use Rattle.wire.specs.Layout.{head_size, number_size, first_head, first_at, second_head, second_at, third_head, third_at}
+use Rattle.wire.specs.Layout.{head_size, number_size, first_head, first_at, second_head, second_at, third_head}
+use Rattle.wire.specs.Layout.{third_at}
 use Rattle.wire.specs.Layout.{good_head}
 
 -- mark and length of a field stand at a place
@@ -15,7 +16,8 @@ unfoldable pub two_heads : List ℕ → Bool
 two_heads b = both (head_at b first_head 2 number_size) (head_at b second_head 3 number_size)
 
 unfoldable pub value_heads : List ℕ → Bool
-value_heads b = both (head_at b first_head 3 number_size) (both (head_at b second_head 4 1) (head_at b third_head 5 report_size))
+value_heads b = both (head_at b first_head 3 number_size) (both (head_at b second_head 4 1)
+    (head_at b third_head 5 report_size))
 
 unfoldable pub good_heads : ℕ → List ℕ → Bool
 good_heads n b = both (head_at b first_head 3 number_size) (head_at b second_head 6 (view_size n))

@@ -15,7 +15,8 @@ rule tags reports i = entry (get_or tags i 0) (report_number (get_or reports i n
 
 abbrev pub invariant-loop-i : goal.invariant-loop-i
 invariant-loop-i l = (l.i ≤ l.n) × (l.out ≡ put l.initial.out l.at (join l.i (rule l.tags l.reports))) ×
-    (l.k ≡ l.at + length (join l.i (rule l.tags l.reports))) × (l.k ≤ l.at + entry_room * l.i) × (length l.out ≡ length l.initial.out)
+    (l.k ≡ l.at + length (join l.i (rule l.tags l.reports))) × (l.k ≤ l.at + entry_room * l.i)
+    × (length l.out ≡ length l.initial.out)
 
 abbrev pub decreases-loop-i : goal.decreases-loop-i
 decreases-loop-i l = l.n - l.i

@@ -8,7 +8,8 @@ use Rattle.block.specs.Block.{block_size, on_channel}
 use Rattle.block.proofs.halt_node.Given as goal
 
 abbrev pub invariant-loop-i : goal.invariant-loop-i
-invariant-loop-i l = (l.i ≤ l.n) × (length l.k ≡ block_size) × (l.k ≡ up_to l.i (λ j. on_channel (j + 1) clear) l.initial.k)
+invariant-loop-i l = (l.i ≤ l.n) × (length l.k ≡ block_size) × (l.k ≡ up_to l.i (λ j. on_channel (j + 1) clear)
+    l.initial.k)
 
 abbrev pub decreases-loop-i : goal.decreases-loop-i
 decreases-loop-i l = l.n - l.i

@@ -8,7 +8,8 @@ use Rattle.figures.specs.Figures.{totals, waiting_sum}
 use Rattle.figures.proofs.count_entries.Given as goal
 
 abbrev pub invariant-loop-i : goal.invariant-loop-i
-invariant-loop-i l = (l.i ≤ l.n) × (view_ok l.i limit l.v ≡ true) × (l.t ≡ totals l.i l.v) × (l.sum ≡ waiting_sum l.i l.v)
+invariant-loop-i l = (l.i ≤ l.n) × (view_ok l.i limit l.v ≡ true) × (l.t ≡ totals l.i l.v)
+    × (l.sum ≡ waiting_sum l.i l.v)
 
 abbrev pub decreases-loop-i : goal.decreases-loop-i
 decreases-loop-i l = l.n - l.i

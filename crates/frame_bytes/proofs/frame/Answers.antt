@@ -142,7 +142,8 @@ take_all-requires c =
     let sized = sym c.and-2.ensures ∙ c.if-not-and-2.false in (
       subst (λ (j : ℕ). Goes a.r.now j a.s b a.out.now) e
           (no-fault a.r.now a.s b a.out.now h sender sized
-          (sym c.if-fault-ne0.false ∙ c.judge-fault.ensures ∙ ap (λ (j : ℕ). verdict j a.s (record_of a.r.now) b) (sym e))
+          (sym c.if-fault-ne0.false ∙ c.judge-fault.ensures ∙ ap (λ (j : ℕ). verdict j a.s (record_of a.r.now) b)
+          (sym e))
           ).1,
       ap found (sym c.in-At.is) ∙ c.parse_prefix-f.ensures,
     )

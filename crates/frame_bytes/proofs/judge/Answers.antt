@@ -98,7 +98,8 @@ loop-t-preserved c =
       (react d s m (view_of n v)).node,
       sized-react d c.loop-t.invariant.1 s m (view_of n v) (sized-view n v p.2),
       matches-as n s (react d s m (view_of n v)).node c.note.ensures.0 c.note.ensures.1 c.top_after-top.ensures
-          (matches-on n s c.loop-t.heard c.loop-t.last c.loop-t.top d match c.loop-t.invariant.1 p.2 (omega (arith, long-heard))
+          (matches-on n s c.loop-t.heard c.loop-t.last c.loop-t.top d match c.loop-t.invariant.1 p.2
+          (omega (arith, long-heard))
           (omega (arith, long-last)) p.3 high m (view_of n v) writer),
       ap₂ (λ (x : Bool) (z : List ℕ). verdict_after x n s (react d s m (view_of n v)).node z)
           (c.or-stale.ensures ∙ ap (either c.loop-t.stale) (c.is_late.ensures

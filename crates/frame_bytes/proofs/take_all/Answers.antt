@@ -74,8 +74,10 @@ overflow_add-at c =
     let t = c.loop-t.t.now in
     let read = sym c.loop-t.invariant.4 ∙ ap found c.in-At.is in
     let view = c.found_view.ensures.0 ∙ found-view n t _ (sym read) in
-    let inside = sent-inside n c.args.s p.low p.high t (so c.loop-t.invariant.0 c.loop-t.ending c.loop-t.r c.loop-t.at c.loop-t.out)
-    c.loop-t.ending _ c.loop-t.invariant.1 p.ends _ _ read _ view _ (part_end c.loop-t.at c.loop-t.out) c.take_message-a.result _ _
+    let inside = sent-inside n c.args.s p.low p.high t (so c.loop-t.invariant.0 c.loop-t.ending c.loop-t.r c.loop-t.at
+    c.loop-t.out)
+    c.loop-t.ending _ c.loop-t.invariant.1 p.ends _ _ read _ view _ (part_end c.loop-t.at c.loop-t.out)
+    c.take_message-a.result _ _
     _ _
     c.take_message-a.ensures in
     in-word inside c.loop-t.invariant.3 c.well_formed.1.1.1.1.1.0.0
@@ -115,20 +117,25 @@ loop-t-preserved c =
     let view = c.found_view.ensures.0 ∙ found-view n t _ (sym read) in
     let whole = one_by_one c.args.r.now s c.args.b.now c.args.out.now in
     let so_far = so c.loop-t.invariant.0 c.loop-t.ending c.loop-t.r c.loop-t.at c.loop-t.out in
-    let x = c.first_ending-ending.ensures _ (later n s p.low p.high t so_far c.loop-t.ending whole c.loop-t.invariant.1 p.ends _ k
+    let x = c.first_ending-ending.ensures _ (later n s p.low p.high t so_far c.loop-t.ending whole c.loop-t.invariant.1
+    p.ends _ k
     read _ view _ (part_end c.loop-t.at c.loop-t.out) c.take_message-a.result _ _ _ _ c.take_message-a.ensures) in
     let end = back c.loop-t.at c.loop-t.out c.take_message-a.new.out in (
       tell' n s p.low p.high t so_far c.loop-t.ending whole c.loop-t.invariant.1 p.ends _ k
-          read _ view _ (part_end c.loop-t.at c.loop-t.out) c.take_message-a.result _ _ _ _ c.take_message-a.ensures c.first_ending-ending.result x _ end,
+          read _ view _ (part_end c.loop-t.at c.loop-t.out) c.take_message-a.result _ _ _ _ c.take_message-a.ensures
+          c.first_ending-ending.result x _ end,
       rw (part_end k t) (on n s p.low p.high t so_far c.loop-t.ending whole c.loop-t.invariant.1 p.ends _ k
-          read _ view _ (part_end c.loop-t.at c.loop-t.out) c.take_message-a.result _ _ _ _ c.take_message-a.ensures c.first_ending-ending.result x _
+          read _ view _ (part_end c.loop-t.at c.loop-t.out) c.take_message-a.result _ _ _ _ c.take_message-a.ensures
+          c.first_ending-ending.result x _
           end),
       view-on n s p.low p.high t so_far c.loop-t.ending whole c.loop-t.invariant.1 p.ends _ k
-          read _ view _ (part_end c.loop-t.at c.loop-t.out) c.take_message-a.result _ _ _ _ c.take_message-a.ensures c.first_ending-ending.result x _
+          read _ view _ (part_end c.loop-t.at c.loop-t.out) c.take_message-a.result _ _ _ _ c.take_message-a.ensures
+          c.first_ending-ending.result x _
           end _
           c.loop-t.invariant.2,
       room-on n s p.low p.high t so_far c.loop-t.ending whole c.loop-t.invariant.1 p.ends _ k
-          read _ view _ (part_end c.loop-t.at c.loop-t.out) c.take_message-a.result _ _ _ _ c.take_message-a.ensures c.first_ending-ending.result x _
+          read _ view _ (part_end c.loop-t.at c.loop-t.out) c.take_message-a.result _ _ _ _ c.take_message-a.ensures
+          c.first_ending-ending.result x _
           end ∙ c.loop-t.invariant.3,
       c.parse_prefix-f.ensures,
     )
@@ -157,6 +164,8 @@ shape_of-out c = c.loop-t.invariant.3
 pub returns : goal.returns
 returns c =
     let st = c.loop-t.invariant.1.stand in
-    subst (λ (e : LentResult). Shows (called c.loop-t.ending c.loop-t.at) c.loop-t.r c.loop-t.out c.loop-t.view e c.args.view.now)
-    (last-along c.args.n c.args.s c.loop-t.t.now _ c.loop-t.ending _ c.loop-t.invariant.1 (empty c.loop-t.t.now c.loop-t-test.false))
+    subst (λ (e : LentResult). Shows (called c.loop-t.ending c.loop-t.at) c.loop-t.r c.loop-t.out c.loop-t.view e
+    c.args.view.now)
+    (last-along c.args.n c.args.s c.loop-t.t.now _ c.loop-t.ending _ c.loop-t.invariant.1
+    (empty c.loop-t.t.now c.loop-t-test.false))
     ((st.tells, refl, refl, refl, refl), c.loop-t.invariant.2)

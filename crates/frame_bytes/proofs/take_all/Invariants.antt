@@ -11,7 +11,8 @@ use Rattle.frame_bytes.proofs.take_all.Given as goal
 
 abbrev pub invariant-loop-t : goal.invariant-loop-t
 invariant-loop-t l =
-    (tell : Told) × Along l.n l.s l.t (so tell l.ending l.r l.at l.out) l.ending (one_by_one l.initial.r l.s l.b l.initial.out) × (l.view ≡ event_view tell
+    (tell : Told) × Along l.n l.s l.t (so tell l.ending l.r l.at l.out) l.ending (one_by_one l.initial.r l.s l.b
+    l.initial.out) × (l.view ≡ event_view tell
     l.initial.view)
     × (length l.out ≡ length l.initial.out) × (found l.f ≡ front l.n l.t)
 

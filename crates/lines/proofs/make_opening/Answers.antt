@@ -9,7 +9,8 @@ use Rattle.lines.proofs.make_opening.Goals as goal
 pub returns-then-and : goal.returns-then-and
 returns-then-and c =
     let last = c.args.last in
-    let e : both last (both (leb c.in-Value.n 5) (tolerates c.in-Value.n c.in-Value-b.f)) ≡ true = sym (c.and-in-Value-b.ensures
+    let e : both last (both (leb c.in-Value.n 5) (tolerates c.in-Value.n c.in-Value-b.f)) ≡ true = sym
+    (c.and-in-Value-b.ensures
     ∙ ap (both last) (c.and.ensures
     ∙ ap (both (leb c.in-Value.n 5)) c.tolerates.ensures)) ∙ c.if-and.true in
     rw (c.in-Value.is, c.in-Value-b.is, e)
@@ -17,7 +18,8 @@ returns-then-and c =
 pub returns-else-and : goal.returns-else-and
 returns-else-and c =
     let last = c.args.last in
-    let e : both last (both (leb c.in-Value.n 5) (tolerates c.in-Value.n c.in-Value-b.f)) ≡ false = sym (c.and-in-Value-b.ensures
+    let e : both last (both (leb c.in-Value.n 5) (tolerates c.in-Value.n c.in-Value-b.f)) ≡ false = sym
+    (c.and-in-Value-b.ensures
     ∙ ap (both last) (c.and.ensures
     ∙ ap (both (leb c.in-Value.n 5)) c.tolerates.ensures)) ∙ c.if-and.false in
     rw (c.in-Value.is, c.in-Value-b.is, e)

@@ -46,7 +46,8 @@ let_out-requires c =
     let usable = sym c.is_usable.ensures ∙ c.if-is_usable.true in
     let idle = sym c.has_open.ensures ∙ c.if-has_open.false in
     let enough = sym c.is_full.ensures ∙ c.if-is_full.false in
-    let fit = begin-fit a.c a.o c.begin_step.result _ c.begin_step.ensures usable idle enough c.if-out-lt-OUTPUT.false in
+    let fit = begin-fit a.c a.o c.begin_step.result _ c.begin_step.ensures usable idle enough c.if-out-lt-OUTPUT.false
+    in
     (begin-received _ a.c.f a.c a.o c.begin_step.result c.begin_step.ensures, fit.0, fit.1, fit.2, fit.3)
 
 pub returns-then-is_usable : goal.returns-then-is_usable

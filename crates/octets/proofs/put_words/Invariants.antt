@@ -7,7 +7,8 @@ use Rattle.octets.specs.Loop.{join}
 use Rattle.octets.proofs.put_words.Given as goal
 
 abbrev pub invariant-loop-i : goal.invariant-loop-i
-invariant-loop-i l = (l.i ≤ length l.t) × (l.b ≡ put l.initial.b l.at (join l.i (λ j. be 8 (get_or l.t j 0)))) × (length l.b ≡ length l.initial.b)
+invariant-loop-i l = (l.i ≤ length l.t) × (l.b ≡ put l.initial.b l.at (join l.i (λ j. be 8 (get_or l.t j 0))))
+    × (length l.b ≡ length l.initial.b)
 
 abbrev pub decreases-loop-i : goal.decreases-loop-i
 decreases-loop-i l = length l.t - l.i

@@ -16,7 +16,8 @@ overflow_sub-k c =
     let a = c.args in
     omega (
       arith,
-      written-room a.out.now a.end a.x c.loop-y.out c.loop-y.k c.loop-y.y c.loop-y.invariant.0 c.requires.0 c.requires.1,
+      written-room a.out.now a.end a.x c.loop-y.out c.loop-y.k c.loop-y.y c.loop-y.invariant.0 c.requires.0
+          c.requires.1,
     )
 
 pub bounds-out-k : goal.bounds-out-k
@@ -24,7 +25,8 @@ bounds-out-k c =
     let a = c.args in
     omega (
       arith,
-      written-room a.out.now a.end a.x c.loop-y.out c.loop-y.k c.loop-y.y c.loop-y.invariant.0 c.requires.0 c.requires.1,
+      written-room a.out.now a.end a.x c.loop-y.out c.loop-y.k c.loop-y.y c.loop-y.invariant.0 c.requires.0
+          c.requires.1,
       c.loop-y.invariant.1,
       c.loop-y.invariant.2,
       c.requires.1,
@@ -44,7 +46,8 @@ overflow_sub-out c =
     let a = c.args in
     omega (
       arith,
-      written-room a.out.now a.end a.x c.loop-y.out c.loop-y.k c.loop-y.y c.loop-y.invariant.0 c.requires.0 c.requires.1,
+      written-room a.out.now a.end a.x c.loop-y.out c.loop-y.k c.loop-y.y c.loop-y.invariant.0 c.requires.0
+          c.requires.1,
     )
 
 pub bounds-out-k-2 : goal.bounds-out-k-2
@@ -52,7 +55,8 @@ bounds-out-k-2 c =
     let a = c.args in
     omega (
       arith,
-      written-room a.out.now a.end a.x c.loop-y.out c.loop-y.k c.loop-y.y c.loop-y.invariant.0 c.requires.0 c.requires.1,
+      written-room a.out.now a.end a.x c.loop-y.out c.loop-y.k c.loop-y.y c.loop-y.invariant.0 c.requires.0
+          c.requires.1,
       c.loop-y.invariant.1,
       c.loop-y.invariant.2,
       c.requires.1,
@@ -64,4 +68,5 @@ shape_of-out c = simp length-set c.loop-y.invariant.1
 pub returns : goal.returns
 returns c =
     let a = c.args in
-    written_last a.out.now a.end a.x c.loop-y.out c.loop-y.k c.loop-y.y c.loop-y.invariant.0 c.requires.0 c.requires.1 (omega arith)
+    written_last a.out.now a.end a.x c.loop-y.out c.loop-y.k c.loop-y.y c.loop-y.invariant.0 c.requires.0 c.requires.1
+    (omega arith)

@@ -12,7 +12,8 @@ use Rattle.view.specs.View.{view_bytes, view_of}
 use Rattle.view.specs.declared.View.{View}
 use Rattle.record.specs.Record.{with_wait as keep_wait}
 use Rattle.record.specs.declared.Wait.{Wait}
-use Rattle.region.specs.Record.{record_of, record_bytes, n_place, kept_place, kept_in, view_place, head_bytes, with_kept}
+use Rattle.region.specs.Record.{record_of, record_bytes, n_place, kept_place, kept_in, view_place, head_bytes}
+use Rattle.region.specs.Record.{with_kept}
 use Rattle.region.specs.declared.head.Head.{Head}
 use Rattle.react_bytes.proofs.Handling.{kept-bytes, kept_same}
 use Rattle.react_bytes.proofs.kept_in.Goals as goal

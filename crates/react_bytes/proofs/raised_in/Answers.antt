@@ -9,7 +9,8 @@ use Rattle.octets.specs.Bytes.{put}
 use Rattle.octets.specs.Word.{word}
 use Rattle.record.specs.Record.{with_wait as keep_wait}
 use Rattle.record.specs.declared.Wait.{Wait}
-use Rattle.region.specs.Record.{record_of, record_bytes, n_place, maxtag_place, atmax_in, view_place, head_bytes, with_maxtag}
+use Rattle.region.specs.Record.{record_of, record_bytes, n_place, maxtag_place, atmax_in, view_place, head_bytes}
+use Rattle.region.specs.Record.{with_maxtag}
 use Rattle.region.specs.declared.head.Head.{Head}
 use Rattle.react_bytes.proofs.Handling.{raised-bytes, raised-same}
 use Rattle.react_bytes.proofs.raised_in.Goals as goal

@@ -71,12 +71,18 @@ returns-in-WriteAnswer c =
 pub returns-in-Echo : goal.returns-in-Echo
 unfolding react
 returns-in-Echo c =
-    rw c.in-Echo.is (simp (c.sent_where.ensures, c.raised_in-grown-in-Echo.ensures.0), c.raised_in-grown-in-Echo.ensures.1)
+    rw c.in-Echo.is (
+      simp (c.sent_where.ensures, c.raised_in-grown-in-Echo.ensures.0),
+      c.raised_in-grown-in-Echo.ensures.1,
+    )
 
 pub returns-in-Value : goal.returns-in-Value
 unfolding react
 returns-in-Value c =
-    rw c.in-Value.is (simp (c.sent_where-in-Value.ensures, c.received_in-fresh.ensures.0), c.received_in-fresh.ensures.1)
+    rw c.in-Value.is (
+      simp (c.sent_where-in-Value.ensures, c.received_in-fresh.ensures.0),
+      c.received_in-fresh.ensures.1,
+    )
 
 pub returns-in-Good : goal.returns-in-Good
 unfolding react

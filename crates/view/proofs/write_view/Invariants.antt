@@ -10,7 +10,8 @@ use Rattle.view.proofs.write_view.Given as goal
 
 abbrev pub invariant-loop-i : goal.invariant-loop-i
 invariant-loop-i l = (l.i ≤ l.n) × (l.out ≡ put l.initial.out 0
-    (join l.i (λ j. entry_bytes (get_or l.tags j 0) (get_or l.reports j no_report)))) × (length l.out ≡ length l.initial.out)
+    (join l.i (λ j. entry_bytes (get_or l.tags j 0) (get_or l.reports j no_report))))
+    × (length l.out ≡ length l.initial.out)
 
 abbrev pub decreases-loop-i : goal.decreases-loop-i
 decreases-loop-i l = l.n - l.i

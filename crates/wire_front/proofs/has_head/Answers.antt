@@ -15,6 +15,7 @@ returns c =
     let b = a.b.now in
     c.and-2.ensures
     ∙ ap (λ (t : Bool). both (eqb (get_or b a.at 0) a.mark) t) (c.and.ensures
-    ∙ ap (λ (d : List ℕ). both (eqb (get_or b (a.at + 1) 0) (get_or d 0 0)) (eqb (get_or b (a.at + 2) 0) (get_or d 1 0)))
+    ∙ ap (λ (d : List ℕ). both (eqb (get_or b (a.at + 1) 0) (get_or d 0 0))
+    (eqb (get_or b (a.at + 2) 0) (get_or d 1 0)))
     c.digits2-d.ensures)
     ∙ sym (head-is b a.at a.mark a.size c.requires)

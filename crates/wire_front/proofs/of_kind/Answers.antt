@@ -39,7 +39,12 @@ returns-then-and-2 c =
     ) at
     (sym c.and-then-b-ge-READ_ANSWER.ensures ∙ c.if-and-2.true) in
     rw c.in-2.is
-    (simp (le-leb _ _ c.if-b-ge-READ_ANSWER.true, t, c.get_word-request-then-b-ge-READ_ANSWER.ensures, c.get_word-tag.ensures))
+    (simp (
+      le-leb _ _ c.if-b-ge-READ_ANSWER.true,
+      t,
+      c.get_word-request-then-b-ge-READ_ANSWER.ensures,
+      c.get_word-tag.ensures,
+    ))
 
 pub returns-else-and-2 : goal.returns-else-and-2
 unfolding shape_as said allowed message_size part
@@ -69,7 +74,12 @@ returns-then-and-3 c =
     ) at
     (sym c.and-then-b-ge-WRITE.ensures ∙ c.if-and-3.true) in
     rw c.in-3.is
-    (simp (le-leb _ _ c.if-b-ge-WRITE.true, t, c.get_word-request-then-b-ge-WRITE.ensures, c.get_word-tag-then-b-ge-WRITE.ensures))
+    (simp (
+      le-leb _ _ c.if-b-ge-WRITE.true,
+      t,
+      c.get_word-request-then-b-ge-WRITE.ensures,
+      c.get_word-tag-then-b-ge-WRITE.ensures,
+    ))
 
 pub returns-else-and-3 : goal.returns-else-and-3
 unfolding shape_as said allowed message_size part
@@ -99,7 +109,12 @@ returns-then-and-4 c =
     ) at
     (sym c.and-then-b-ge-WRITE_ANSWER.ensures ∙ c.if-and-4.true) in
     rw c.in-4.is
-    (simp (le-leb _ _ c.if-b-ge-WRITE_ANSWER.true, t, c.get_word-request-then-b-ge-WRITE_ANSWER.ensures, c.get_word-tag-then-b-ge-WRITE_ANSWER.ensures))
+    (simp (
+      le-leb _ _ c.if-b-ge-WRITE_ANSWER.true,
+      t,
+      c.get_word-request-then-b-ge-WRITE_ANSWER.ensures,
+      c.get_word-tag-then-b-ge-WRITE_ANSWER.ensures,
+    ))
 
 pub returns-else-and-4 : goal.returns-else-and-4
 unfolding shape_as said allowed message_size part

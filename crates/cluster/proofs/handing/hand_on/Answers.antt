@@ -164,7 +164,8 @@ returns c =
     (sym c.is_stale_in.ensures ∙ c.if-is_stale_in.false)
     (cut-judged a.n a.x a.b.now c.is_cut.ensures c.may_cut.ensures c.if-not-may_cut.false)
     c.faults_in.ensures refl
-    (back ∙ ap (move_on most) (reacted-step r r' a.a a.m v z c.handle_first-sent.ensures.1 c.handle_first-sent.ensures.0)))
+    (back ∙ ap (move_on most) (reacted-step r r' a.a a.m v z c.handle_first-sent.ensures.1
+    c.handle_first-sent.ensures.0)))
     (settle-told a.n a.a a.c a.x (step_of (record_of c.follow_in-e.new.r) c.follow_in-e.result)
     (on_block a.c (take_off a.a) a.b.now) a.b.now
     c.answered.result c.settle_delivery-room.ensures.0 c.settle_delivery-room.ensures.1 c.is_cut-2.ensures

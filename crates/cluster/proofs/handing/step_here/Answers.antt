@@ -63,13 +63,16 @@ release_handled-requires c =
       h.from-high,
       h.low,
       h.high,
-      t-long a.n a.a a.c a.m a.b.now h p.2 p.1 c.take_first-sent.new.b c.take_first-sent.result c.take_first-sent.ensures.0
+      t-long a.n a.a a.c a.m a.b.now h p.2 p.1 c.take_first-sent.new.b c.take_first-sent.result
+          c.take_first-sent.ensures.0
           c.take_first-sent.ensures.1 ∙ h.long,
-      rest-received a.n a.a a.c a.m a.b.now h p.2 p.1 c.take_first-sent.new.b c.take_first-sent.result c.take_first-sent.ensures.0
+      rest-received a.n a.a a.c a.m a.b.now h p.2 p.1 c.take_first-sent.new.b c.take_first-sent.result
+          c.take_first-sent.ensures.0
           c.take_first-sent.ensures.1 c.faults_in-f.result c.plan_at-p.result c.faults_in-f.ensures
           c.plan_at-p.ensures still
           c.first_place-from.result c.first_place-from.ensures,
-      rest-lawful a.n a.a a.c a.m a.b.now h p.2 p.1 c.take_first-sent.new.b c.take_first-sent.result c.take_first-sent.ensures.0
+      rest-lawful a.n a.a a.c a.m a.b.now h p.2 p.1 c.take_first-sent.new.b c.take_first-sent.result
+          c.take_first-sent.ensures.0
           c.take_first-sent.ensures.1 c.faults_in-f.result c.plan_at-p.result c.faults_in-f.ensures
           c.plan_at-p.ensures still,
     )
@@ -82,15 +85,18 @@ returns-then-is_rest c =
     let still = sym c.is_rest.ensures ∙ c.if-is_rest.true in
     let whole = step a.n a.a a.c a.m a.b.now h in
     let alone = as-started a.n a.a a.c a.m a.b.now h p.2 p.1 c.take_first-sent.new.b c.take_first-sent.result
-    c.take_first-sent.ensures.0 c.take_first-sent.ensures.1 c.faults_in-f.result c.plan_at-p.result c.faults_in-f.ensures
+    c.take_first-sent.ensures.0 c.take_first-sent.ensures.1 c.faults_in-f.result c.plan_at-p.result
+    c.faults_in-f.ensures
     c.plan_at-p.ensures
     still in
     let cut = is_cut a.x in
     settle-told a.n a.a a.c a.x whole (on_block a.c (take_off a.a) a.b.now) a.b.now
     c.given.result
-    (has-room a.n a.a a.c a.m a.b.now h p.2 p.1 c.take_first-sent.new.b c.take_first-sent.result c.take_first-sent.ensures.0
+    (has-room a.n a.a a.c a.m a.b.now h p.2 p.1 c.take_first-sent.new.b c.take_first-sent.result
+    c.take_first-sent.ensures.0
     c.take_first-sent.ensures.1 a.x p.3)
-    (rest-released a.n a.a a.c a.m a.b.now h p.2 p.1 c.take_first-sent.new.b c.take_first-sent.result c.take_first-sent.ensures.0
+    (rest-released a.n a.a a.c a.m a.b.now h p.2 p.1 c.take_first-sent.new.b c.take_first-sent.result
+    c.take_first-sent.ensures.0
     c.take_first-sent.ensures.1 c.faults_in-f.result c.plan_at-p.result c.faults_in-f.ensures
     c.plan_at-p.ensures still a.x
     c.release_handled.ensures)
@@ -104,7 +110,8 @@ pub follow_at-e-requires : goal.follow_at-e-requires
 follow_at-e-requires c =
     let a = c.args in
     let p = c.requires in
-    follow-needs a.n a.a a.c a.m a.b.now p.0 p.2 p.1 c.take_first-sent.new.b c.take_first-sent.result c.take_first-sent.ensures.0
+    follow-needs a.n a.a a.c a.m a.b.now p.0 p.2 p.1 c.take_first-sent.new.b c.take_first-sent.result
+    c.take_first-sent.ensures.0
     c.take_first-sent.ensures.1 c.plan_at-p.result c.plan_at-p.ensures.1
 
 pub release-requires : goal.release-requires
@@ -119,11 +126,14 @@ release-requires c =
       h.high,
       c.follow_at-e.auto.b ∙ t-long a.n a.a a.c a.m a.b.now h p.2 p.1 c.take_first-sent.new.b c.take_first-sent.result
           c.take_first-sent.ensures.0 c.take_first-sent.ensures.1 ∙ h.long,
-      r-received a.n a.a a.c a.m a.b.now h p.2 p.1 c.take_first-sent.new.b c.take_first-sent.result c.take_first-sent.ensures.0
+      r-received a.n a.a a.c a.m a.b.now h p.2 p.1 c.take_first-sent.new.b c.take_first-sent.result
+          c.take_first-sent.ensures.0
           c.take_first-sent.ensures.1 c.follow_at-e.result c.follow_at-e.new.b c.faults_in-f.result c.plan_at-p.result
           c.faults_in-f.ensures
-          c.plan_at-p.ensures c.follow_at-e.ensures.0 c.follow_at-e.ensures.1 c.first_place-from.result c.first_place-from.ensures,
-      r-lawful a.n a.a a.c a.m a.b.now h p.2 p.1 c.take_first-sent.new.b c.take_first-sent.result c.take_first-sent.ensures.0
+          c.plan_at-p.ensures c.follow_at-e.ensures.0 c.follow_at-e.ensures.1 c.first_place-from.result
+          c.first_place-from.ensures,
+      r-lawful a.n a.a a.c a.m a.b.now h p.2 p.1 c.take_first-sent.new.b c.take_first-sent.result
+          c.take_first-sent.ensures.0
           c.take_first-sent.ensures.1 c.follow_at-e.result c.follow_at-e.new.b c.faults_in-f.result c.plan_at-p.result
           c.faults_in-f.ensures
           c.plan_at-p.ensures c.follow_at-e.ensures.0 c.follow_at-e.ensures.1,
@@ -136,14 +146,18 @@ returns c =
     let h = p.0 in
     let whole = step a.n a.a a.c a.m a.b.now h in
     let same = is-effect a.n a.a a.c a.m a.b.now h p.2 p.1 c.take_first-sent.new.b c.take_first-sent.result
-    c.take_first-sent.ensures.0 c.take_first-sent.ensures.1 c.follow_at-e.result c.follow_at-e.new.b c.faults_in-f.result c.plan_at-p.result
+    c.take_first-sent.ensures.0 c.take_first-sent.ensures.1 c.follow_at-e.result c.follow_at-e.new.b
+    c.faults_in-f.result c.plan_at-p.result
     c.faults_in-f.ensures c.plan_at-p.ensures c.follow_at-e.ensures.0 c.follow_at-e.ensures.1 in
     settle-told a.n a.a a.c a.x whole (on_block a.c (take_off a.a) a.b.now) a.b.now
     c.given-2.result
-    (has-room a.n a.a a.c a.m a.b.now h p.2 p.1 c.take_first-sent.new.b c.take_first-sent.result c.take_first-sent.ensures.0
+    (has-room a.n a.a a.c a.m a.b.now h p.2 p.1 c.take_first-sent.new.b c.take_first-sent.result
+    c.take_first-sent.ensures.0
     c.take_first-sent.ensures.1 a.x p.3)
-    (r-released a.n a.a a.c a.m a.b.now h p.2 p.1 c.take_first-sent.new.b c.take_first-sent.result c.take_first-sent.ensures.0
-    c.take_first-sent.ensures.1 c.follow_at-e.result c.follow_at-e.new.b c.faults_in-f.result c.plan_at-p.result c.faults_in-f.ensures
+    (r-released a.n a.a a.c a.m a.b.now h p.2 p.1 c.take_first-sent.new.b c.take_first-sent.result
+    c.take_first-sent.ensures.0
+    c.take_first-sent.ensures.1 c.follow_at-e.result c.follow_at-e.new.b c.faults_in-f.result c.plan_at-p.result
+    c.faults_in-f.ensures
     c.plan_at-p.ensures c.follow_at-e.ensures.0 c.follow_at-e.ensures.1 a.x c.release.ensures)
     c.is_cut.ensures
     (c.given-2.ensures.0 ∙ ap (λ (e : Effect). returned (pick c.is_cut.result None e.ending)) same)

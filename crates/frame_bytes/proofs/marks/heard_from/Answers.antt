@@ -18,7 +18,8 @@ loop-i-preserved c =
     let small = c.requires.1 in (
       search rules,
       length-set c.loop-i.t c.loop-i.i _ ∙ c.loop-i.invariant.1,
-      filled c.loop-i.t c.loop-i.i _ (heard_of (words cells c.args.r.now heard_place) c.args.s) (let long = c.loop-i.invariant.1 in omega (arith, long, more, small)) c.loop-i.invariant.2
+      filled c.loop-i.t c.loop-i.i _ (heard_of (words cells c.args.r.now heard_place) c.args.s)
+          (let long = c.loop-i.invariant.1 in omega (arith, long, more, small)) c.loop-i.invariant.2
           c.heard_in.ensures,
     )
 

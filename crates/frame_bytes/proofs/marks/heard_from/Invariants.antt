@@ -10,7 +10,8 @@ use Rattle.frame_bytes.proofs.marks.heard_from.Given as goal
 
 abbrev pub invariant-loop-i : goal.invariant-loop-i
 invariant-loop-i l =
-    (l.i ≤ l.n) × (length l.t ≡ nodes) × ((w : ℕ) → 1 ≤ w → w ≤ l.i → at l.t w ≡ heard_of (words cells l.r heard_place) l.s w)
+    (l.i ≤ l.n) × (length l.t ≡ nodes) × ((w : ℕ) → 1 ≤ w → w ≤ l.i → at l.t w ≡ heard_of (words cells l.r heard_place)
+    l.s w)
 
 abbrev pub decreases-loop-i : goal.decreases-loop-i
 decreases-loop-i l = l.n - l.i

@@ -14,7 +14,8 @@ abbrev pub entry : List ℕ → ℕ → ℕ → List ℕ
 entry r t i = newest_entry t (view_in r last_in) (view_in r atmax_in) (i + 1)
 
 abbrev pub invariant-loop-i : goal.invariant-loop-i
-invariant-loop-i l = (l.i ≤ nodes) × (l.out ≡ put l.initial.out 0 (join l.i (entry l.r l.t))) × (length l.out ≡ length l.initial.out)
+invariant-loop-i l = (l.i ≤ nodes) × (l.out ≡ put l.initial.out 0 (join l.i (entry l.r l.t)))
+    × (length l.out ≡ length l.initial.out)
 
 abbrev pub decreases-loop-i : goal.decreases-loop-i
 decreases-loop-i l = nodes - l.i

@@ -15,7 +15,8 @@ pub returns : goal.returns
 returns c =
     let b = c.args.b.now in
     let w = c.args.w in
-    put_then b code_place (word_bytes (wait_words w)) (report_bytes (wait_report w)) report_place (omega arith) (wait-end w)
+    put_then b code_place (word_bytes (wait_words w)) (report_bytes (wait_report w)) report_place (omega arith)
+    (wait-end w)
     (c.put_words.ensures ∙ ap (λ (t : List ℕ). put b code_place (word_bytes t)) c.wait_words-k.ensures)
     (c.put_bytes.ensures ∙ ap (put _ report_place) (c.report_bytes-p.ensures ∙ ap report_bytes
     c.wait_report.ensures))

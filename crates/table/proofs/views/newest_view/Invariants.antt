@@ -10,7 +10,8 @@ use Rattle.table.specs.Table.{newest_tag, newest_report}
 use Rattle.table.proofs.views.newest_view.Given as goal
 
 abbrev pub invariant-loop-w : goal.invariant-loop-w
-invariant-loop-w l = (l.w ≤ nodes) × (l.v.tags ≡ numbered l.w (newest_tag l.t l.last l.initial.v) ++ drop l.w l.initial.v.tags)
+invariant-loop-w l = (l.w ≤ nodes) × (l.v.tags ≡ numbered l.w (newest_tag l.t l.last l.initial.v) ++ drop l.w
+    l.initial.v.tags)
     × (l.v.reports ≡ numbered l.w (newest_report l.t l.last l.initial.v) ++ drop l.w l.initial.v.reports)
 
 abbrev pub decreases-loop-w : goal.decreases-loop-w
