@@ -72,7 +72,8 @@ module _ (n f : ℕ) (half : f + f < n) {out : Logs} {γ : Past} {i r : ℕ} {l 
         (Memᴰ.tail (cmp n f half ν c).held) in
         record { kept = next.kept; ended = tt }
 
-    first-failed : Fine n f out γ i r (update p) l (after_failed (update p) round0 t (with_wait (comparing o round0 t) ν))
+    first-failed : Fine n f out γ i r (update p) l
+        (after_failed (update p) round0 t (with_wait (comparing o round0 t) ν))
     first-failed = opened n f half ν c round1 (max (suc t) ν.maxtag)
         (onward n f half (cmp n f half ν c).stage round1 (max (suc t) ν.maxtag)
         (omega (arith, (cmp n f half ν c).stage.rise)) tt)

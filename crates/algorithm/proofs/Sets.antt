@@ -52,7 +52,8 @@ has_of {v} m = go m
     go (Memᴰ.head {x} {xs} e) = or_left (decide (same v x)) (has xs v) ((decide_iff (same v x)).1 e)
     go (Memᴰ.tail {x} {xs} m) = or_right (decide (same v x)) (has xs v) (go m)
 
-pub included_up_to-to : (t : ℕ) (a b : List Value) → included_up_to t a b ≡ true → (v : Value) → v ∈ a → v.tag ≤ t → v ∈ b
+pub included_up_to-to : (t : ℕ) (a b : List Value) → included_up_to t a b ≡ true → (v : Value) → v ∈ a
+    → v.tag ≤ t → v ∈ b
 unfolding included_up_to
 included_up_to-to t [] b e v i h = elim i [ ]
 included_up_to-to t (x ∷ a) b e v (Memᴰ.head d) h =

@@ -8,7 +8,8 @@ use mathlib.Core.Bool.{cond, decide}
 use mathlib.Core.List.{List, [], ◌∷◌, ◌++◌, append_assoc}
 use lib.ListN.{length, take, drop, get_or}
 use Rattle.history.specs.Event.{Ending, none, done, shown, spent}
-use Rattle.history.specs.Trace.{Seen, Trace, handler, ending_at, Fate, unfinished, ended, fate_by, first_ending, tags_sent}
+use Rattle.history.specs.Trace.{Seen, Trace, handler, ending_at, Fate, unfinished, ended, fate_by, first_ending}
+use Rattle.history.specs.Trace.{tags_sent}
 use Rattle.history.specs.Trace.{own_tags}
 
 module _ {A : Type 0} where
@@ -53,7 +54,8 @@ unfolding first_ending
 ending-append c k [] o = ap (λ j. fate_by j (ending_at c o) unfinished) (sym (add-zero k))
 ending-append c k (x ∷ l) o =
     ap (fate_by k (ending_at c x)) (ending-append c (suc k) l o)
-    ∙ fate_by-or_else k (ending_at c x) (first_ending c (suc k) l) (fate_by (suc k + length l) (ending_at c o) unfinished)
+    ∙ fate_by-or_else k (ending_at c x) (first_ending c (suc k) l)
+    (fate_by (suc k + length l) (ending_at c o) unfinished)
     ∙ ap (λ j. or_else (fate_by k (ending_at c x) (first_ending c (suc k) l)) (fate_by j (ending_at c o) unfinished))
     (omega arith)
 

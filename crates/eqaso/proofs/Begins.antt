@@ -39,7 +39,8 @@ beginning n c op x s =
     record { event = begin c op x; answer = accepted (given x s.ending); sent = shortened x (entries n s.sent) }
 
 module _ {n f : ℕ} (half : f + f < n) {stopped : ℕ → Bool} {σ : Sites} {gone : ℕ → Logs} {tr : Trace} (kept : Kept n tr)
-    (H : History n f stopped σ gone (book_of tr)) (c : ℕ) (one : OneTo n c) (stands : stopped c ≡ false) (op : Operation)
+    (H : History n f stopped σ gone (book_of tr)) (c : ℕ) (one : OneTo n c) (stands : stopped c ≡ false)
+    (op : Operation)
     (x : Extent)
     (rests : Rests (σ c).node.wait) where
   abbrev B : Book

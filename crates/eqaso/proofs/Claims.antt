@@ -114,7 +114,8 @@ module _ (n f : ℕ) (room : ℕ → Bool) (half : f + f < n) where
         },
       )
     where
-      held : (v : Value) → v ∈ ((run-good n f room half es).sites c).node.all → v ∈ ((after n f room start es).nodes c).all
+      held : (v : Value) → v ∈ ((run-good n f room half es).sites c).node.all
+          → v ∈ ((after n f room start es).nodes c).all
       held v m = subst (λ ν. v ∈ (ν c).all) (sym (run-good n f room half es).same) m
 
   pub rising : RunRising n f room

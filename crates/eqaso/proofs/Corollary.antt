@@ -7,7 +7,8 @@ use mathlib.Core.Path.{◌≡◌, ◌∙◌, subst}
 use Rattle.order.specs.Sequence.{before}
 use Rattle.history.specs.Message.{absent}
 use Rattle.history.specs.Event.{done, spent, none, shown}
-use Rattle.history.specs.Trace.{Trace, Begun, updating, scanning, begun, Fate, unfinished, ended, fate, tag_at, scan_view}
+use Rattle.history.specs.Trace.{Trace, Begun, updating, scanning, begun, Fate, unfinished, ended, fate, tag_at}
+use Rattle.history.specs.Trace.{scan_view}
 use Rattle.history.specs.Trace.{entry_at, nothing}
 use Rattle.history.specs.Order.{OneTo, Finished, IsScan, PlacedBy, EndedBefore, SingleOrder}
 use Rattle.history.specs.Views.{HasView, end_view}

@@ -5,7 +5,8 @@ use mathlib.Core.Path.{◌≡◌, refl, sym, ◌∙◌, ap, subst}
 use mathlib.Core.List.{List, [], ◌∷◌, ◌++◌}
 use lib.ListN.{length, take, drop, length-append, length-drop, get_or-append, get_or-eq_default}
 use Rattle.history.specs.Event.{Ending, none, done, shown, spent}
-use Rattle.history.specs.Trace.{Seen, nothing_seen, Trace, nothing, begun_by, begun, ending_at, unfinished, ended, fate_by}
+use Rattle.history.specs.Trace.{Seen, nothing_seen, Trace, nothing, begun_by, begun, ending_at, unfinished, ended}
+use Rattle.history.specs.Trace.{fate_by}
 use Rattle.history.specs.Trace.{first_ending, fate_at, up_to_end, own_tags, largest, first_above, tag_at}
 use Rattle.eqaso.proofs.Append.{get_d-last, drop-append, drop-length, take-append, take_all, or_else}
 use Rattle.eqaso.proofs.Append.{ending-append, Inside, ending-inside, own-append}
@@ -55,7 +56,8 @@ module _ (tr : Trace) (o : Seen) where
       ∙ ap (drop t) (take-append (suc k) tr (o ∷ []) (ended-inside t c k e lt is))
       ∙ ap (λ x. up_to_end t x tr) (sym is)
 
-  pub tag-ended : (t c k : ℕ) (e : Ending) → t < length tr → fate_at tr t c ≡ ended k e → tag_at next t c ≡ tag_at tr t c
+  pub tag-ended : (t c k : ℕ) (e : Ending) → t < length tr → fate_at tr t c ≡ ended k e
+      → tag_at next t c ≡ tag_at tr t c
   tag-ended t c k e lt is =
       ap (λ b. first_above (largest (own_tags c b)) (own_tags c (up_to_end t (fate_at next t c) next)))
       (take-append t tr (o ∷ []) (omega arith))
@@ -83,7 +85,8 @@ module _ (tr : Trace) (o : Seen) where
   pub tag-last : (c : ℕ) → fate_at next (length tr) c ≡ unfinished
       → tag_at next (length tr) c ≡ first_above (largest (own_tags c tr)) (own_at c o)
   tag-last c is =
-      ap (λ b. first_above (largest (own_tags c b)) (own_tags c (up_to_end (length tr) (fate_at next (length tr) c) next)))
+      ap (λ b. first_above (largest (own_tags c b))
+      (own_tags c (up_to_end (length tr) (fate_at next (length tr) c) next)))
       (take-append (length tr) tr (o ∷ []) (omega arith) ∙ take_all (length tr) tr (omega arith))
       ∙ ap (λ s. first_above (largest (own_tags c tr)) (own_tags c s))
       (ap (λ x. up_to_end (length tr) x next) is ∙ drop-length tr (o ∷ []))

@@ -93,11 +93,13 @@ module _ (tr : Trace) (o : Seen) where
       go : (x : Fate) → fate_at tr t c ≡ x → Dec (0 < tag_at tr t c) → tag_at next t c ≡ tag_at tr t c
       go (ended k e) is d = tag-ended tr o t c k e lt is
       go unfinished is (yes pos) = tag_open tr o t c lt is
-          ∙ first-keeps (largest (own_tags c (take t tr))) (own_tags c (up_to_end t (fate_at tr t c) tr)) (own_at c o) pos
+          ∙ first-keeps (largest (own_tags c (take t tr))) (own_tags c (up_to_end t (fate_at tr t c) tr))
+          (own_at c o) pos
       go unfinished is (no h) =
           let low : tag_at tr t c ≡ 0 = omega arith in
           tag_open tr o t c lt is
-          ∙ first_next (largest (own_tags c (take t tr))) (own_tags c (up_to_end t (fate_at tr t c) tr)) (own_at c o) low
+          ∙ first_next (largest (own_tags c (take t tr))) (own_tags c (up_to_end t (fate_at tr t c) tr))
+          (own_at c o) low
           ∙ first-low (largest (own_tags c (take t tr))) (own_at c o) (low-calm t c is low calm) ∙ sym low
 
   -- A row stays where the entry gives no ending at its node, and no new tag.
@@ -109,7 +111,8 @@ module _ (tr : Trace) (o : Seen) where
   row_calm t lt (scanning c) h = λ i. (scanning c, fate-calm t c lt (h c refl).0 i, 0)
 
   -- The row of an operation that has ended stays in any case.
-  pub row-ended : (t : ℕ) → t < length tr → (b : Begun) → ¬ (fate_of tr t b ≡ unfinished) → row_of next t b ≡ row_of tr t b
+  pub row-ended : (t : ℕ) → t < length tr → (b : Begun) → ¬ (fate_of tr t b ≡ unfinished)
+      → row_of next t b ≡ row_of tr t b
   row-ended t lt nothing h = refl
   row-ended t lt (updating c p) h = go (fate_at tr t c) refl
     where

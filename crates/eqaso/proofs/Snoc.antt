@@ -46,7 +46,8 @@ passed_none o a b e = rw e (go (decide (ℕ_discrete (handler o.event) a)))
     go true = refl
     go false = refl
 
-pub let_out_to-snoc : (tr : Trace) (o : Seen) (a b : ℕ) → let_out_to (tr ++ (o ∷ [])) a b ≡ let_out_to tr a b ++ passed o a b
+pub let_out_to-snoc : (tr : Trace) (o : Seen) (a b : ℕ) → let_out_to (tr ++ (o ∷ [])) a b
+    ≡ let_out_to tr a b ++ passed o a b
 unfolding let_out_to
 let_out_to-snoc [] o a b = append-nil (passed o a b)
 let_out_to-snoc (x ∷ tr) o a b =

@@ -8,7 +8,8 @@ use Rattle.logs.specs.Log.{push}
 use Rattle.history.specs.Message.{View, Message}
 use Rattle.history.specs.Event.{Operation, update, scan, Rule, Ending, none, done, shown, spent}
 use Rattle.algorithm.specs.Algorithm.{limit, Wait, idle, reading, Node, Step, sending, ended, then_by, ◌then◌}
-use Rattle.algorithm.specs.Algorithm.{with_wait, quorum?, finish, read_pass, write_pass, compare_pass, borrow_pass, move_on}
+use Rattle.algorithm.specs.Algorithm.{with_wait, quorum?, finish, read_pass, write_pass, compare_pass, borrow_pass}
+use Rattle.algorithm.specs.Algorithm.{move_on}
 use Rattle.algorithm.specs.Algorithm.{react, message_step}
 use Rattle.algorithm.proofs.Passes.{Claim, Final, On, react-open}
 use Rattle.algorithm.proofs.MoveOn.{Moves, message-leaves}

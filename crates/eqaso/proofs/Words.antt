@@ -9,7 +9,8 @@ use mathlib.Core.List.Memᴰ
 use mathlib.Core.List.{List, [], ◌∷◌}
 use lib.ListN.{take}
 use Rattle.logs.specs.Log.{◌∈◌}
-use Rattle.history.specs.Trace.{Trace, updating, begun, Fate, ended, fate_at, fate_of, fate, up_to_end, own_tags, largest}
+use Rattle.history.specs.Trace.{Trace, updating, begun, Fate, ended, fate_at, fate_of, fate, up_to_end, own_tags}
+use Rattle.history.specs.Trace.{largest}
 use Rattle.history.specs.Trace.{tag_at, unfinished}
 use Rattle.history.specs.Order.{EndedBefore}
 use Rattle.history.specs.Tags.{IsTag, TagsAsWorded}

@@ -1,7 +1,8 @@
 -- A cluster: n nodes and a first-in first-out channel from each to each, itself included. Document 01 calls it a house,
 -- with cabinets and trunks. An event is accepted or refused, and a refused one leaves all as it was. Refusals 2, 7, 9
 -- and 12 are of bytes and records: a cluster of sets does not know them.
-use Rattle.std.specs.Prelude.{ℕ, zero, suc, ◌-◌, ◌≡◌, Bool, true, false, cond, not, ◌&&◌, List, [], ◌∷◌, ◌++◌, length, take}
+use Rattle.std.specs.Prelude.{ℕ, zero, suc, ◌-◌, ◌≡◌, Bool, true, false, cond, not, ◌&&◌, List, [], ◌∷◌, ◌++◌, length}
+use Rattle.std.specs.Prelude.{take}
 use Rattle.std.proofs.Math.Decide.{ℕ_discrete, dec_le, dec_lt}
 use Rattle.std.proofs.Math.Logic.{ite}
 use Rattle.std.proofs.Math.Bool.{decide, Bool-discrete}

@@ -26,7 +26,8 @@ module _ (tr : Trace) (w : ℕ) where
       go (yes e) = absurd (h (p, ap (λ a. updating a p) e))
       go (no e) = refl
 
-  own-writes : (t p : ℕ) (old : Entry) → writes_by tr t w (updating w p) old ≡ record { tag = tag_at tr t w; report = p }
+  own-writes : (t p : ℕ) (old : Entry) → writes_by tr t w (updating w p) old
+      ≡ record { tag = tag_at tr t w; report = p }
   unfolding decide
   own-writes t p old = go (ℕ_discrete w w)
     where
@@ -67,7 +68,8 @@ module _ (tr : Trace) (w : ℕ) (tagged : (u p : ℕ) → begun tr u ≡ updatin
   written-some : (l : List ℕ) (old : Entry) → 0 < old.tag → 0 < (written tr w l old).tag
   unfolding written
   written-some [] old h = h
-  written-some (t ∷ l) old h = written-some l (writes_by tr t w (begun tr t) old) (writes-some t (begun tr t) old refl h)
+  written-some (t ∷ l) old h =
+      written-some l (writes_by tr t w (begun tr t) old) (writes-some t (begun tr t) old refl h)
 
   update-writes : (t p : ℕ) (old : Entry) → begun tr t ≡ updating w p → 0 < (writes_by tr t w (begun tr t) old).tag
   unfolding decide
