@@ -1,6 +1,6 @@
 -- Demand 2 of the code. Fresh with an f for which 2f < n is accepted for lent bytes b of the length for n, and then,
 -- for any list of events, refused ones among them, the run on bytes is the run of the algorithm over sets. It is a
--- claim about any house, so that wrong ones can be named: for each clause proofs/Ruled_out has one that it rules out.
+-- claim about any house, so that wrong ones can be named: for each clause proofs/RuledOut has one that it rules out.
 use Rattle.std.specs.Prelude.{ℕ, ◌≡◌, true, false, List, [], map}
 use Rattle.octets.specs.Answer.{Answer, returned}
 use Rattle.view.specs.View.{AbsentPast}

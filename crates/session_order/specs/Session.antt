@@ -1,7 +1,7 @@
 -- Of every text that the bench program can be given: what it prints and what it leaves of the cluster do not depend on
 -- the pieces in which the text comes, the cluster is that after the text's events, and demand 3 holds of them, for the
 -- n and f of its first line. It is a claim about any program, so that wrong ones can be named: for each clause
--- proofs/Ruled_out has one that it rules out.
+-- proofs/RuledOut has one that it rules out.
 use Rattle.std.specs.Prelude.{ℕ, ◌≡◌, Bool, true, List, ◌++◌}
 use Rattle.history.specs.Trace.{Trace}
 use Rattle.history.specs.Order.{SingleOrder, Quiet}

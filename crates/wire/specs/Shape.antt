@@ -1,5 +1,5 @@
 -- Cited by inner contracts only: how the reader tests the layout, the lengths and the heads of the fields, by kind. The
--- theorem `Shape-is` of proofs/ says that these tests find just the bytes that begin with an allowed message.
+-- theorem `shape_is` of proofs/ says that these tests find just the bytes that begin with an allowed message.
 use Rattle.std.specs.Prelude.{ℕ, ◌+◌, Bool, false, List, ◌∷◌, length, get_or, leb, eqb}
 use Rattle.octets.specs.Test.{pick, both}
 use Rattle.octets.specs.Bytes.{be, part, same}

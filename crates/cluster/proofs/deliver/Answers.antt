@@ -81,6 +81,7 @@ returns-in-At c =
     ∙ ap found c.in-At.is in
     becomes c.hand_over.result c.hand_over.new.b
     (deliver-hands a.a a.c a.x a.b.now n c.index-n.ensures.0
-    (sym c.admission-k.ensures ∙ c.if-k-ne0.false) (some-waits t c.waiting_at.ensures.0 c.if-waiting_at-eq0.false)
+    (sym c.admission-k.ensures ∙ c.if-k-ne0.false) (some-waits t c.waiting_at.ensures.0
+    c.if-waiting_at-eq0.false)
     c.in-At.m c.in-At.field-1 e)
     c.hand_over.ensures
