@@ -1,6 +1,6 @@
 -- The legal lines once more, as the grammar that the documents write down: which bytes are a line, and what they say.
--- proofs/Reading shows that `first_of` and `event_of` read these lines so, and proofs/OnlyLegal that they answer bad for
--- all others.
+-- proofs/Reading shows that `first_of` and `event_of` read these lines so, and proofs/OnlyLegal that they answer bad
+-- for all others.
 use Rattle.std.specs.Prelude.{ℕ, ◌≤◌, ◌≡◌, true, List, [], ◌∷◌, ◌++◌}
 use Rattle.view.specs.Size.{report_size}
 use Rattle.view.specs.Report.{report_of}
