@@ -53,9 +53,9 @@
  *     the call is written, and every other lent byte is as it was.
  *   - It always returns. It has no state but what is lent, keeps no pointer, and neither allocates, blocks nor makes a
  *     system call. Of other code it calls memcpy and memset alone.
- *   - It takes little stack, in bytes: of one node a begin 500, a message 4200, a frame 4300; of a cluster fresh
- *     2200, a begin 3500, a delivery 8400, a stop 400; all others 200. This is measured on x86-64 Linux, where no
- *     round fails (examples/c/stack.c), and rounded up: it is no proved bound.
+ *   - It takes little stack, in bytes: of one node a begin 500, a message or a frame 4200; of a cluster fresh 2200,
+ *     a begin 3300, a delivery 7700, a stop 400; all others 200. This is measured on x86-64 Linux, where no round fails
+ *     (examples/c/stack.c), and rounded up: it is no proved bound.
  */
 #ifndef SNAPSHOT_H
 #define SNAPSHOT_H

@@ -97,6 +97,8 @@ fn step_here(b: &mut [u8], n: usize, a: usize, c: usize, m: Message, x: Extent) 
 }
 
 // Hands it on a copy of the record, which is made here.
+// Not inlined, nor is the next: a delivery takes the stack of one of the two.
+#[inline(never)]
 fn hand_apart(b: &mut [u8], n: usize, a: usize, c: usize, m: Message, x: Extent) -> Reply
     requires { Ready n a c b.old × (lawful n m (view_of n (view_at n (first (channel b.old a c)))) ≡ true)
         × Oldest n a c m b.old }
@@ -108,6 +110,7 @@ fn hand_apart(b: &mut [u8], n: usize, a: usize, c: usize, m: Message, x: Extent)
 }
 
 // Does so where no channel can come to be full: the step is done where the record lies.
+#[inline(never)]
 fn hand_here(b: &mut [u8], n: usize, a: usize, c: usize, m: Message, x: Extent) -> Reply
     requires { Ready n a c b.old × (lawful n m (view_of n (view_at n (first (channel b.old a c)))) ≡ true)
         × Oldest n a c m b.old × (spare n c b.old ≡ true) }

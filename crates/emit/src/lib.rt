@@ -161,6 +161,8 @@ fn emit_held(n: usize, o: Outbox, b: &[u8], out: &mut [u8]) -> usize
 
 // Writes what a whole step sends, and answers how many bytes it has; b is the bytes of the message that was handled.
 // The bytes of the view are made for a good message alone.
+// Not inlined: what it has on the stack does not lie beside that of the step.
+#[inline(never)]
 pub fn emit_all(n: usize, o: Outbox, b: &[u8], out: &mut [u8]) -> usize
     requires { Received o.handler b.now × (1 ≤ n) × (n ≤ nodes) × AllLawful n o.view (messages o)
         × (sizes n (messages o) ≤ length out.old) }

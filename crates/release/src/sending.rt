@@ -44,6 +44,8 @@ fn let_message(b: &mut [u8], n: usize, a: usize, c: usize, m: Message, v: View, 
     }
 }
 
+// Inlined: one view less on the stack.
+#[inline(always)]
 fn let_sent(b: &mut [u8], n: usize, a: usize, c: usize, s: Sent, v: View, left: usize)
     requires { (n ≤ nodes) × (1 ≤ a) × (a ≤ n) × (1 ≤ c) × (c ≤ n) × (length b.old ≡ cluster_size n)
         × AllLawful n v (listed s) }
