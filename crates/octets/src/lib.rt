@@ -10,32 +10,25 @@ ghost use Rattle.octets.specs.Word.{word_size, word, word_bytes};
 // The bytes of a word.
 pub const WORD: usize = 8;
 
-// A byte as a wide number.
-fn wide(x: u8) -> u64
-    ensures { (result ≡ x) × (result < 256) }
-{
-    x as u64
-}
-
 // Both tests hold.
 pub fn and(a: bool, b: bool) -> bool
     ensures { result ≡ both a b }
 {
-    if a { b } else { false }
+    a && b
 }
 
 // The difference, and 0 where it would be below 0.
 pub fn less(x: u64, y: u64) -> u64
     ensures { result ≡ x - y }
 {
-    if y <= x { x - y } else { 0 }
+    x.saturating_sub(y)
 }
 
 // The lesser of two numbers.
 pub fn least(x: usize, y: usize) -> usize
     ensures { result ≡ min x y }
 {
-    if x <= y { x } else { y }
+    x.min(y)
 }
 
 // The number of eight bytes.
@@ -43,9 +36,7 @@ pub fn number8(s: &[u8]) -> u64
     requires { length s.now ≡ 8 }
     ensures { result ≡ num s.now }
 {
-    let high = wide(s[0]) * 16777216 + wide(s[1]) * 65536 + wide(s[2]) * 256 + wide(s[3]);
-    let low = wide(s[4]) * 16777216 + wide(s[5]) * 65536 + wide(s[6]) * 256 + wide(s[7]);
-    high * 4294967296 + low
+    u64::from_be_bytes([s[0], s[1], s[2], s[3], s[4], s[5], s[6], s[7]])
 }
 
 // The two bytes of a number.
@@ -59,22 +50,7 @@ pub fn digits2(x: u16) -> [u8; 2]
 pub fn digits8(x: u64) -> [u8; 8]
     ensures { result ≡ be 8 x }
 {
-    let a = x % 72057594037927936;
-    let b = a % 281474976710656;
-    let c = b % 1099511627776;
-    let d = c % 4294967296;
-    let e = d % 16777216;
-    let f = e % 65536;
-    [
-        (x / 72057594037927936) as u8,
-        (a / 281474976710656) as u8,
-        (b / 1099511627776) as u8,
-        (c / 4294967296) as u8,
-        (d / 16777216) as u8,
-        (e / 65536) as u8,
-        (f / 256) as u8,
-        (f % 256) as u8,
-    ]
+    x.to_be_bytes()
 }
 
 // Writes the bytes of s into b, from a place on.
@@ -82,22 +58,15 @@ pub fn put_bytes(b: &mut [u8], at: usize, s: &[u8])
     requires { at + length s.now ≤ length b.old }
     ensures { b.new ≡ put b.old at s.now }
 {
-    let mut i = 0;
-    while i < s.len() {
-        b[at + i] = s[i];
-        i += 1;
-    }
+    let end = at + s.len();
+    b[at..end].copy_from_slice(s);
 }
 
 // Makes every byte of b an x.
 pub fn fill(b: &mut [u8], x: u8)
     ensures { b.new ≡ replicate (length b.old) x }
 {
-    let mut i = 0;
-    while i < b.len() {
-        b[i] = x;
-        i += 1;
-    }
+    b.fill(x);
 }
 
 // The word at a place.
@@ -164,10 +133,8 @@ pub fn put_words(b: &mut [u8], at: usize, t: &[u64])
     requires { at + word_size * length t.now ≤ length b.old }
     ensures { b.new ≡ put b.old at (word_bytes t.now) }
 {
-    let mut i = 0;
-    while i < t.len() {
-        put_word(b, at + WORD * i, t[i]);
-        i += 1;
+    for (i, x) in t.iter().enumerate() {
+        put_word(b, at + WORD * i, *x);
     }
 }
 
