@@ -26,7 +26,7 @@ pub const VIEW: usize = ENTRY * NODES;
 
 // What one node reports: document 01's report, four counts. The last is the first in memory, so that there a report
 // lies as its number does.
-#[derive(Clone, Copy)]
+#[derive(Clone, Copy, PartialEq, Eq, Default)]
 pub struct Report {
     pub wakeups: u16,
     pub waiting: u16,
@@ -44,21 +44,13 @@ pub struct View {
 pub fn none() -> Report
     ensures { result ≡ no_report }
 {
-    Report {
-        extensions: 0,
-        lines: 0,
-        waiting: 0,
-        wakeups: 0,
-    }
+    Report::default()
 }
 
 pub fn is_none(p: Report) -> bool
     ensures { result ≡ is_none p }
 {
-    octets::and(
-        p.extensions == 0,
-        octets::and(p.lines == 0, octets::and(p.waiting == 0, p.wakeups == 0)),
-    )
+    p == none()
 }
 
 pub fn absent() -> View
@@ -74,19 +66,20 @@ pub fn absent() -> View
 pub fn report_number(p: Report) -> u64
     ensures { result ≡ report_number p }
 {
-    let high = p.extensions as u64 * 65536 + p.lines as u64;
-    let low = p.waiting as u64 * 65536 + p.wakeups as u64;
-    high * 4294967296 + low
+    (u64::from(p.extensions) << 48)
+        + (u64::from(p.lines) << 32)
+        + (u64::from(p.waiting) << 16)
+        + u64::from(p.wakeups)
 }
 
 pub fn report_from(x: u64) -> Report
     ensures { result ≡ report_from x }
 {
     Report {
-        extensions: (x / 281474976710656) as u16,
-        lines: (x / 4294967296 % 65536) as u16,
-        waiting: (x / 65536 % 65536) as u16,
-        wakeups: (x % 65536) as u16,
+        extensions: (x >> 48) as u16,
+        lines: (x >> 32 & 0xffff) as u16,
+        waiting: (x >> 16 & 0xffff) as u16,
+        wakeups: (x & 0xffff) as u16,
     }
 }
 
@@ -102,7 +95,7 @@ pub fn read_report(b: &[u8]) -> Report
 pub fn report_bytes(p: Report) -> [u8; REPORT]
     ensures { result ≡ report_bytes p }
 {
-    octets::digits8(report_number(p))
+    report_number(p).to_be_bytes()
 }
 
 // Whether the entry at a place may stand in a view whose tags are at most `top`. The report counts beside tag 0 alone,
@@ -113,9 +106,10 @@ pub fn entry_ok(top: u64, b: &[u8], at: usize) -> bool
 {
     let tag = octets::get_word(b, at);
     if tag == 0 {
-        return octets::get_word(b, at + TAG) == 0;
+        octets::get_word(b, at + TAG) == 0
+    } else {
+        tag <= top
     }
-    tag <= top
 }
 
 // Whether each of n entries may stand in a view whose tags are at most `top`.
@@ -123,11 +117,8 @@ pub fn view_ok(n: usize, top: u64, b: &[u8]) -> bool
     requires { view_size n ≤ length b.now }
     ensures { result ≡ view_ok n top b.now }
 {
-    let mut i = 0;
-    while i < n {
-        if entry_ok(top, b, ENTRY * i) {
-            i += 1;
-        } else {
+    for i in 0..n {
+        if !entry_ok(top, b, ENTRY * i) {
             return false;
         }
     }
@@ -139,21 +130,13 @@ pub fn read_view(n: usize, b: &[u8]) -> View
     requires { (n ≤ nodes) × (view_size n ≤ length b.now) }
     ensures { result ≡ view_of n b.now }
 {
-    let mut tags = [0u64; NODES];
-    let mut reports = [none(); NODES];
-    let mut i = 0;
-    while i < n {
+    let mut v = absent();
+    for i in 0..n {
         let at = ENTRY * i;
-        let middle = at + TAG;
-        let end = at + ENTRY;
-        tags[i] = octets::get_word(b, at);
-        reports[i] = read_report(&b[middle..end]);
-        i += 1;
+        v.tags[i] = octets::get_word(b, at);
+        v.reports[i] = read_report(&b[at + TAG..at + ENTRY]);
     }
-    View {
-        tags: tags,
-        reports: reports,
-    }
+    v
 }
 
 // The first n places of a view, and nothing past them.
@@ -161,20 +144,11 @@ pub fn first_of(n: usize, v: View) -> View
     requires { n ≤ nodes }
     ensures { result ≡ first_of n v }
 {
-    let all = v.tags;
-    let each = v.reports;
-    let mut tags = [0u64; NODES];
+    let mut tags = [0; NODES];
     let mut reports = [none(); NODES];
-    let mut i = 0;
-    while i < n {
-        tags[i] = all[i];
-        reports[i] = each[i];
-        i += 1;
-    }
-    View {
-        tags: tags,
-        reports: reports,
-    }
+    tags[..n].copy_from_slice(&v.tags[..n]);
+    reports[..n].copy_from_slice(&v.reports[..n]);
+    View { tags, reports }
 }
 
 // Writes the first n entries of a view at the front of `out`.
@@ -182,15 +156,10 @@ pub fn write_view(n: usize, v: View, out: &mut [u8])
     requires { (n ≤ nodes) × (view_size n ≤ length out.old) }
     ensures { out.new ≡ put out.old 0 (view_bytes n v) }
 {
-    let tags = v.tags;
-    let reports = v.reports;
-    let mut i = 0;
-    while i < n {
+    for i in 0..n {
         let at = ENTRY * i;
-        octets::put_word(out, at, tags[i]);
-        let d = report_bytes(reports[i]);
-        octets::put_bytes(out, at + TAG, &d);
-        i += 1;
+        octets::put_word(out, at, v.tags[i]);
+        octets::put_bytes(out, at + TAG, &report_bytes(v.reports[i]));
     }
 }
 

@@ -7,5 +7,5 @@ use Rattle.view.proofs.read_report.Goals as goal
 pub returns : goal.returns
 returns c =
     c.report_from.ensures ∙ ap report_from c.number8.ensures
-    ∙ from-number c.args.b.now (λ i. (c.shared_slice_known-1.given i).fits)
+    ∙ from-number c.args.b.now (λ i. (c.type_inv.b i).fits)
     c.requires

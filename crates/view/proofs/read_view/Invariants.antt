@@ -1,5 +1,4 @@
 -- `view::read_view` meets its contract.
-use Prim.Native.Nat.{◌-◌, ◌≤◌}
 use mathlib.Core.Path.{◌≡◌}
 use mathlib.Core.List.{◌++◌}
 use lib.ListN.{drop, replicate}
@@ -10,8 +9,5 @@ use Rattle.view.specs.View.{tag_at, report_at}
 use Rattle.view.proofs.read_view.Given as goal
 
 abbrev pub invariant-loop-i : goal.invariant-loop-i
-invariant-loop-i l = (l.i ≤ l.n) × (l.tags ≡ tab l.i (tag_at l.b) ++ drop l.i (replicate nodes 0)) ×
-    (l.reports ≡ tab l.i (report_at l.b) ++ drop l.i (replicate nodes no_report))
-
-abbrev pub decreases-loop-i : goal.decreases-loop-i
-decreases-loop-i l = l.n - l.i
+invariant-loop-i l = (l.v.tags ≡ tab l.i (tag_at l.b) ++ drop l.i (replicate nodes 0)) ×
+    (l.v.reports ≡ tab l.i (report_at l.b) ++ drop l.i (replicate nodes no_report))

@@ -1,7 +1,6 @@
 -- `view::report_from` meets its contract.
-use mathlib.Core.Path.{◌≡◌, ◌∙◌}
-use Prim.Native.Nat.{ℕ, ◌/◌, ◌%◌}
-use native.Mathlib.Omega.{arith}
+use Rattle.std.proofs.Common.{◌≡◌, ◌∙◌, ℕ, ◌/◌, ◌%◌, bit_and, arith}
+use Rattle.std.proofs.lemmas.Nat.{and_mask}
 use Rattle.octets.specs.Bytes.{be, num, part}
 use Rattle.view.specs.Report.{report_of}
 use Rattle.view.proofs.report_from.Goals as goal
@@ -14,6 +13,9 @@ pair : (z : ℕ) → z % 65536 ≡ num (part (be 4 z) 2 2)
 unfolding part
 pair z = omega arith
 
+mask : (x : ℕ) → bit_and x 65535 ≡ x % 65536
+mask x = and_mask x 16
+
 pub returns : goal.returns
 unfolding report_of part
 returns c =
@@ -23,4 +25,7 @@ returns c =
     let d : x / 65536 % 65536 ≡ num (part (be 8 x) 4 2) = omega arith in
     let e : x % 65536 ≡ num (part (be 8 x) 6 2) = low x
     ∙ pair (x % 72057594037927936 % 281474976710656 % 1099511627776 % 4294967296) in
+    let f = mask (x / 4294967296) in
+    let g = mask (x / 65536) in
+    let h = mask x in
     cc

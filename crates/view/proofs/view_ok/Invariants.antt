@@ -1,5 +1,4 @@
 -- `view::view_ok` meets its contract.
-use Prim.Native.Nat.{◌-◌, ◌≤◌}
 use mathlib.Core.Path.{◌≡◌}
 use mathlib.Core.Bool.{true}
 use Rattle.octets.specs.Loop.{all_to}
@@ -7,7 +6,4 @@ use Rattle.view.specs.View.{entry_ok_at}
 use Rattle.view.proofs.view_ok.Given as goal
 
 abbrev pub invariant-loop-i : goal.invariant-loop-i
-invariant-loop-i l = (l.i ≤ l.n) × (all_to l.i (entry_ok_at l.top l.b) ≡ true)
-
-abbrev pub decreases-loop-i : goal.decreases-loop-i
-decreases-loop-i l = l.n - l.i
+invariant-loop-i l = (all_to l.i (entry_ok_at l.top l.b) ≡ true)

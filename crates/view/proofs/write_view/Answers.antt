@@ -1,5 +1,4 @@
 -- `view::write_view` meets its contract.
-use borrow.Author.Rules.{rules}
 use Prim.Native.Nat.{ℕ, ◌+◌, ◌*◌}
 use mathlib.Core.Path.{◌≡◌, refl, sym, ap, ◌∙◌}
 use mathlib.Core.List.{List, ◌++◌, append_assoc}
@@ -21,7 +20,6 @@ entry v j = entry_bytes (get_or v.tags j 0) (get_or v.reports j no_report)
 pub loop-i-init : goal.loop-i-init
 loop-i-init c =
     let o = c.args.out.now in (
-      search rules,
       sym (put-nil o 0) ∙ ap (λ (t : List ℕ). put o 0 t)
           (sym (join-none (entry c.args.v))),
       refl,
@@ -40,17 +38,16 @@ loop-i-preserved c =
     let tag : c.put_word.new.b ≡ put o 0
     (join i f ++ t) =
     put_then o 0 (join i f) t (entry_size * i) (omega arith) (omega arith)
-    c.loop-i.invariant.1
+    c.loop-i.invariant.0
     c.put_word.ensures in
     let both : c.put_bytes.new.b ≡ put o 0 (join i f ++ t ++ p) =
     put_then o 0 (join i f ++ t) p (entry_size * i + tag_size) (omega arith) m tag
     (c.put_bytes.ensures ∙ ap (λ (r : List ℕ). put
     c.put_word.new.b
     (entry_size * i + tag_size) r)
-    c.report_bytes-d.ensures) in (
-      search rules,
+    c.report_bytes.ensures) in (
       both ∙ ap (λ (r : List ℕ). put o 0 r) (append_assoc (join i f) t p ∙ sym (join_more i f)),
-      c.put_bytes.auto.b ∙ c.put_word.auto.b ∙ c.loop-i.invariant.2,
+      c.put_bytes.auto.b ∙ c.put_word.auto.b ∙ c.loop-i.invariant.1,
     )
 
 pub returns : goal.returns
@@ -58,4 +55,4 @@ unfolding view_bytes
 returns c =
     let a = c.args in
     let e : c.loop-i.i ≡ a.n = omega arith in
-    c.loop-i.invariant.1 ∙ ap (λ (k : ℕ). put a.out.now 0 (join k (entry a.v))) e
+    c.loop-i.invariant.0 ∙ ap (λ (k : ℕ). put a.out.now 0 (join k (entry a.v))) e

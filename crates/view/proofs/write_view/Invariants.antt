@@ -1,5 +1,4 @@
 -- `view::write_view` meets its contract.
-use Prim.Native.Nat.{◌-◌, ◌≤◌}
 use mathlib.Core.Path.{◌≡◌}
 use lib.ListN.{length, get_or}
 use Rattle.octets.specs.Bytes.{put}
@@ -9,9 +8,6 @@ use Rattle.view.specs.View.{entry_bytes}
 use Rattle.view.proofs.write_view.Given as goal
 
 abbrev pub invariant-loop-i : goal.invariant-loop-i
-invariant-loop-i l = (l.i ≤ l.n) × (l.out ≡ put l.initial.out 0
-    (join l.i (λ j. entry_bytes (get_or l.tags j 0) (get_or l.reports j no_report))))
+invariant-loop-i l = (l.out ≡ put l.initial.out 0
+    (join l.i (λ j. entry_bytes (get_or l.v.tags j 0) (get_or l.v.reports j no_report))))
     × (length l.out ≡ length l.initial.out)
-
-abbrev pub decreases-loop-i : goal.decreases-loop-i
-decreases-loop-i l = l.n - l.i
