@@ -1,22 +1,23 @@
 -- The length of n entries, when an entry may stand in a view and what it shows there, and how great a figure can be.
-use Prim.Native.Nat.{ℕ, ◌+◌, ◌*◌, ◌/◌, ◌%◌, ◌^◌, ◌<◌, ◌≤◌, max}
+use Prim.Native.Nat.{ℕ, ◌+◌, ◌*◌, ◌^◌, ◌<◌, ◌≤◌, max}
 use mathlib.Core.Path.{◌≡◌, refl, sym, ap, ◌∙◌}
+use mathlib.Core.Logic.{◌⊎◌}
 use mathlib.Core.Bool.{Bool, true, false}
 use mathlib.Core.List.{List}
 use native.Mathlib.Decide.{ℕ_discrete}
 use native.Mathlib.Omega.{arith}
 use lib.ListN.{length, get_or}
 use lib.Dec.{eqb, ltb, leb}
-use borrow.Author.Tests.{eqb-true, eq-eqb, ne_eqb, leb-true, le-leb, ltb-true, lt-ltb}
-use Rattle.octets.specs.Test.{pick, both}
+use borrow.Author.Tests.{eq-eqb, ne_eqb, leb-true, le-leb, ltb-true, lt-ltb}
+use Rattle.octets.specs.Test.{pick}
 use Rattle.octets.specs.Bytes.{Bytes, part}
-use Rattle.octets.proofs.Test.{both_left, both_right, both_true}
+use Rattle.octets.proofs.Test.{both_left, both_right, both_true, not-true-false}
 use Rattle.octets.proofs.Number.{num-eight}
 use Rattle.octets.proofs.Put.{part_bytes, get_d_part, length_part}
 use Rattle.octets.proofs.Loop.{fold_to-le}
 use Rattle.octets.specs.Word.{word}
 use Rattle.view.specs.Report.{no_report, report_of}
-use Rattle.view.specs.Size.{nodes, limit, tag_size, report_size, entry_size}
+use Rattle.view.specs.Size.{nodes, is_size, limit, tag_size, report_size, entry_size}
 use Rattle.view.specs.View.{tag_at, report_at, view_ok, entry_ok}
 use Rattle.view.proofs.ReportBytes.{counts_of}
 use Rattle.view.proofs.ViewBytes.{ok-report}
@@ -29,23 +30,14 @@ same_test true y f g = sym (f refl)
 same_test false true f g = g refl
 same_test false false f g = refl
 
--- the remainder and the quotient tell whether a length is that of n entries
-pub long-is : (n len : ℕ) → both (eqb (len % entry_size) 0) (eqb (len / entry_size) n) ≡ eqb len (entry_size * n)
-long-is n len =
-    same_test (both (eqb (len % entry_size) 0) (eqb (len / entry_size) n)) (eqb len (entry_size * n)) there back
-  where
-    there : both (eqb (len % entry_size) 0) (eqb (len / entry_size) n) ≡ true → eqb len (entry_size * n) ≡ true
-    there h =
-        let r : len % entry_size ≡ 0 = eqb-true (len % entry_size) 0 (both_left (eqb (len % entry_size) 0)
-        (eqb (len / entry_size) n) h) in
-        let q : len / entry_size ≡ n = eqb-true (len / entry_size) n (both_right (eqb (len % entry_size) 0)
-        (eqb (len / entry_size) n) h) in
-        eq-eqb len (entry_size * n) (omega arith)
+-- numbers that a cluster can have of nodes, and those that are too small or too great
+pub a-size : (n : ℕ) → 1 ≤ n → n ≤ nodes → is_size n ≡ true
+a-size n l m = both_true (le-leb 1 n l) (le-leb n nodes m)
 
-    back : eqb len (entry_size * n) ≡ true → both (eqb (len % entry_size) 0) (eqb (len / entry_size) n) ≡ true
-    back h =
-        let e : len ≡ entry_size * n = eqb-true len (entry_size * n) h in
-        both_true (eq-eqb (len % entry_size) 0 (omega arith)) (eq-eqb (len / entry_size) n (omega arith))
+pub not-size : (n : ℕ) → (n < 1) ⊎ ((1 ≤ n) × (nodes < n)) → is_size n ≡ false
+not-size n h =
+    not-true-false (is_size n)
+    (λ e. omega (arith, leb-true 1 n (both_left (leb 1 n) _ e), leb-true n nodes (both_right (leb 1 n) _ e)))
 
 -- any report may stand beside a tag that is not 0
 beside : (tag report : ℕ) → (tag ≡ 0 → ⊥) → pick (eqb tag 0) (eqb report 0) true ≡ true

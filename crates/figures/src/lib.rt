@@ -1,7 +1,7 @@
 // House figures over the bytes of a view: three sums, and the largest of calls waiting.
 #![tactic(auto)]
 
-ghost use Rattle.std.specs.Prelude.{◌≡◌, ◌+◌, ◌≤◌, max, length, eqb};
+ghost use Rattle.std.specs.Prelude.{◌≡◌, ◌+◌, ◌≤◌, length, eqb};
 ghost use Rattle.octets.specs.Answer.{returned, refused};
 ghost use Rattle.octets.specs.Test.{pick};
 ghost use Rattle.octets.specs.Word.{word};
@@ -13,7 +13,7 @@ ghost use Rattle.figures.specs.Room.{Roomy};
 use view::{ENTRY, LIMIT, NODES, Report, TAG};
 
 // The four figures: sums, and of calls waiting the largest.
-#[derive(Clone, Copy)]
+#[derive(Clone, Copy, Default)]
 pub struct Totals {
     pub extensions: u32,
     pub lines: u32,
@@ -32,30 +32,14 @@ pub enum Counted {
 pub fn is_long(n: usize, len: usize) -> bool
     ensures { result ≡ eqb len (view_size n) }
 {
-    octets::and(len % ENTRY == 0, len / ENTRY == n)
-}
-
-// The larger of a figure and a count.
-fn larger(figure: u32, count: u16) -> u32
-    ensures { result ≡ max figure count }
-{
-    if figure <= count as u32 {
-        count as u32
-    } else {
-        figure
-    }
+    len % ENTRY == 0 && len / ENTRY == n
 }
 
 // No report counted.
 pub fn no_totals() -> Totals
     ensures { result ≡ no_totals }
 {
-    Totals {
-        extensions: 0,
-        lines: 0,
-        waiting: 0,
-        wakeups: 0,
-    }
+    Totals::default()
 }
 
 // One report more.
@@ -64,10 +48,10 @@ pub fn with_report(t: Totals, p: Report) -> Totals
     ensures { result ≡ with_report t p }
 {
     Totals {
-        extensions: t.extensions + p.extensions as u32,
-        lines: t.lines + p.lines as u32,
-        waiting: larger(t.waiting, p.waiting),
-        wakeups: t.wakeups + p.wakeups as u32,
+        extensions: t.extensions + u32::from(p.extensions),
+        lines: t.lines + u32::from(p.lines),
+        waiting: t.waiting.max(u32::from(p.waiting)),
+        wakeups: t.wakeups + u32::from(p.wakeups),
     }
 }
 
@@ -81,9 +65,10 @@ fn is_entry(v: &[u8], at: usize) -> bool
     ensures { result ≡ entry_ok limit (word v.now at) (word v.now (at + tag_size)) }
 {
     if 0 < v[at + LAST] {
-        return v[at] < 128;
+        v[at] < 128
+    } else {
+        view::entry_ok(LIMIT, v, at)
     }
-    view::entry_ok(LIMIT, v, at)
 }
 
 // The figures over n entries, or 7 where one of them cannot stand in a view. Calls waiting are added up too: then the
@@ -96,19 +81,14 @@ fn count_entries(n: usize, v: &[u8]) -> Counted
 {
     let mut t = no_totals();
     let mut sum = 0;
-    let mut i = 0;
-    while i < n {
+    for i in 0..n {
         let at = ENTRY * i;
-        if is_entry(v, at) {
-            let middle = at + TAG;
-            let end = at + ENTRY;
-            let p = view::read_report(&v[middle..end]);
-            sum += p.waiting as u32;
-            t = with_report(t, p);
-            i += 1;
-        } else {
+        if !is_entry(v, at) {
             return Counted::Refused(7);
         }
+        let p = view::read_report(&v[at + TAG..at + ENTRY]);
+        sum += u32::from(p.waiting);
+        t = with_report(t, p);
     }
     Counted::Figures(t, sum)
 }
@@ -117,13 +97,11 @@ fn count_entries(n: usize, v: &[u8]) -> Counted
 pub fn figures(n: usize, v: &[u8]) -> Counted
     ensures { (counted result ≡ figures_of n v.now) × SumBeside n v.now result }
 {
-    if is_long(n, v.len()) {
-        if octets::and(1 <= n, n <= NODES) {
-            count_entries(n, v)
-        } else {
-            Counted::Refused(1)
-        }
-    } else {
-        Counted::Refused(12)
+    if !is_long(n, v.len()) {
+        return Counted::Refused(12);
     }
+    if n < 1 || NODES < n {
+        return Counted::Refused(1);
+    }
+    count_entries(n, v)
 }

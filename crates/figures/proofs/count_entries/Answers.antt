@@ -22,7 +22,6 @@ pub loop-i-init : goal.loop-i-init
 unfolding view_ok
 loop-i-init c =
     let v = c.args.v.now in (
-      search rules,
       all_to-none (entry_ok_at limit v),
       c.no_totals-t.ensures ∙ sym (totals-none v),
       sym (waiting_sum-none v),
@@ -32,15 +31,15 @@ pub overflow_add-sum : goal.overflow_add-sum
 overflow_add-sum c =
     let w : c.read_report-p.result.waiting < 2 ^ 16 = search rules in
     let f = waiting_sum-fits c.loop-i.i c.args.v.now
-    (λ k. (c.shared_slice_known-1.given k).fits)
-    (omega (arith, c.requires.0, c.loop-i.invariant.0)) in
-    omega (arith, w, f, c.loop-i.invariant.3)
+    (λ k. (c.type_inv.v k).fits)
+    (omega arith) in
+    omega (arith, w, f, c.loop-i.invariant.2)
 
 pub with_report-t-requires : goal.with_report-t-requires
 with_report-t-requires c =
-    more-roomy c.loop-i.i c.args.v.now c.loop-i.invariant.2
-    (λ k. (c.shared_slice_known-1.given k).fits)
-    (omega (arith, c.requires.0, c.loop-i.invariant.0))
+    more-roomy c.loop-i.i c.args.v.now c.loop-i.invariant.1
+    (λ k. (c.type_inv.v k).fits)
+    (omega arith)
 
 pub loop-i-preserved : goal.loop-i-preserved
 unfolding view_ok
@@ -49,30 +48,30 @@ loop-i-preserved c =
     let v = c.args.v.now in
     let i = l.i in
     let below = c.loop-i-test.true in
-    let ok = all_to-more i (entry_ok_at limit v) l.invariant.1 (sym c.is_entry.ensures ∙ c.if-is_entry.true) in
+    let ok = all_to-more i (entry_ok_at limit v) l.invariant.0 (sym c.is_entry.ensures ∙ c.if-not-is_entry.false) in
     let e : entry_size * i + tag_size + report_size ≡ entry_size * i + entry_size = omega arith in
     let p : c.read_report-p.result ≡ counted_report v i = c.read_report-p.ensures
     ∙ ap report_of (lent v (entry_size * i + tag_size) report_size e)
-    ∙ counted_report-is (i + 1) v ok (λ k. (c.shared_slice_known-1.given k).fits)
+    ∙ counted_report-is (i + 1) v ok (λ k. (c.type_inv.v k).fits)
     (omega (arith, c.requires.1, below)) i (omega arith) in (
-      omega (arith, below),
       ok,
-      one_more i v l.invariant.2 c.with_report-t.ensures p,
-      ap₂ (λ (s : ℕ) (q : Report). s + q.waiting) l.invariant.3 p ∙ sym (waiting_sum-more i v),
+      one_more i v l.invariant.1 c.with_report-t.ensures p,
+      ap₂ (λ (s w : ℕ). s + w) l.invariant.2 (c.from-sum.ensures ∙ ap (λ (q : Report). q.waiting) p)
+          ∙ sym (waiting_sum-more i v),
     )
 
 -- a choice by a test that is known
 decided : {t u : Bool} (a b : Answer Totals) → u ≡ t → pick t a b ≡ pick u a b
 decided a b e = ap (λ (t : Bool). pick t a b) (sym e)
 
-pub returns-else-is_entry : goal.returns-else-is_entry
+pub returns-then-not-is_entry : goal.returns-then-not-is_entry
 unfolding view_ok
-returns-else-is_entry c =
+returns-then-not-is_entry c =
     let n = c.args.n in
     let v = c.args.v.now in (
       decided (returned (totals n v)) (refused 7)
           (all_to-false n (entry_ok_at limit v) c.loop-i.i c.loop-i-test.true
-          (sym c.is_entry.ensures ∙ c.if-is_entry.false)),
+          (sym c.is_entry.ensures ∙ c.if-not-is_entry.true)),
       tt,
     )
 
@@ -82,7 +81,7 @@ returns c =
     let v = c.args.v.now in
     let l = c.loop-i in
     let e : l.i ≡ n = omega arith in (
-      ap returned (l.invariant.2 ∙ ap (λ (k : ℕ). totals k v) e)
-          ∙ decided (returned (totals n v)) (refused 7) (ap (λ (k : ℕ). view_ok k limit v) (sym e) ∙ l.invariant.1),
-      l.invariant.3 ∙ ap (λ (k : ℕ). waiting_sum k v) e,
+      ap returned (l.invariant.1 ∙ ap (λ (k : ℕ). totals k v) e)
+          ∙ decided (returned (totals n v)) (refused 7) (ap (λ (k : ℕ). view_ok k limit v) (sym e) ∙ l.invariant.0),
+      l.invariant.2 ∙ ap (λ (k : ℕ). waiting_sum k v) e,
     )

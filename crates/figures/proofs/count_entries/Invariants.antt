@@ -1,5 +1,4 @@
 -- `figures::count_entries` meets its contract.
-use Prim.Native.Nat.{◌-◌, ◌≤◌}
 use mathlib.Core.Path.{◌≡◌}
 use mathlib.Core.Bool.{true}
 use Rattle.view.specs.Size.{limit}
@@ -8,8 +7,5 @@ use Rattle.figures.specs.Figures.{totals, waiting_sum}
 use Rattle.figures.proofs.count_entries.Given as goal
 
 abbrev pub invariant-loop-i : goal.invariant-loop-i
-invariant-loop-i l = (l.i ≤ l.n) × (view_ok l.i limit l.v ≡ true) × (l.t ≡ totals l.i l.v)
+invariant-loop-i l = (view_ok l.i limit l.v ≡ true) × (l.t ≡ totals l.i l.v)
     × (l.sum ≡ waiting_sum l.i l.v)
-
-abbrev pub decreases-loop-i : goal.decreases-loop-i
-decreases-loop-i l = l.n - l.i

@@ -1,40 +1,33 @@
 -- `figures::figures` meets its contract.
-use mathlib.Core.Path.{◌≡◌, refl, sym, ◌∙◌}
-use Prim.Native.Nat.{◌*◌}
-use native.Mathlib.Omega.{arith}
-use lib.ListN.{length}
-use lib.Dec.{leb}
-use borrow.Author.Tests.{eqb-true, leb-true}
-use Rattle.octets.proofs.Test.{both_right}
-use Rattle.view.specs.Size.{nodes, entry_size}
+use Rattle.std.proofs.Common.{◌≡◌, ◌*◌, refl, sym, ◌∙◌, length, arith}
+use borrow.Author.Tests.{eqb-true}
+use Rattle.view.specs.Size.{entry_size}
 use Rattle.figures.specs.Figures.{figures_of}
+use Rattle.figures.proofs.Bounds.{a-size, not-size}
 use Rattle.figures.proofs.figures.Goals as goal
+
+pub returns-then-not-is_long : goal.returns-then-not-is_long
+unfolding figures_of
+returns-then-not-is_long c = rw (sym c.is_long.ensures ∙ c.if-not-is_long.true) (refl, tt)
+
+pub returns-then-n-lt1 : goal.returns-then-n-lt1
+unfolding figures_of
+returns-then-n-lt1 c =
+    rw (sym c.is_long.ensures ∙ c.if-not-is_long.false, not-size c.args.n c.then-n-lt1.either) (refl, tt)
 
 pub count_entries-requires : goal.count_entries-requires
 count_entries-requires c =
     let a = c.args in
     let e : length a.v.now ≡ entry_size * a.n = eqb-true (length a.v.now) (entry_size * a.n)
-    (sym c.is_long.ensures ∙ c.if-is_long.true) in (
-      leb-true a.n nodes (both_right (leb 1 a.n) (leb a.n nodes)
-          (sym c.and.ensures ∙ c.if-and.true)),
+    (sym c.is_long.ensures ∙ c.if-not-is_long.false) in (
+      c.if-n-gt-NODES.false,
       omega arith,
     )
 
-pub returns-then-and : goal.returns-then-and
+pub returns : goal.returns
 unfolding figures_of
-returns-then-and c =
+returns c =
     rw (
-      sym c.is_long.ensures ∙ c.if-is_long.true,
-      sym c.and.ensures ∙ c.if-and.true,
+      sym c.is_long.ensures ∙ c.if-not-is_long.false,
+      a-size c.args.n c.if-n-lt1.false c.if-n-gt-NODES.false,
     ) c.count_entries.ensures
-
-pub returns-else-and : goal.returns-else-and
-unfolding figures_of
-returns-else-and c = rw (
-  sym c.is_long.ensures ∙ c.if-is_long.true,
-  sym c.and.ensures ∙ c.if-and.false,
-) (refl, tt)
-
-pub returns-else-is_long : goal.returns-else-is_long
-unfolding figures_of
-returns-else-is_long c = rw (sym c.is_long.ensures ∙ c.if-is_long.false) (refl, tt)
