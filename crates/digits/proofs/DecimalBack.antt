@@ -6,14 +6,15 @@ use mathlib.Core.List.{List, [], ◌∷◌, ◌++◌}
 use native.Mathlib.Nat.{add-zero, pow-succ', pow-le-pow_right}
 use native.Mathlib.Numerals.{add-one}
 use native.Mathlib.Omega.{arith}
-use lib.ListN.{length, drop, get_or, set, replicate, length-append, get_or-append}
+use lib.ListN.{length, drop, set, replicate, length-append, get_or-append}
 use lib.Seq.{get_or-append_seam, drop-set-add, drop-cons}
 use lib.Dec.{eqb}
+use Rattle.std.proofs.lemmas.List.Folds.{list_all-append}
 use borrow.Author.Tests.{eqb-true, ne_eqb, le-leb}
 use Rattle.octets.specs.Test.{pick}
-use Rattle.octets.specs.Loop.{up_to, all_to}
+use Rattle.octets.specs.Loop.{up_to}
 use Rattle.octets.proofs.Test.{both_true}
-use Rattle.octets.proofs.Loop.{up_to-first, up_to-more, up_to-ext, all_to-more, all_to-ext}
+use Rattle.octets.proofs.Loop.{up_to-first, up_to-more, up_to-ext}
 use Rattle.digits.specs.Decimal.{is_digit, all_digits, value, value_with, fewest, decimal}
 
 -- ---- powers of ten
@@ -99,24 +100,18 @@ value-decimal x l = value-fewest 20 x l
 
 digits-snoc : (s : List ℕ) (x : ℕ) → all_digits s ≡ true → is_digit x ≡ true → all_digits (s ++ (x ∷ [])) ≡ true
 unfolding all_digits
-digits-snoc s x h e =
-    let t : List ℕ = s ++ (x ∷ []) in
-    ap (λ (k : ℕ). all_to k (λ i. is_digit (get_or t i 0))) (length-append s (x ∷ []))
-    ∙ all_to-more (length s) (λ i. is_digit (get_or t i 0))
-    (all_to-ext (length s) (λ i. is_digit (get_or t i 0)) (λ i. is_digit (get_or s i 0))
-    (λ i l. ap is_digit (get_or-append s (x ∷ []) 0 i l)) ∙ h)
-    (ap is_digit (get_or-append_seam s x [] 0) ∙ e)
+digits-snoc s x h e = rw (list_all-append is_digit s (x ∷ []), h, e)
 
 last-digit : (x : ℕ) → is_digit (48 + x % 10) ≡ true
 last-digit x = both_true (le-leb 48 (48 + x % 10) (omega arith)) (le-leb (48 + x % 10) 57 (omega arith))
 
 digits_above : (k y : ℕ) (t : Bool) → all_digits (fewest k y) ≡ true → all_digits (pick t [] (fewest k y)) ≡ true
-unfolding all_digits all_to
+unfolding all_digits
 digits_above k y true h = refl
 digits_above k y false h = h
 
 pub digits-fewest : (k x : ℕ) → all_digits (fewest k x) ≡ true
-unfolding fewest all_digits all_to
+unfolding fewest all_digits
 digits-fewest zero x = refl
 digits-fewest (suc k) x =
     digits-snoc (above k (x / 10)) (48 + x % 10) (digits_above k (x / 10) (eqb (x / 10) 0) (digits-fewest k (x / 10)))

@@ -1,19 +1,20 @@
 -- The hexadecimal text of bytes says those bytes, and it is hexadecimal.
-use Prim.Native.Nat.{ℕ, ◌+◌, ◌*◌, ◌/◌, ◌%◌, ◌<◌, ◌≤◌}
-use mathlib.Core.Path.{◌≡◌, sym, ap, ap₂, ◌∙◌}
+use Prim.Native.Nat.{ℕ, zero, suc, ◌+◌, ◌*◌, ◌/◌, ◌%◌, ◌<◌, ◌≤◌}
+use mathlib.Core.Path.{◌≡◌, refl, sym, ap, ap₂, ◌∙◌}
 use mathlib.Core.Bool.{Bool, true, false}
-use mathlib.Core.List.{List}
+use mathlib.Core.List.{List, [], ◌∷◌}
 use native.Mathlib.Decide.{dec_le}
 use native.Mathlib.Nat.{lt_of_not-le}
 use native.Mathlib.Omega.{arith}
 use lib.ListN.{length, get_or}
 use lib.Dec.{eqb}
+use Rattle.std.specs.List.{list_all}
+use Rattle.std.proofs.lemmas.List.Folds.{list_all-append}
 use borrow.Author.Tests.{eq-eqb, ne_eqb, lt-ltb, le-ltb, le-leb, lt-leb}
 use Rattle.octets.specs.Test.{pick}
 use Rattle.octets.specs.Bytes.{Bytes}
 use Rattle.octets.specs.Loop.{tab}
 use Rattle.octets.proofs.Test.{both_true}
-use Rattle.octets.proofs.Loop.{all_to-all}
 use Rattle.octets.proofs.Table.{tab-ext, tab-of, get_d-tab, length-tab}
 use Rattle.digits.specs.Decimal.{is_digit}
 use Rattle.digits.specs.Hex.{is_letter, is_hex, all_hex, hex_value, hex_digit, half, byte_of, half_of, hex_bytes}
@@ -87,12 +88,14 @@ half-hex x j h = chosen (eqb (j % 2) 0)
     chosen true = hex-digit (x / 16) (omega arith)
     chosen false = hex-digit (x % 16) (omega arith)
 
+list_all-tab : (p : ℕ → Bool) (k : ℕ) (f : ℕ → ℕ) → ((i : ℕ) → p (f i) ≡ true) → list_all p (tab k f) ≡ true
+unfolding tab
+list_all-tab p zero f h = refl
+list_all-tab p (suc k) f h = rw (list_all-append p (tab k f) (f k ∷ []), list_all-tab p k f h, h k)
+
 pub text-hex : (k : ℕ) (b : List ℕ) → Bytes b → all_hex (hex_text k b) ≡ true
 unfolding all_hex hex_text
-text-hex k b h =
-    all_to-all (length (tab (2 * k) (half_of b))) (λ i. is_hex (get_or (tab (2 * k) (half_of b)) i 0))
-    (λ i l. let m : i < 2 * k = rw (length-tab (2 * k) (half_of b)) at l in
-    ap is_hex (get_d-tab (2 * k) (half_of b) i 0 m) ∙ half-hex (get_or b (i / 2) 0) i (h (i / 2)))
+text-hex k b h = list_all-tab is_hex (2 * k) (half_of b) (λ i. half-hex (get_or b (i / 2) 0) i (h (i / 2)))
 
 pub length-text : (k : ℕ) (b : List ℕ) → length (hex_text k b) ≡ 2 * k
 unfolding hex_text

@@ -2,14 +2,15 @@
 use Rattle.std.specs.Prelude.{ℕ, zero, suc, ◌+◌, ◌-◌, ◌*◌, ◌/◌, ◌%◌, Bool, List, [], ◌∷◌, ◌++◌, length, get_or, leb}
 use Rattle.std.specs.Prelude.{eqb}
 use Rattle.octets.specs.Test.{pick, both}
-use Rattle.octets.specs.Loop.{up_to, all_to}
+use Rattle.std.specs.List.{list_all}
+use Rattle.octets.specs.Loop.{up_to}
 
 -- 0 to 9
 abbrev pub is_digit : ℕ → Bool
 is_digit x = both (leb 48 x) (leb x 57)
 
 unfoldable pub all_digits : List ℕ → Bool
-all_digits s = all_to (length s) (λ i. is_digit (get_or s i 0))
+all_digits s = list_all is_digit s
 
 -- the number that digits say
 abbrev pub value_with : List ℕ → ℕ → ℕ → ℕ

@@ -1,7 +1,8 @@
 -- Bytes as hexadecimal text: two ASCII digits for each byte, the high one first, letters small.
-use Rattle.std.specs.Prelude.{ℕ, ◌+◌, ◌-◌, ◌*◌, ◌/◌, ◌%◌, Bool, true, List, length, get_or, leb, ltb, eqb}
+use Rattle.std.specs.Prelude.{ℕ, ◌+◌, ◌-◌, ◌*◌, ◌/◌, ◌%◌, Bool, true, List, get_or, leb, ltb, eqb}
 use Rattle.octets.specs.Test.{pick, both}
-use Rattle.octets.specs.Loop.{all_to, tab}
+use Rattle.std.specs.List.{list_all}
+use Rattle.octets.specs.Loop.{tab}
 use Rattle.digits.specs.Decimal.{is_digit}
 
 -- a to f
@@ -12,7 +13,7 @@ abbrev pub is_hex : ℕ → Bool
 is_hex x = pick (is_digit x) true (is_letter x)
 
 unfoldable pub all_hex : List ℕ → Bool
-all_hex s = all_to (length s) (λ i. is_hex (get_or s i 0))
+all_hex s = list_all is_hex s
 
 -- what a digit says, and 0 where it is none
 unfoldable pub hex_value : ℕ → ℕ
@@ -26,11 +27,11 @@ hex_digit v = pick (ltb v 10) (48 + v) (87 + v)
 abbrev pub byte_of : List ℕ → ℕ → ℕ
 byte_of s i = 16 * hex_value (get_or s (2 * i) 0) + hex_value (get_or s (2 * i + 1) 0)
 
--- k bytes, from 2 * k digits
 -- how many digits k bytes have
 abbrev pub hex_size : ℕ → ℕ
 hex_size k = 2 * k
 
+-- k bytes, from 2 * k digits
 unfoldable pub hex_bytes : ℕ → List ℕ → List ℕ
 hex_bytes k s = tab k (byte_of s)
 

@@ -7,10 +7,10 @@ use native.Mathlib.Omega.{arith}
 use lib.ListN.{length, take, drop, get_or}
 use lib.Seq.{take-append_seam, drop-append_seam}
 use lib.Dec.{leb, eqb}
+use Rattle.std.proofs.lemmas.List.Sums.{AllPass-from_list_all}
 use borrow.Author.Tests.{eq-eqb, ne_eqb, le-leb, leb-true}
 use Rattle.octets.specs.Test.{pick, both}
 use Rattle.octets.proofs.Test.{both_left, both_right}
-use Rattle.octets.proofs.Loop.{all_to-at}
 use Rattle.view.specs.Size.{report_size}
 use Rattle.view.specs.Report.{report_of}
 use Rattle.digits.specs.Decimal.{is_digit, all_digits, value}
@@ -43,14 +43,14 @@ hex-high x false d e = omega (arith, letter-high x e)
 digits-no-space : (w : List ℕ) → all_digits w ≡ true → NoSpace w
 unfolding all_digits
 digits-no-space w e i l h =
-    let d : 48 ≤ get_or w i 0 = digit-high (get_or w i 0) (all_to-at (length w) (λ k. is_digit (get_or w k 0)) i e l) in
+    let d : 48 ≤ get_or w i 0 = digit-high (get_or w i 0) (AllPass-from_list_all is_digit w e i 0 l) in
     omega arith
 
 hex-no-space : (w : List ℕ) → all_hex w ≡ true → NoSpace w
 unfolding all_hex
 hex-no-space w e i l h =
     let d : 48 ≤ get_or w i 0 =
-    hex-high (get_or w i 0) (is_digit (get_or w i 0)) refl (all_to-at (length w) (λ k. is_hex (get_or w k 0)) i e l) in
+    hex-high (get_or w i 0) (is_digit (get_or w i 0)) refl (AllPass-from_list_all is_hex w e i 0 l) in
     omega arith
 
 number-no-space : (w : List ℕ) → is_number w ≡ true → NoSpace w

@@ -1,3 +1,4 @@
+pub mod FromFn
 pub mod Lent
 pub mod Loop
 pub mod Number
