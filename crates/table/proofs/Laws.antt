@@ -1,7 +1,7 @@
 -- Laws of the loops over 1 to n: one number more, and from the whole to each number and back.
 -- Assumes nothing.
 use mathlib.Core.Path.{◌≡◌, refl, sym, ap, ◌∙◌}
-use mathlib.Core.Bool.{Bool, true, false}
+use mathlib.Core.Bool.{Bool, true, false, ◌&&◌}
 use mathlib.Core.List.{List, [], ◌∷◌, ◌++◌, map, append-nil}
 use Prim.Native.Nat.{ℕ, zero, suc, ◌+◌, ◌-◌, ◌≤◌, ◌<◌}
 use mathlib.Core.Logic.{⊎_elim}
@@ -71,25 +71,23 @@ get_d_numbered (suc n) f w d l k =
     (λ m. let q : w - 1 < length (numbered n f) = rw (length-numbered n f) (omega arith) in
     get_or-append (numbered n f) (f (suc n) ∷ []) d (w - 1) q ∙ get_d_numbered n f w d l m)
 
--- a table that is filled up to k, with entry k + 1 chosen and stored, is filled up to k + 1
-pub filled {ℓ} : {X : Type ℓ} (k : ℕ) (f : ℕ → X) (l : List X) (b : Bool) (x d : X) → k < length l
-    → f (k + 1) ≡ pick b x (get_or l (k + 1 - 1) d)
-    → pick b (set (numbered k f ++ drop k l) (k + 1 - 1) x) (numbered k f ++ drop k l)
-    ≡ numbered (k + 1) f ++ drop (k + 1) l
-filled k f l true x d h e =
-    let back : k + 1 - 1 ≡ k = omega arith in
+-- a table that is filled up to k, with entry k + 1 stored or as it should be, is filled up to k + 1
+pub filled_set {ℓ} : {X : Type ℓ} (k : ℕ) (f : ℕ → X) (l : List X) (x : X) → k < length l → f (k + 1) ≡ x
+    → set (numbered k f ++ drop k l) k x ≡ numbered (k + 1) f ++ drop (k + 1) l
+filled_set k f l x h e =
     rw (
-      back,
-      drop-cons l k d,
-      set_at (numbered k f) (get_or l k d) (drop (suc k) l) x k (length-numbered k f),
+      drop-cons l k x,
+      set_at (numbered k f) (get_or l k x) (drop (suc k) l) x k (length-numbered k f),
       numbered_more k f,
       e,
       add-one k,
     )
     (sym (append_snoc (numbered k f) x (drop (suc k) l)))
-filled k f l false x d h e =
-    let back : k + 1 - 1 ≡ k = omega arith in
-    rw (numbered_more k f, e, back, add-one k, drop-cons l k d)
+
+pub filled_kept {ℓ} : {X : Type ℓ} (k : ℕ) (f : ℕ → X) (l : List X) (d : X) → k < length l
+    → f (k + 1) ≡ get_or l k d → numbered k f ++ drop k l ≡ numbered (k + 1) f ++ drop (k + 1) l
+filled_kept k f l d h e =
+    rw (numbered_more k f, e, add-one k, drop-cons l k d)
     (sym (append_snoc (numbered k f) (get_or l k d) (drop (suc k) l)))
 
 pub filled_none {ℓ} : {X : Type ℓ} (f : ℕ → X) (l : List X) → l ≡ numbered 0 f ++ drop 0 l
@@ -103,3 +101,13 @@ filled-all n f l e = rw (← e, drop-length l) (append-nil (numbered (length l) 
 -- a list has as many elements as what it is mapped to
 pub length-mapped : {X Y : Type 0} (f : X → Y) (l : List X) (n : ℕ) → length (map f l) ≡ n → length l ≡ n
 length-mapped f l n e = sym (length-map l f) ∙ e
+
+-- a test of the first k, with the test of k + 1
+pub all-next : (k : ℕ) (p : ℕ → Bool) (ok b : Bool) → ok ≡ all k p → b ≡ p (k + 1) → (ok && b) ≡ all (k + 1) p
+all-next k p ok b e f = rw (e, f, all_more k p) (turned (all k p) (p (k + 1)))
+  where
+    turned : (x y : Bool) → (x && y) ≡ both y x
+    turned true true = refl
+    turned true false = refl
+    turned false true = refl
+    turned false false = refl

@@ -1,3 +1,4 @@
 pub mod Laws
 pub mod Sets
 pub mod Entries
+pub mod Ranges

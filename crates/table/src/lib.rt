@@ -17,11 +17,11 @@ pub const CELLS: usize = NODES * NODES;
 pub fn or(a: bool, b: bool) -> bool
     ensures { result ≡ either a b }
 {
-    if a { true } else { b }
+    a || b
 }
 
 pub fn larger(a: u64, b: u64) -> u64
     ensures { result ≡ max a b }
 {
-    if a <= b { b } else { a }
+    a.max(b)
 }

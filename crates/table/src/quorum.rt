@@ -6,8 +6,7 @@ ghost use Rattle.table.specs.Table.{at, heard_of};
 ghost use Rattle.table.specs.Quorum.{member, with, only, members_in, most_faults, is_quorum, agreeing};
 ghost use Rattle.table.specs.Quorum.{can_be, tolerates as Quorum·tolerates};
 
-use crate::{CELLS, or};
-use octets::and;
+use crate::CELLS;
 use view::NODES;
 
 // The largest f that any cluster can have.
@@ -42,15 +41,7 @@ pub fn members(n: usize, m: u64) -> usize
     requires { n ≤ nodes }
     ensures { result ≡ members_in n m }
 {
-    let mut k = 0;
-    let mut s = 0;
-    while s < n {
-        s += 1;
-        if is_member(m, s) {
-            k += 1;
-        }
-    }
-    k
+    (1..=n).filter(|&s| is_member(m, s)).count()
 }
 
 // Whether sender s has sent, for each writer, the report held or a later one.
@@ -59,10 +50,8 @@ fn has_sent<'a>(n: usize, heard: &'a [u64; CELLS], held: &'a [u64; NODES], s: us
     ensures { result ≡ all n (λ w. leb (at held.now w) (heard_of heard.now s w)) }
 {
     let mut ok = true;
-    let mut w = 0;
-    while w < n {
-        w += 1;
-        ok = and(held[w - 1] <= heard[(s - 1) * NODES + (w - 1)], ok);
+    for w in 0..n {
+        ok &= held[w] <= heard[(s - 1) * NODES + w];
     }
     ok
 }
@@ -77,47 +66,35 @@ pub fn agreeing_nodes<'a>(
     requires { n ≤ nodes }
     ensures { result ≡ agreeing n own heard.now held.now }
 {
-    let mut k = 0;
-    let mut s = 0;
-    while s < n {
-        s += 1;
-        if or(s == own, has_sent(n, heard, held, s)) {
-            k += 1;
-        }
-    }
-    k
+    (1..=n)
+        .filter(|&s| s == own || has_sent(n, heard, held, s))
+        .count()
 }
 
 // The largest f with 2f < n, for n at least 1.
 pub fn most_faults(n: usize) -> usize
     ensures { result ≡ most_faults n }
 {
-    if n < 1 {
-        return 0;
-    }
-    (n - 1) / 2
+    n.saturating_sub(1) / 2
 }
 
 // Whether n nodes tolerate the stop of f of them: f is at most 7, and 2f < n.
 pub fn tolerates(n: usize, f: usize) -> bool
     ensures { result ≡ Quorum·tolerates n f }
 {
-    if f <= FAULTS { f + f < n } else { false }
+    f <= FAULTS && f + f < n
 }
 
 // Whether there may be a cluster of n nodes, f of which may stop.
 pub fn can_be(n: usize, f: usize) -> bool
     ensures { result ≡ can_be n f }
 {
-    and(and(1 <= n, n <= NODES), tolerates(n, f))
+    1 <= n && n <= NODES && tolerates(n, f)
 }
 
 // Whether k of n nodes are a quorum: at most f are missing.
 pub fn is_quorum(n: usize, f: usize, k: usize) -> bool
     ensures { result ≡ is_quorum n f k }
 {
-    if n <= f {
-        return true;
-    }
-    n - f <= k
+    n <= f || n - f <= k
 }

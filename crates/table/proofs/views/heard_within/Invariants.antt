@@ -1,14 +1,9 @@
--- `table::views::heard_within` meets its contract: the invariant: the first k cells were judged. Assumes nothing.
-use mathlib.Core.Path.{◌≡◌}
-use Prim.Native.Nat.{ℕ, ◌-◌, ◌≤◌}
-use lib.Dec.{leb}
+-- `table::views::heard_within` meets its contract: the invariant: the first cells were judged. Assumes nothing.
+use Rattle.std.proofs.Common.{◌≡◌, leb, ℕ}
 use Rattle.table.specs.Loop.{all}
 use Rattle.view.specs.Size.{limit}
-use Rattle.table.specs.Table.{at, cells}
+use Rattle.table.specs.Table.{at}
 use Rattle.table.proofs.views.heard_within.Given as goal
 
-abbrev pub invariant-loop-k : goal.invariant-loop-k
-invariant-loop-k l = (l.k ≤ cells) × (l.ok ≡ all l.k (λ (i : ℕ). leb (at l.h i) limit))
-
-abbrev pub decreases-loop-k : goal.decreases-loop-k
-decreases-loop-k l = cells - l.k
+abbrev pub invariant-loop-tag : goal.invariant-loop-tag
+invariant-loop-tag l = l.ok ≡ all l.tag-index (λ (i : ℕ). leb (at l.h i) limit)
