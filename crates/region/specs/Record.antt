@@ -167,20 +167,16 @@ head_bytes h = word_bytes (numbers h) ++ wait_bytes h.wait
 
 -- A head with another field.
 abbrev pub with_maxtag : Head → ℕ → Head
-with_maxtag h t =
-    record { n = h.n; f = h.f; own = h.own; maxtag = t; request = h.request; kept = h.kept; wait = h.wait }
+with_maxtag h t = record h { maxtag = t }
 
 abbrev pub with_request : Head → ℕ → Head
-with_request h q =
-    record { n = h.n; f = h.f; own = h.own; maxtag = h.maxtag; request = q; kept = h.kept; wait = h.wait }
+with_request h q = record h { request = q }
 
 abbrev pub with_kept : Head → ℕ → Head
-with_kept h t =
-    record { n = h.n; f = h.f; own = h.own; maxtag = h.maxtag; request = h.request; kept = t; wait = h.wait }
+with_kept h t = record h { kept = t }
 
 abbrev pub with_wait : Head → Wait → Head
-with_wait h w =
-    record { n = h.n; f = h.f; own = h.own; maxtag = h.maxtag; request = h.request; kept = h.kept; wait = w }
+with_wait h w = record h { wait = w }
 
 -- The bytes of the views, each of all entries; of a record; and view i that bytes are.
 abbrev pub views_bytes : Node → List ℕ

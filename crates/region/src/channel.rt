@@ -12,37 +12,38 @@ pub const FULL: u8 = CAPACITY as u8;
 pub fn index(x: u8) -> usize
     ensures { (result ≡ x) × (result ≤ 255) }
 {
-    x as usize
+    usize::from(x)
 }
 
 // Puts a message at the end of a channel; nothing where it is full.
+#[tactic(auto, unfolding(crate::specs::Channel::push))]
 pub fn push(t: &mut [u8], m: &[u8])
     requires { (length t.old ≡ channel_size) × (length m.now ≤ slot_size) }
     ensures { t.new ≡ pushed m.now t.old }
 {
-    let k = t[COUNT_PLACE];
-    if k < FULL {
-        let h = t[OLDEST_PLACE];
-        let at = SLOTS_PLACE + SLOT * ((index(h) + index(k)) % CAPACITY);
+    let count = t[COUNT_PLACE];
+    if count < FULL {
+        let oldest = usize::from(t[OLDEST_PLACE]);
+        let at = SLOTS_PLACE + SLOT * ((oldest + usize::from(count)) % CAPACITY);
         octets::put_bytes(t, at, m);
-        t[COUNT_PLACE] = k + 1;
+        t[COUNT_PLACE] = count + 1;
     }
 }
 
 // Takes the oldest message off a channel; nothing where it is empty.
+#[tactic(auto, unfolding(crate::specs::Channel::pop))]
 pub fn pop(t: &mut [u8])
     requires { length t.old ≡ channel_size }
     ensures { t.new ≡ popped t.old }
 {
-    let k = t[COUNT_PLACE];
-    if 0 < k {
-        let h = t[OLDEST_PLACE];
-        t[COUNT_PLACE] = k - 1;
-        t[OLDEST_PLACE] = ((index(h) + 1) % CAPACITY) as u8;
+    if 0 < t[COUNT_PLACE] {
+        t[COUNT_PLACE] -= 1;
+        t[OLDEST_PLACE] = ((usize::from(t[OLDEST_PLACE]) + 1) % CAPACITY) as u8;
     }
 }
 
 // Empties a channel.
+#[tactic(auto, unfolding(crate::specs::Channel::clear))]
 pub fn clear(t: &mut [u8])
     requires { length t.old ≡ channel_size }
     ensures { t.new ≡ cleared t.old }
@@ -51,12 +52,11 @@ pub fn clear(t: &mut [u8])
 }
 
 // The slot of the oldest message.
+#[tactic(auto, unfolding(octets::specs::Bytes::part))]
 pub fn first(t: &[u8]) -> &[u8]
     requires { length t.now ≡ channel_size }
     ensures { result.now ≡ first_in t.now }
 {
-    let h = t[OLDEST_PLACE];
-    let at = SLOTS_PLACE + SLOT * (index(h) % CAPACITY);
-    let end = at + SLOT;
-    &t[at..end]
+    let at = SLOTS_PLACE + SLOT * (usize::from(t[OLDEST_PLACE]) % CAPACITY);
+    &t[at..at + SLOT]
 }

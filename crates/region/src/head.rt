@@ -31,60 +31,25 @@ pub struct Head {
 pub fn with_maxtag(h: Head, t: u64) -> Head
     ensures { result ≡ with_maxtag h t }
 {
-    let wait = h.wait;
-    Head {
-        n: h.n,
-        f: h.f,
-        own: h.own,
-        maxtag: t,
-        request: h.request,
-        kept: h.kept,
-        wait: wait,
-    }
+    Head { maxtag: t, ..h }
 }
 
 pub fn with_request(h: Head, q: u64) -> Head
     ensures { result ≡ with_request h q }
 {
-    let wait = h.wait;
-    Head {
-        n: h.n,
-        f: h.f,
-        own: h.own,
-        maxtag: h.maxtag,
-        request: q,
-        kept: h.kept,
-        wait: wait,
-    }
+    Head { request: q, ..h }
 }
 
 pub fn with_kept(h: Head, t: u64) -> Head
     ensures { result ≡ with_kept h t }
 {
-    let wait = h.wait;
-    Head {
-        n: h.n,
-        f: h.f,
-        own: h.own,
-        maxtag: h.maxtag,
-        request: h.request,
-        kept: t,
-        wait: wait,
-    }
+    Head { kept: t, ..h }
 }
 
 pub fn with_wait(h: Head, w: Wait) -> Head
     ensures { result ≡ with_wait h w }
 {
-    Head {
-        n: h.n,
-        f: h.f,
-        own: h.own,
-        maxtag: h.maxtag,
-        request: h.request,
-        kept: h.kept,
-        wait: w,
-    }
+    Head { wait: w, ..h }
 }
 
 fn kind_of(code: u64) -> Kind
@@ -115,43 +80,37 @@ fn wait_of(
 ) -> Wait
     ensures { result ≡ wait_of code kind round tag answered largest report }
 {
-    if code == 1 {
-        return Wait::Reading {
+    match code {
+        1 => Wait::Reading {
             operation: operation_of(kind, report),
-            answered: answered,
-            largest: largest,
-        };
-    }
-    if code == 2 {
-        return Wait::Writing {
+            answered,
+            largest,
+        },
+        2 => Wait::Writing {
             kind: kind_of(kind),
-            round: round,
-            tag: tag,
-            answered: answered,
-        };
-    }
-    if code == 3 {
-        return Wait::Comparing {
+            round,
+            tag,
+            answered,
+        },
+        3 => Wait::Comparing {
             kind: kind_of(kind),
-            round: round,
-            tag: tag,
-        };
-    }
-    if code == 4 {
-        return Wait::Borrowing {
+            round,
+            tag,
+        },
+        4 => Wait::Borrowing {
             kind: kind_of(kind),
-            tag: tag,
-        };
+            tag,
+        },
+        _ => Wait::Idle,
     }
-    Wait::Idle
 }
 
 // The wait of the record.
+#[tactic(auto, unfolding(octets::specs::Bytes::part))]
 pub fn load_wait(b: &[u8]) -> Wait
     requires { length b.now ≡ record_size }
     ensures { result ≡ wait_in b.now }
 {
-    let p = view::read_report(&b[REPORT_PLACE..HEARD_PLACE]);
     wait_of(
         get_word(b, CODE_PLACE),
         get_word(b, KIND_PLACE),
@@ -159,7 +118,7 @@ pub fn load_wait(b: &[u8]) -> Wait
         get_word(b, TAG_PLACE),
         get_word(b, ANSWERED_PLACE),
         get_word(b, LARGEST_PLACE),
-        p,
+        view::read_report(&b[REPORT_PLACE..HEARD_PLACE]),
     )
 }
 
@@ -185,10 +144,7 @@ pub fn codes_known(b: &[u8]) -> bool
     ensures { result ≡ codes_known b.now }
 {
     let code = get_word(b, CODE_PLACE);
-    if code == 0 {
-        return true;
-    }
-    octets::and(code <= 4, get_word(b, KIND_PLACE) <= 1)
+    code == 0 || (code <= 4 && get_word(b, KIND_PLACE) <= 1)
 }
 
 // The words of a wait.
@@ -198,13 +154,15 @@ fn wait_words(w: Wait) -> [u64; 6]
     match w {
         Wait::Idle => [0, 0, 0, 0, 0, 0],
         Wait::Reading {
-            operation,
+            operation: Operation::Update(_),
             answered,
             largest,
-        } => match operation {
-            Operation::Update(report) => [1, 1, 0, 0, answered, largest],
-            Operation::Scan => [1, 0, 0, 0, answered, largest],
-        },
+        } => [1, 1, 0, 0, answered, largest],
+        Wait::Reading {
+            operation: Operation::Scan,
+            answered,
+            largest,
+        } => [1, 0, 0, 0, answered, largest],
         Wait::Writing {
             kind,
             round,
@@ -230,23 +188,11 @@ fn wait_report(w: Wait) -> Report
     ensures { result ≡ wait_report w }
 {
     match w {
-        Wait::Idle => view::none(),
         Wait::Reading {
-            operation,
-            answered,
-            largest,
-        } => match operation {
-            Operation::Update(report) => report,
-            Operation::Scan => view::none(),
-        },
-        Wait::Writing {
-            kind,
-            round,
-            tag,
-            answered,
-        } => view::none(),
-        Wait::Comparing { kind, round, tag } => view::none(),
-        Wait::Borrowing { kind, tag } => view::none(),
+            operation: Operation::Update(report),
+            ..
+        } => report,
+        _ => view::none(),
     }
 }
 
@@ -255,10 +201,8 @@ pub fn save_wait(b: &mut [u8], w: Wait)
     requires { length b.old ≡ record_size }
     ensures { b.new ≡ put b.old code_place (wait_bytes w) }
 {
-    let k = wait_words(w);
-    octets::put_words(b, CODE_PLACE, &k);
-    let p = view::report_bytes(wait_report(w));
-    octets::put_bytes(b, REPORT_PLACE, &p);
+    octets::put_words(b, CODE_PLACE, &wait_words(w));
+    octets::put_bytes(b, REPORT_PLACE, &view::report_bytes(wait_report(w)));
 }
 
 // Writes the head of the record.
@@ -266,8 +210,7 @@ pub fn save_head(b: &mut [u8], h: Head)
     requires { length b.old ≡ record_size }
     ensures { b.new ≡ put b.old n_place (head_bytes h) }
 {
-    let w = h.wait;
-    let s = [h.n, h.f, h.own, h.maxtag, h.request, h.kept];
-    octets::put_words(b, N_PLACE, &s);
-    save_wait(b, w);
+    let numbers = [h.n, h.f, h.own, h.maxtag, h.request, h.kept];
+    octets::put_words(b, N_PLACE, &numbers);
+    save_wait(b, h.wait);
 }

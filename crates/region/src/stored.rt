@@ -18,8 +18,7 @@ pub fn load_view(b: &[u8], i: usize, n: usize) -> View
     ensures { result ≡ first_of n (view_in b.now i) }
 {
     let at = VIEWS_PLACE + VIEW * i;
-    let end = at + VIEW;
-    view::read_view(n, &b[at..end])
+    view::read_view(n, &b[at..at + VIEW])
 }
 
 // Writes view i of the record.
@@ -28,8 +27,7 @@ pub fn save_view(b: &mut [u8], i: usize, v: View)
     ensures { b.new ≡ put b.old (view_place i) (view_bytes nodes v) }
 {
     let at = VIEWS_PLACE + VIEW * i;
-    let end = at + VIEW;
-    view::write_view(NODES, v, &mut b[at..end]);
+    view::write_view(NODES, v, &mut b[at..at + VIEW]);
 }
 
 fn save_views(b: &mut [u8], c: Node)
@@ -47,8 +45,7 @@ fn save_tables(b: &mut [u8], c: Node)
     requires { length b.old ≡ record_size }
     ensures { b.new ≡ put b.old heard_place (word_bytes c.heard ++ views_bytes c) }
 {
-    let h = c.heard;
-    octets::put_table256(b, HEARD_PLACE, &h);
+    octets::put_words(b, HEARD_PLACE, &c.heard);
     save_views(b, c);
 }
 
@@ -56,7 +53,6 @@ fn save_tables(b: &mut [u8], c: Node)
 fn head_in(c: Node) -> Head
     ensures { result ≡ head_in c }
 {
-    let wait = c.wait;
     Head {
         n: c.n as u64,
         f: c.f as u64,
@@ -64,7 +60,7 @@ fn head_in(c: Node) -> Head
         maxtag: c.maxtag,
         request: c.request,
         kept: c.kept,
-        wait: wait,
+        wait: c.wait,
     }
 }
 

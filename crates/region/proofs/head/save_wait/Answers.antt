@@ -17,6 +17,6 @@ returns c =
     let w = c.args.w in
     put_then b code_place (word_bytes (wait_words w)) (report_bytes (wait_report w)) report_place (omega arith)
     (wait-end w)
-    (c.put_words.ensures ∙ ap (λ (t : List ℕ). put b code_place (word_bytes t)) c.wait_words-k.ensures)
-    (c.put_bytes.ensures ∙ ap (put _ report_place) (c.report_bytes-p.ensures ∙ ap report_bytes
+    (c.put_words.ensures ∙ ap (λ (t : List ℕ). put b code_place (word_bytes t)) c.wait_words.ensures)
+    (c.put_bytes.ensures ∙ ap (put _ report_place) (c.report_bytes.ensures ∙ ap report_bytes
     c.wait_report.ensures))

@@ -16,4 +16,4 @@ returns c =
     let long : length a.c.heard ≡ cells = search rules in
     put_then a.b.now heard_place (word_bytes a.c.heard) (views_bytes a.c) (view_place last_in) (omega arith)
     (omega (arith, long, length-word_bytes a.c.heard))
-    c.put_table256.ensures c.save_views.ensures
+    c.put_words.ensures c.save_views.ensures
