@@ -137,11 +137,3 @@ pub fn put_words(b: &mut [u8], at: usize, t: &[u64])
         put_word(b, at + WORD * i, *x);
     }
 }
-
-// A table of 256 words: an array that is a field of a struct is lent whole.
-pub fn put_table256(b: &mut [u8], at: usize, t: &[u64; 256])
-    requires { at + word_size * 256 ≤ length b.old }
-    ensures { b.new ≡ put b.old at (word_bytes t.now) }
-{
-    put_words(b, at, t);
-}
