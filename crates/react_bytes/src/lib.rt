@@ -15,7 +15,7 @@ ghost use Rattle.step.specs.Stale.{stale_message, writer_within};
 ghost use Rattle.react_bytes.specs.Handled.{entered, view_there};
 
 use decide::{read_wait, round_holds, sent_where, write_sent, write_wait};
-use octets::{WORD, and, get_word, put_bytes, put_word};
+use octets::{WORD, get_word, put_bytes, put_word};
 use record::Wait;
 use record::usable::is_stale_tag;
 use region::head::{head_of, load_wait, save_head, save_wait, with_kept, with_maxtag};
@@ -43,15 +43,15 @@ fn raised_in(r: &mut [u8], t: u64) -> bool
     ensures { (result ≡ ltb (record_of r.old).maxtag t)
         × (r.new ≡ record_bytes (raised (record_of r.old) t)) }
 {
-    if get_word(r, MAXTAG_PLACE) < t {
+    let grows = get_word(r, MAXTAG_PLACE) < t;
+    if grows {
         let h = head_of(r);
-        let v = newest_in(r, t);
-        put_bytes(r, ATMAX_PLACE, &v);
+        put_bytes(r, ATMAX_PLACE, &newest_in(r, t));
         save_head(r, with_maxtag(h, t));
-        return true;
+    } else {
+        waiting_in(r, load_wait(r));
     }
-    waiting_in(r, load_wait(r));
-    false
+    grows
 }
 
 // The tag heard from s for w, and the entries of the views that the flags say.
@@ -72,10 +72,9 @@ fn received_in(r: &mut [u8], s: usize, w: usize, t: u64, p: Report) -> bool
         × (r.new ≡ record_bytes (received (record_of r.old) s w t p)) }
 {
     let h = head_of(r);
-    let wait = h.wait;
     let fresh = tag_in(r, LAST_IN, w) < t;
-    let held = and(fresh, t <= h.maxtag);
-    let round = and(fresh, round_holds(wait, t));
+    let held = fresh && t <= h.maxtag;
+    let round = fresh && round_holds(h.wait, t);
     enter(r, s, w, t, p, fresh, held, round);
     save_head(r, h);
     fresh
@@ -90,9 +89,9 @@ fn kept_in(r: &mut [u8], n: usize, t: u64, v: &[u8])
         let h = head_of(r);
         save_view(r, KEPT_IN, read_view(n, v));
         save_head(r, with_kept(h, t));
-        return;
+    } else {
+        waiting_in(r, load_wait(r));
     }
-    waiting_in(r, load_wait(r));
 }
 
 // The handler of each kind; `v` has the view of a good message. What it sends is the answer.
@@ -106,10 +105,7 @@ pub fn react_in(r: &mut [u8], n: usize, s: usize, m: Message, v: &[u8]) -> Sent
         Message::Read { request } => {
             let tag = get_word(r, MAXTAG_PLACE);
             waiting_in(r, load_wait(r));
-            Sent::One(Message::ReadAnswer {
-                request: request,
-                tag: tag,
-            })
+            Sent::One(Message::ReadAnswer { request, tag })
         }
         Message::ReadAnswer { request, tag } => {
             waiting_in(
@@ -131,7 +127,7 @@ pub fn react_in(r: &mut [u8], n: usize, s: usize, m: Message, v: &[u8]) -> Sent
         }
         Message::Echo { tag } => {
             let grown = raised_in(r, tag);
-            sent_where(grown, Message::Echo { tag: tag })
+            sent_where(grown, Message::Echo { tag })
         }
         Message::Value {
             tag,
@@ -142,9 +138,9 @@ pub fn react_in(r: &mut [u8], n: usize, s: usize, m: Message, v: &[u8]) -> Sent
             sent_where(
                 fresh,
                 Message::Value {
-                    tag: tag,
-                    writer: writer,
-                    report: report,
+                    tag,
+                    writer,
+                    report,
                 },
             )
         }
@@ -161,17 +157,8 @@ pub fn is_stale_in(r: &[u8], s: usize, m: Message) -> bool
     ensures { result ≡ stale_message (record_of r.now) s m }
 {
     match m {
-        Message::Read { request: _ } => false,
-        Message::ReadAnswer { request: _, tag: _ } => false,
-        Message::Write { request: _, tag: _ } => false,
-        Message::WriteAnswer { request: _, tag: _ } => false,
-        Message::Echo { tag: _ } => false,
-        Message::Value {
-            tag,
-            writer,
-            report: _,
-        } => stale_in(r, s, writer, tag),
-        Message::Good { tag: _ } => false,
+        Message::Value { tag, writer, .. } => stale_in(r, s, writer, tag),
+        _ => false,
     }
 }
 

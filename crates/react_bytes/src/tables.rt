@@ -34,8 +34,7 @@ fn put_entry(r: &mut [u8], i: usize, w: usize, t: u64, p: Report)
 {
     let at = VIEWS_PLACE + VIEW * i + ENTRY * (w - 1);
     put_word(r, at, t);
-    let d = report_bytes(p);
-    put_bytes(r, at + TAG, &d);
+    put_bytes(r, at + TAG, &report_bytes(p));
 }
 
 // Another entry of writer w in view i, where the flag says so.
@@ -70,12 +69,9 @@ fn put_newest(r: &[u8], t: u64, out: &mut [u8])
     ensures { out.new
         ≡ view_bytes nodes (newest t (view_in r.now last_in) (view_in r.now atmax_in)) }
 {
-    let mut i = 0;
-    while i < NODES {
+    for i in 0..NODES {
         let x = newest_at(r, t, i + 1);
-        let end = x + ENTRY;
-        put_bytes(out, ENTRY * i, &r[x..end]);
-        i += 1;
+        put_bytes(out, ENTRY * i, &r[x..x + ENTRY]);
     }
 }
 

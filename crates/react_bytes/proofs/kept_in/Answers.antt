@@ -30,8 +30,8 @@ returns-then-get_word-t c =
     (c.with_kept.ensures ∙ ap (λ (h : Head). with_kept h a.t) head)
     ∙ kept-bytes r (λ i. (c.slice_known-1.given i).fits) c.requires.0 a.t (view_of a.n a.v.now) true e
 
-pub returns : goal.returns
-returns c =
+pub returns-else-get_word-t : goal.returns-else-get_word-t
+returns-else-get_word-t c =
     let a = c.args in
     let r = a.r.now in
     let e : ltb (word r kept_place) a.t ≡ false =

@@ -15,4 +15,4 @@ returns c =
     let at = entry_place a.i a.w in
     put_then a.r.now at (be tag_size a.t) (report_bytes a.p) (at + tag_size) (omega arith) refl
     c.put_word.ensures
-    (c.put_bytes.ensures ∙ ap (put _ (at + tag_size)) c.report_bytes-d.ensures)
+    (c.put_bytes.ensures ∙ ap (put _ (at + tag_size)) c.report_bytes.ensures)

@@ -1,5 +1,4 @@
 -- `react_bytes::tables::put_newest` meets its contract.
-use borrow.Author.Rules.{rules}
 use Prim.Native.Nat.{ℕ, ◌*◌}
 use mathlib.Core.Path.{◌≡◌, refl, sym, ap, ◌∙◌}
 use native.Mathlib.Omega.{arith}
@@ -19,7 +18,6 @@ pub loop-i-init : goal.loop-i-init
 loop-i-init c =
     let a = c.args in
     let o = a.out.now in (
-      search rules,
       sym (put-nil o 0) ∙ ap (put o 0) (sym (join-none (entry a.r.now a.t))),
       refl,
     )
@@ -32,10 +30,9 @@ loop-i-preserved c =
     let l : length (join i f) ≡ entry_size * i = length-join i entry_size f (λ j. refl) in
     let e = c.put_bytes.ensures ∙ ap (put c.loop-i.out (entry_size * i)) (lent a.r.now _ entry_size refl
     ∙ c.newest_at-x.ensures.1) in (
-      search rules,
-      put_then a.out.now 0 (join i f) (f i) (entry_size * i) (omega arith) (omega arith) c.loop-i.invariant.1 e
+      put_then a.out.now 0 (join i f) (f i) (entry_size * i) (omega arith) (omega arith) c.loop-i.invariant.0 e
           ∙ ap (put a.out.now 0) (sym (join_more i f)),
-      c.put_bytes.auto.b ∙ c.loop-i.invariant.2,
+      c.put_bytes.auto.b ∙ c.loop-i.invariant.1,
     )
 
 pub returns : goal.returns
@@ -44,6 +41,6 @@ returns c =
     let r = a.r.now in
     let f = entry r a.t in
     let e : c.loop-i.i ≡ nodes = omega arith in
-    c.loop-i.invariant.1 ∙ ap (λ (k : ℕ). put a.out.now 0 (join k f)) e
+    c.loop-i.invariant.0 ∙ ap (λ (k : ℕ). put a.out.now 0 (join k f)) e
     ∙ put-over a.out.now (join nodes f) (length-join nodes entry_size f (λ j. refl) ∙ sym c.requires.1)
     ∙ newest-bytes a.t (view_in r last_in) (view_in r atmax_in)
