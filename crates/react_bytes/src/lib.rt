@@ -114,10 +114,7 @@ pub fn react_in(r: &mut [u8], n: usize, s: usize, m: Message, v: &[u8]) -> Sent
             );
             Sent::Nothing
         }
-        Message::Write { request, tag } => {
-            let grown = raised_in(r, tag);
-            write_sent(grown, request, tag)
-        }
+        Message::Write { request, tag } => write_sent(raised_in(r, tag), request, tag),
         Message::WriteAnswer { request, tag } => {
             waiting_in(
                 r,
@@ -125,25 +122,12 @@ pub fn react_in(r: &mut [u8], n: usize, s: usize, m: Message, v: &[u8]) -> Sent
             );
             Sent::Nothing
         }
-        Message::Echo { tag } => {
-            let grown = raised_in(r, tag);
-            sent_where(grown, Message::Echo { tag })
-        }
+        Message::Echo { tag } => sent_where(raised_in(r, tag), m),
         Message::Value {
             tag,
             writer,
             report,
-        } => {
-            let fresh = received_in(r, s, writer, tag, report);
-            sent_where(
-                fresh,
-                Message::Value {
-                    tag,
-                    writer,
-                    report,
-                },
-            )
-        }
+        } => sent_where(received_in(r, s, writer, tag, report), m),
         Message::Good { tag } => {
             kept_in(r, n, tag, v);
             Sent::Nothing

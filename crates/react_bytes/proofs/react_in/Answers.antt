@@ -11,8 +11,8 @@ use Rattle.step.proofs.Allowed.{writer-from}
 use Rattle.region.specs.Record.{record_of, record_bytes}
 use Rattle.react_bytes.proofs.react_in.Goals as goal
 
-pub received_in-fresh-requires : goal.received_in-fresh-requires
-received_in-fresh-requires c =
+pub received_in-requires : goal.received_in-requires
+received_in-requires c =
     let p = c.requires in
     let w = writer-from _ (rw c.in-Value.is at p.5) in
     (p.0, p.3, p.4, w.0, w.1)
@@ -51,7 +51,7 @@ returns-in-ReadAnswer c =
 pub returns-in-Write : goal.returns-in-Write
 unfolding react
 returns-in-Write c =
-    rw c.in-Write.is (simp (c.write_sent.ensures, c.raised_in-grown.ensures.0), c.raised_in-grown.ensures.1)
+    rw c.in-Write.is (simp (c.write_sent.ensures, c.raised_in.ensures.0), c.raised_in.ensures.1)
 
 pub returns-in-WriteAnswer : goal.returns-in-WriteAnswer
 unfolding react record_of
@@ -72,16 +72,16 @@ pub returns-in-Echo : goal.returns-in-Echo
 unfolding react
 returns-in-Echo c =
     rw c.in-Echo.is (
-      simp (c.sent_where.ensures, c.raised_in-grown-in-Echo.ensures.0),
-      c.raised_in-grown-in-Echo.ensures.1,
+      simp (c.sent_where.ensures, c.raised_in-in-Echo.ensures.0),
+      c.raised_in-in-Echo.ensures.1,
     )
 
 pub returns-in-Value : goal.returns-in-Value
 unfolding react
 returns-in-Value c =
     rw c.in-Value.is (
-      simp (c.sent_where-in-Value.ensures, c.received_in-fresh.ensures.0),
-      c.received_in-fresh.ensures.1,
+      simp (c.sent_where-in-Value.ensures, c.received_in.ensures.0),
+      c.received_in.ensures.1,
     )
 
 pub returns-in-Good : goal.returns-in-Good
