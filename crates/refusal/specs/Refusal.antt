@@ -2,8 +2,8 @@
 use Rattle.std.specs.Prelude.{ℕ, Result, Ok, Err}
 use Rattle.octets.specs.Answer.{Answer, returned, refused}
 use Rattle.refusal.specs.declared.Refusal.{Refusal}
-use Rattle.refusal.specs.declared.Refusal.TheVariants.{Size, Unusable, Node, Stopped, Open, Full, Layout, Empty, Stale}
-use Rattle.refusal.specs.declared.Refusal.TheVariants.{Faults, Crowded, Length, Frame, Page}
+use Rattle.refusal.specs.declared.Refusal.TheVariants.{Size, Unusable, Node, Stopped, Open, Requests, Layout, Empty, Value}
+use Rattle.refusal.specs.declared.Refusal.TheVariants.{Stops, Full, Length, Frame, Page}
 
 abbrev pub number : Refusal → ℕ
 number Size = 1
@@ -11,12 +11,12 @@ number Unusable = 2
 number Node = 3
 number Stopped = 4
 number Open = 5
-number Full = 6
+number Requests = 6
 number Layout = 7
 number Empty = 8
-number Stale = 9
-number Faults = 10
-number Crowded = 11
+number Value = 9
+number Stops = 10
+number Full = 11
 number Length = 12
 number Frame = 14
 number Page = 15

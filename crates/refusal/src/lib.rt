@@ -18,17 +18,17 @@ pub enum Refusal {
     // An operation is open.
     Open = 5,
     // Too few request numbers are left.
-    Full = 6,
+    Requests = 6,
     // The bytes or the numbers are not of the layout.
     Layout = 7,
     // Nothing waits on the channel.
     Empty = 8,
-    // The value is older than what was heard.
-    Stale = 9,
-    // No node more may stop.
-    Faults = 10,
+    // A value that cannot come now.
+    Value = 9,
+    // One node more may not stop.
+    Stops = 10,
     // A channel would hold more than it can.
-    Crowded = 11,
+    Full = 11,
     // What was lent has not the length that the call asks.
     Length = 12,
     // The frame is empty or too long.
