@@ -1,5 +1,4 @@
-// The changes that a step makes in a record. A field that is an enum is not stored to, so a record with another wait is
-// written anew.
+// The changes that a step makes in a record.
 ghost use Rattle.std.specs.Prelude.{◌≡◌};
 ghost use Rattle.record.specs.Record.{set_wait, with_wait, closed};
 
@@ -10,34 +9,26 @@ use view::{View, absent};
 pub fn set_wait(c: Node, q: u64, w: Wait, v: View) -> Node
     ensures { result ≡ set_wait c q w v }
 {
-    let heard = c.heard;
-    let last = c.last;
-    let atmax = c.atmax;
-    let keptview = c.keptview;
     Node {
-        n: c.n,
-        f: c.f,
-        own: c.own,
-        maxtag: c.maxtag,
         request: q,
         wait: w,
-        heard: heard,
-        last: last,
-        atmax: atmax,
         atround: v,
-        kept: c.kept,
-        keptview: keptview,
+        ..c
     }
 }
 
 pub fn waiting_node(c: Node, w: Wait) -> Node
     ensures { result ≡ with_wait c w }
 {
-    set_wait(c, c.request, w, c.atround)
+    Node { wait: w, ..c }
 }
 
 pub fn closed_node(c: Node, w: Wait) -> Node
     ensures { result ≡ closed c w }
 {
-    set_wait(c, c.request, w, absent())
+    Node {
+        wait: w,
+        atround: absent(),
+        ..c
+    }
 }

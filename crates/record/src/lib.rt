@@ -79,9 +79,9 @@ pub fn blank_node(n: usize, f: usize, own: usize) -> Node
     ensures { result ≡ blank n f own }
 {
     Node {
-        n: n,
-        f: f,
-        own: own,
+        n,
+        f,
+        own,
         maxtag: 0,
         request: 0,
         wait: Wait::Idle,

@@ -5,8 +5,6 @@ ghost use Rattle.record.specs.Usable.{still_uses, round_tag, round_ok, wait_ok, 
 ghost use Rattle.record.specs.Usable.{numbers_ok, tables_ok, usable, is_open, full, stale_tag, stale};
 
 use crate::{Node, Operation, Wait};
-use octets::{and, less};
-use table::or;
 use table::quorum::{can_be, is_only};
 use table::views::{heard_within, tag_of, view_within};
 use view::{LIMIT, NODES};
@@ -16,27 +14,16 @@ fn still_uses(wait: Wait) -> u64
     ensures { result ≡ still_uses wait }
 {
     match wait {
-        Wait::Idle => 0,
+        Wait::Idle | Wait::Borrowing { .. } => 0,
         Wait::Reading {
-            operation,
-            answered: _,
-            largest: _,
-        } => match operation {
-            Operation::Update(_) => 4,
-            Operation::Scan => 3,
-        },
-        Wait::Writing {
-            kind: _,
-            round,
-            tag: _,
-            answered: _,
-        } => less(3, round),
-        Wait::Comparing {
-            kind: _,
-            round,
-            tag: _,
-        } => less(3, round),
-        Wait::Borrowing { kind: _, tag: _ } => 0,
+            operation: Operation::Update(_),
+            ..
+        } => 4,
+        Wait::Reading {
+            operation: Operation::Scan,
+            ..
+        } => 3,
+        Wait::Writing { round, .. } | Wait::Comparing { round, .. } => 3u64.saturating_sub(round),
     }
 }
 
@@ -45,31 +32,15 @@ pub fn round_tag(wait: Wait) -> u64
     ensures { result ≡ round_tag wait }
 {
     match wait {
-        Wait::Idle => LIMIT,
-        Wait::Reading {
-            operation: _,
-            answered: _,
-            largest: _,
-        } => LIMIT,
-        Wait::Writing {
-            kind: _,
-            round: _,
-            tag,
-            answered: _,
-        } => tag,
-        Wait::Comparing {
-            kind: _,
-            round: _,
-            tag,
-        } => tag,
-        Wait::Borrowing { kind: _, tag: _ } => LIMIT,
+        Wait::Writing { tag, .. } | Wait::Comparing { tag, .. } => tag,
+        Wait::Idle | Wait::Reading { .. } | Wait::Borrowing { .. } => LIMIT,
     }
 }
 
 fn round_ok(round: u64, tag: u64) -> bool
     ensures { result ≡ round_ok round tag }
 {
-    and(round <= 3, or(and(tag <= LIMIT, 1 <= round), tag < LIMIT))
+    round <= 3 && (tag <= LIMIT && 1 <= round || tag < LIMIT)
 }
 
 fn wait_ok(n: usize, wait: Wait) -> bool
@@ -79,22 +50,18 @@ fn wait_ok(n: usize, wait: Wait) -> bool
     match wait {
         Wait::Idle => true,
         Wait::Reading {
-            operation: _,
             answered,
             largest,
-        } => and(is_only(n, answered), largest <= LIMIT),
+            ..
+        } => is_only(n, answered) && largest <= LIMIT,
         Wait::Writing {
-            kind: _,
             round,
             tag,
             answered,
-        } => and(is_only(n, answered), round_ok(round, tag)),
-        Wait::Comparing {
-            kind: _,
-            round,
-            tag,
-        } => round_ok(round, tag),
-        Wait::Borrowing { kind: _, tag } => tag <= LIMIT,
+            ..
+        } => is_only(n, answered) && round_ok(round, tag),
+        Wait::Comparing { round, tag, .. } => round_ok(round, tag),
+        Wait::Borrowing { tag, .. } => tag <= LIMIT,
     }
 }
 
@@ -102,7 +69,7 @@ fn wait_ok(n: usize, wait: Wait) -> bool
 pub fn sizes_within(n: usize, f: usize, own: usize) -> bool
     ensures { result ≡ sizes_within n f own }
 {
-    and(can_be(n, f), and(1 <= own, own <= n))
+    can_be(n, f) && 1 <= own && own <= n
 }
 
 // Whether the numbers of a record keep their limits.
@@ -110,77 +77,52 @@ pub fn numbers_within(n: usize, maxtag: u64, request: u64, kept: u64, wait: Wait
     requires { n ≤ nodes }
     ensures { result ≡ numbers_within n maxtag request kept wait }
 {
-    and(
-        and(maxtag <= LIMIT, and(request <= LIMIT, kept <= LIMIT)),
-        and(wait_ok(n, wait), still_uses(wait) <= less(LIMIT, request)),
-    )
+    maxtag <= LIMIT
+        && request <= LIMIT
+        && kept <= LIMIT
+        && wait_ok(n, wait)
+        && still_uses(wait) <= LIMIT.saturating_sub(request)
 }
 
+#[tactic(auto, unfolding(crate::specs::Usable::numbers_ok))]
 fn numbers_ok(c: Node) -> bool
     requires { c.n ≤ nodes }
     ensures { result ≡ numbers_ok c }
 {
-    let wait = c.wait;
-    numbers_within(c.n, c.maxtag, c.request, c.kept, wait)
+    numbers_within(c.n, c.maxtag, c.request, c.kept, c.wait)
 }
 
+#[tactic(auto, unfolding(crate::specs::Usable::tables_ok))]
 fn tables_ok(c: Node) -> bool
     ensures { result ≡ tables_ok c }
 {
-    and(
-        and(heard_within(&c.heard), view_within(LIMIT, c.last)),
-        and(
-            and(
-                view_within(c.maxtag, c.atmax),
-                view_within(round_tag(c.wait), c.atround),
-            ),
-            view_within(c.kept, c.keptview),
-        ),
-    )
+    heard_within(&c.heard)
+        && view_within(LIMIT, c.last)
+        && view_within(c.maxtag, c.atmax)
+        && view_within(round_tag(c.wait), c.atround)
+        && view_within(c.kept, c.keptview)
 }
 
 // Whether the record is one that document 01 does not refuse with 2.
+#[tactic(auto, unfolding(crate::specs::Usable::usable))]
 pub fn is_usable(c: Node) -> bool
     ensures { result ≡ usable c }
 {
-    if sizes_within(c.n, c.f, c.own) {
-        and(numbers_ok(c), tables_ok(c))
-    } else {
-        false
-    }
+    sizes_within(c.n, c.f, c.own) && numbers_ok(c) && tables_ok(c)
 }
 
 // Whether an operation is open (refusal 5).
 pub fn has_open(wait: Wait) -> bool
     ensures { result ≡ is_open wait }
 {
-    match wait {
-        Wait::Idle => false,
-        Wait::Reading {
-            operation: _,
-            answered: _,
-            largest: _,
-        } => true,
-        Wait::Writing {
-            kind: _,
-            round: _,
-            tag: _,
-            answered: _,
-        } => true,
-        Wait::Comparing {
-            kind: _,
-            round: _,
-            tag: _,
-        } => true,
-        Wait::Borrowing { kind: _, tag: _ } => true,
-    }
+    !matches!(wait, Wait::Idle)
 }
 
 // Whether fewer than five request numbers are left (refusal 6).
 pub fn is_full(c: Node) -> bool
     ensures { result ≡ full c }
 {
-    less(LIMIT, c.request) < 5
+    LIMIT.saturating_sub(c.request) < 5
 }
 
 // Whether a value with tag t is refused (9): it is below the last tag heard from its sender for its writer, or above
@@ -188,7 +130,7 @@ pub fn is_full(c: Node) -> bool
 pub fn is_stale_tag(heard: u64, last: u64, maxtag: u64, t: u64) -> bool
     ensures { result ≡ stale_tag heard last maxtag t }
 {
-    or(t < heard, and(last < t, maxtag < last))
+    t < heard || last < t && maxtag < last
 }
 
 // The same of a value of writer w from sender s, at a record.
@@ -196,9 +138,8 @@ pub fn is_stale(c: Node, s: usize, w: usize, t: u64) -> bool
     requires { (1 ≤ s) × (s ≤ nodes) × (1 ≤ w) × (w ≤ nodes) }
     ensures { result ≡ stale c s w t }
 {
-    let heard = c.heard;
     is_stale_tag(
-        heard[(s - 1) * NODES + (w - 1)],
+        c.heard[(s - 1) * NODES + (w - 1)],
         tag_of(c.last, w),
         c.maxtag,
         t,

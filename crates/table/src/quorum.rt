@@ -13,6 +13,7 @@ use view::NODES;
 const FAULTS: usize = (NODES - 1) / 2;
 
 // Whether node s is in the set m.
+#[tactic(auto, unfolding(crate::specs::Quorum::member))]
 pub fn is_member(m: u64, s: usize) -> bool
     requires { (1 ≤ s) × (s ≤ nodes) }
     ensures { result ≡ member m s }
@@ -21,6 +22,7 @@ pub fn is_member(m: u64, s: usize) -> bool
 }
 
 // The set m with node s.
+#[tactic(auto, using(crate::proofs::Sets::shifted), unfolding(crate::specs::Quorum::with))]
 pub fn with_member(m: u64, s: usize) -> u64
     requires { (1 ≤ s) × (s ≤ nodes) }
     ensures { result ≡ with m s }
@@ -29,6 +31,7 @@ pub fn with_member(m: u64, s: usize) -> u64
 }
 
 // Whether the set m has no node beyond n.
+#[tactic(auto, unfolding(crate::specs::Quorum::only))]
 pub fn is_only(n: usize, m: u64) -> bool
     requires { n ≤ nodes }
     ensures { result ≡ only n m }
