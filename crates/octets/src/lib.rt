@@ -39,13 +39,6 @@ pub fn number8(s: &[u8]) -> u64
     u64::from_be_bytes([s[0], s[1], s[2], s[3], s[4], s[5], s[6], s[7]])
 }
 
-// The two bytes of a number.
-pub fn digits2(x: u16) -> [u8; 2]
-    ensures { result ≡ be 2 x }
-{
-    [(x / 256) as u8, (x % 256) as u8]
-}
-
 // The eight bytes of a number.
 pub fn digits8(x: u64) -> [u8; 8]
     ensures { result ≡ be 8 x }
@@ -58,8 +51,7 @@ pub fn put_bytes(b: &mut [u8], at: usize, s: &[u8])
     requires { at + length s.now ≤ length b.old }
     ensures { b.new ≡ put b.old at s.now }
 {
-    let end = at + s.len();
-    b[at..end].copy_from_slice(s);
+    b[at..at + s.len()].copy_from_slice(s);
 }
 
 // Makes every byte of b an x.
@@ -70,12 +62,12 @@ pub fn fill(b: &mut [u8], x: u8)
 }
 
 // The word at a place.
+#[tactic(auto, unfolding(crate::specs::Bytes::part))]
 pub fn get_word(b: &[u8], at: usize) -> u64
     requires { at + word_size ≤ length b.now }
     ensures { result ≡ word b.now at }
 {
-    let end = at + WORD;
-    number8(&b[at..end])
+    number8(&b[at..at + WORD])
 }
 
 // Writes a word at a place.
@@ -83,8 +75,7 @@ pub fn put_word(b: &mut [u8], at: usize, x: u64)
     requires { at + word_size ≤ length b.old }
     ensures { b.new ≡ put b.old at (be word_size x) }
 {
-    let d = digits8(x);
-    put_bytes(b, at, &d);
+    put_bytes(b, at, &digits8(x));
 }
 
 // Writes the bytes of s, a word or more, into b from a place on: word by word, the last of them up to its end.
@@ -107,10 +98,9 @@ pub fn put_halves(b: &mut [u8], at: usize, s: &[u8])
     requires { at + length s.now ≤ length b.old }
     ensures { b.new ≡ put b.old at s.now }
 {
-    let end = s.len();
-    let half = end / 2;
-    put_bytes(b, at, &s[0..half]);
-    put_bytes(b, at + half, &s[half..end]);
+    let (first, second) = s.split_at(s.len() / 2);
+    put_bytes(b, at, first);
+    put_bytes(b, at + first.len(), second);
 }
 
 // Copies bytes, a word or more, from one place of b to another, which is the same or apart from it.

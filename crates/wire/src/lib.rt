@@ -8,7 +8,6 @@ ghost use Rattle.view.specs.Size.{is_size, nodes};
 ghost use Rattle.wire.specs.Layout.{is_request, is_tag, allowed};
 ghost use Rattle.wire.specs.declared.Message.TheVariants.{Good};
 
-use octets::and;
 use view::{ENTRY, LIMIT, NODES, REPORT, Report, TAG, VIEW};
 
 // The bytes of a field's head, and of a request number or a tag.
@@ -102,7 +101,7 @@ pub enum Written {
 pub fn is_size(n: usize) -> bool
     ensures { result ≡ is_size n }
 {
-    and(1 <= n, n <= NODES)
+    1 <= n && n <= NODES
 }
 
 // Whether the layout allows the numbers of a message: of one with a request, of one with a request and a tag, of a
@@ -110,28 +109,25 @@ pub fn is_size(n: usize) -> bool
 pub fn is_request(x: u64) -> bool
     ensures { result ≡ is_request x }
 {
-    and(1 <= x, x <= LIMIT)
+    1 <= x && x <= LIMIT
 }
 
 pub fn is_pair(request: u64, tag: u64) -> bool
     ensures { result ≡ both (is_request request) (is_tag tag) }
 {
-    and(is_request(request), tag <= LIMIT)
+    is_request(request) && tag <= LIMIT
 }
 
 pub fn is_sent(n: usize, tag: u64, writer: usize) -> bool
     ensures { result ≡ both (is_request tag) (both (leb 1 writer) (leb writer n)) }
 {
-    and(is_request(tag), and(1 <= writer, writer <= n))
+    is_request(tag) && 1 <= writer && writer <= n
 }
 
+#[tactic(auto, unfolding(crate::specs::Layout::allowed))]
 pub fn is_held(n: usize, tag: u64, view: &[u8]) -> bool
     requires { n ≤ nodes }
     ensures { result ≡ allowed n (Good tag) view.now }
 {
-    if view.len() == ENTRY * n {
-        and(tag <= LIMIT, view::view_ok(n, tag, view))
-    } else {
-        false
-    }
+    view.len() == ENTRY * n && tag <= LIMIT && view::view_ok(n, tag, view)
 }

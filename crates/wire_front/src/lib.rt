@@ -1,16 +1,17 @@
 // The message at the front of bytes: the reader's tests of the layout.
 #![tactic(auto)]
 
-ghost use Rattle.std.specs.Prelude.{◌≡◌, ◌+◌, ◌≤◌, length, get_or};
+ghost use Rattle.std.specs.Prelude.{◌≡◌, ◌+◌, ◌≤◌, length, get_or, leb, Some, None, []};
 ghost use Rattle.octets.specs.Answer.{returned, refused};
 ghost use Rattle.octets.specs.Test.{pick, both};
-ghost use Rattle.view.specs.Size.{nodes, report_size};
-ghost use Rattle.wire.specs.Layout.{allowed, message_size, head_size, number_size, first_at, second_at, third_at, good_head};
-ghost use Rattle.wire.specs.Codec.{said, view_at};
-ghost use Rattle.wire.specs.Shape.{head_at, two_heads, value_heads, good_heads, shape_as, shape};
+ghost use Rattle.octets.specs.Word.{word};
+ghost use Rattle.view.specs.Size.{nodes, report_size, view_size};
+ghost use Rattle.wire.specs.Layout.{allowed, is_request, is_tag, message_size};
+ghost use Rattle.wire.specs.Layout.{head_size, number_size, first_head, first_at, second_at, third_at, good_head};
+ghost use Rattle.wire.specs.Codec.{said, said_as, view_at};
+ghost use Rattle.wire.specs.Shape.{head_at, two_heads, two_shape, value_heads, good_heads, shape_as, shape};
 ghost use Rattle.wire.specs.Outcome.{found};
 
-use octets::and;
 use view::{ENTRY, REPORT};
 use wire::{
     ECHO, FIRST, FIRST_HEAD, Found, GOOD_HEAD, Message, NUMBER, READ, READ_ANSWER, SECOND,
@@ -28,180 +29,151 @@ fn has_head(b: &[u8], at: usize, mark: u8, size: u16) -> bool
     requires { at + head_size ≤ length b.now }
     ensures { result ≡ head_at b.now at mark size }
 {
-    let d = octets::digits2(size);
-    and(b[at] == mark, and(b[at + 1] == d[0], b[at + 2] == d[1]))
+    b[at] == mark && u16::from_be_bytes([b[at + 1], b[at + 2]]) == size
 }
 
+#[tactic(auto, unfolding(wire::specs::Shape::two_heads))]
 fn has_two(b: &[u8]) -> bool
     requires { second_at + number_size ≤ length b.now }
     ensures { result ≡ two_heads b.now }
 {
-    and(
-        has_head(b, FIRST_HEAD, 2, NUMBER_LENGTH),
-        has_head(b, SECOND_HEAD, 3, NUMBER_LENGTH),
-    )
+    has_head(b, FIRST_HEAD, 2, NUMBER_LENGTH) && has_head(b, SECOND_HEAD, 3, NUMBER_LENGTH)
 }
 
+#[tactic(auto, unfolding(wire::specs::Shape::value_heads))]
 fn has_value(b: &[u8]) -> bool
     requires { third_at + report_size ≤ length b.now }
     ensures { result ≡ value_heads b.now }
 {
-    and(
-        has_head(b, FIRST_HEAD, 3, NUMBER_LENGTH),
-        and(
-            has_head(b, SECOND_HEAD, 4, 1),
-            has_head(b, THIRD_HEAD, 5, REPORT_LENGTH),
-        ),
-    )
+    has_head(b, FIRST_HEAD, 3, NUMBER_LENGTH)
+        && has_head(b, SECOND_HEAD, 4, 1)
+        && has_head(b, THIRD_HEAD, 5, REPORT_LENGTH)
 }
 
+#[tactic(auto, unfolding(wire::specs::Shape::good_heads))]
 fn has_good(n: usize, b: &[u8]) -> bool
     requires { (n ≤ nodes) × (good_head ≤ length b.now) }
     ensures { result ≡ good_heads n b.now }
 {
-    and(
-        has_head(b, FIRST_HEAD, 3, NUMBER_LENGTH),
-        has_head(b, SECOND_HEAD, 6, (ENTRY * n) as u16),
-    )
+    has_head(b, FIRST_HEAD, 3, NUMBER_LENGTH) && has_head(b, SECOND_HEAD, 6, (ENTRY * n) as u16)
+}
+
+// The number of a message that has one, after its mark.
+fn one_number(b: &[u8], mark: u8) -> Option<u64>
+    requires { first_at + number_size ≤ length b.now }
+    ensures { result ≡ pick (both (head_at b.now first_head mark number_size) (is_request (word b.now first_at)))
+        (Some (word b.now first_at)) None }
+{
+    let x = octets::get_word(b, FIRST);
+    if has_head(b, FIRST_HEAD, mark, NUMBER_LENGTH) && is_request(x) {
+        Some(x)
+    } else {
+        None
+    }
+}
+
+// The request and the tag of a message that has both.
+fn two_numbers(b: &[u8]) -> Option<(u64, u64)>
+    requires { first_at + number_size ≤ length b.now }
+    ensures { result ≡ pick (both (two_shape b.now)
+        (both (is_request (word b.now first_at)) (is_tag (word b.now second_at))))
+        (Some (word b.now first_at, word b.now second_at)) None }
+{
+    if b.len() < SECOND + NUMBER {
+        return None;
+    }
+    let request = octets::get_word(b, FIRST);
+    let tag = octets::get_word(b, SECOND);
+    if has_two(b) && is_pair(request, tag) {
+        Some((request, tag))
+    } else {
+        None
+    }
+}
+
+// A value's message.
+#[tactic(auto, unfolding(wire::specs::Layout::allowed, octets::specs::Bytes::part))]
+fn value(n: usize, b: &[u8]) -> Option<Message>
+    requires { first_at + number_size ≤ length b.now }
+    ensures { result ≡ pick (both (both (leb (third_at + report_size) (length b.now)) (value_heads b.now))
+        (allowed n (said_as 6 b.now) [])) (Some (said_as 6 b.now)) None }
+{
+    if b.len() < VALUE {
+        return None;
+    }
+    let tag = octets::get_word(b, FIRST);
+    let writer = usize::from(b[SECOND]);
+    if has_value(b) && is_sent(n, tag, writer) {
+        let report = view::read_report(&b[THIRD..VALUE]);
+        Some(Message::Value {
+            tag,
+            writer,
+            report,
+        })
+    } else {
+        None
+    }
+}
+
+// A good message, if its view may stand beside it.
+#[tactic(auto, unfolding(wire::specs::Layout::allowed, octets::specs::Bytes::part))]
+fn good(n: usize, b: &[u8]) -> Option<Message>
+    requires { (n ≤ nodes) × (first_at + number_size ≤ length b.now) }
+    ensures { result ≡ pick (both (both (leb (good_head + view_size n) (length b.now)) (good_heads n b.now))
+        (allowed n (said_as 7 b.now) (view_at n b.now))) (Some (said_as 7 b.now)) None }
+{
+    let end = GOOD_HEAD + ENTRY * n;
+    if b.len() < end {
+        return None;
+    }
+    let tag = octets::get_word(b, FIRST);
+    if has_good(n, b) && is_held(n, tag, &b[GOOD_HEAD..end]) {
+        Some(Message::Good { tag })
+    } else {
+        None
+    }
 }
 
 // The message of the kind that byte 3 says and its length, if the fields of that kind stand in b. Numbers are judged
 // before the message is made of them, so that it is written once.
-fn of_kind(n: usize, b: &[u8]) -> Found
+#[tactic(auto, unfolding(wire::specs::Shape::shape_as, wire::specs::Codec::said, wire::specs::Layout::allowed, wire::specs::Layout::message_size))]
+fn of_kind(n: usize, b: &[u8]) -> Option<(Message, usize)>
     requires { (n ≤ nodes) × (first_at + number_size ≤ length b.now) }
-    ensures { found result ≡ pick (both (shape_as (get_or b.now 3 0) n b.now)
+    ensures { result ≡ pick (both (shape_as (get_or b.now 3 0) n b.now)
         (allowed n (said b.now) (view_at n b.now)))
-        (returned (said b.now, message_size n (said b.now))) (refused 7) }
+        (Some (said b.now, message_size n (said b.now))) None }
 {
-    let kind = b[3];
-    match kind {
-        1 => {
-            let request = octets::get_word(b, FIRST);
-            if and(
-                has_head(b, FIRST_HEAD, 2, NUMBER_LENGTH),
-                is_request(request),
-            ) {
-                Found::At(Message::Read { request: request }, READ)
-            } else {
-                Found::Refused(7)
-            }
-        }
-        2 => {
-            if READ_ANSWER <= b.len() {
-                let request = octets::get_word(b, FIRST);
-                let tag = octets::get_word(b, SECOND);
-                if and(has_two(b), is_pair(request, tag)) {
-                    Found::At(
-                        Message::ReadAnswer {
-                            request: request,
-                            tag: tag,
-                        },
-                        READ_ANSWER,
-                    )
-                } else {
-                    Found::Refused(7)
-                }
-            } else {
-                Found::Refused(7)
-            }
-        }
-        3 => {
-            if WRITE <= b.len() {
-                let request = octets::get_word(b, FIRST);
-                let tag = octets::get_word(b, SECOND);
-                if and(has_two(b), is_pair(request, tag)) {
-                    Found::At(
-                        Message::Write {
-                            request: request,
-                            tag: tag,
-                        },
-                        WRITE,
-                    )
-                } else {
-                    Found::Refused(7)
-                }
-            } else {
-                Found::Refused(7)
-            }
-        }
-        4 => {
-            if WRITE_ANSWER <= b.len() {
-                let request = octets::get_word(b, FIRST);
-                let tag = octets::get_word(b, SECOND);
-                if and(has_two(b), is_pair(request, tag)) {
-                    Found::At(
-                        Message::WriteAnswer {
-                            request: request,
-                            tag: tag,
-                        },
-                        WRITE_ANSWER,
-                    )
-                } else {
-                    Found::Refused(7)
-                }
-            } else {
-                Found::Refused(7)
-            }
-        }
-        5 => {
-            let tag = octets::get_word(b, FIRST);
-            if and(has_head(b, FIRST_HEAD, 3, NUMBER_LENGTH), is_request(tag)) {
-                Found::At(Message::Echo { tag: tag }, ECHO)
-            } else {
-                Found::Refused(7)
-            }
-        }
-        6 => {
-            if VALUE <= b.len() {
-                let tag = octets::get_word(b, FIRST);
-                let writer = b[SECOND] as usize;
-                if and(has_value(b), is_sent(n, tag, writer)) {
-                    Found::At(
-                        Message::Value {
-                            tag: tag,
-                            writer: writer,
-                            report: view::read_report(&b[THIRD..VALUE]),
-                        },
-                        VALUE,
-                    )
-                } else {
-                    Found::Refused(7)
-                }
-            } else {
-                Found::Refused(7)
-            }
-        }
-        7 => {
-            let end = GOOD_HEAD + ENTRY * n;
-            if end <= b.len() {
-                let tag = octets::get_word(b, FIRST);
-                if and(has_good(n, b), is_held(n, tag, &b[GOOD_HEAD..end])) {
-                    Found::At(Message::Good { tag: tag }, end)
-                } else {
-                    Found::Refused(7)
-                }
-            } else {
-                Found::Refused(7)
-            }
-        }
-        _ => Found::Refused(7),
+    match b[3] {
+        1 => one_number(b, 2).map(|request| (Message::Read { request }, READ)),
+        2 => two_numbers(b).map(|(request, tag)| (
+            Message::ReadAnswer { request, tag },
+            READ_ANSWER,
+        )),
+        3 => two_numbers(b).map(|(request, tag)| (Message::Write { request, tag }, WRITE)),
+        4 => two_numbers(b).map(|(request, tag)| (
+            Message::WriteAnswer { request, tag },
+            WRITE_ANSWER,
+        )),
+        5 => one_number(b, 3).map(|tag| (Message::Echo { tag }, ECHO)),
+        6 => value(n, b).map(|m| (m, VALUE)),
+        7 => good(n, b).map(|m| (m, GOOD_HEAD + ENTRY * n)),
+        _ => None,
     }
 }
 
 // The message at the front of b and its length.
+#[tactic(auto, unfolding(wire::specs::Shape::shape))]
 pub fn at_front(n: usize, b: &[u8]) -> Found
     requires { n ≤ nodes }
     ensures { found result ≡ pick (both (shape n b.now)
         (allowed n (said b.now) (view_at n b.now)))
         (returned (said b.now, message_size n (said b.now))) (refused 7) }
 {
-    if READ <= b.len() {
-        if has_head(b, 0, 1, 1) {
-            of_kind(n, b)
-        } else {
-            Found::Refused(7)
-        }
-    } else {
-        Found::Refused(7)
+    if b.len() < READ || !has_head(b, 0, 1, 1) {
+        return Found::Refused(7);
+    }
+    match of_kind(n, b) {
+        Some((m, end)) => Found::At(m, end),
+        None => Found::Refused(7),
     }
 }
