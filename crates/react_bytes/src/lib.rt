@@ -18,7 +18,7 @@ use decide::{read_wait, round_holds, sent_where, write_sent, write_wait};
 use octets::{WORD, get_word, put_bytes, put_word};
 use record::Wait;
 use record::usable::is_stale_tag;
-use region::head::{head_of, load_wait, save_head, save_wait, with_kept, with_maxtag};
+use region::head::{Head, head_of, load_wait, save_head, save_wait};
 use region::places::{
     ATMAX_IN, ATMAX_PLACE, ATROUND_IN, HEARD_PLACE, KEPT_IN, KEPT_PLACE, LAST_IN, MAXTAG_PLACE,
     REQUEST_PLACE,
@@ -47,7 +47,7 @@ fn raised_in(r: &mut [u8], t: u64) -> bool
     if grows {
         let h = head_of(r);
         put_bytes(r, ATMAX_PLACE, &newest_in(r, t));
-        save_head(r, with_maxtag(h, t));
+        save_head(r, Head { maxtag: t, ..h });
     } else {
         waiting_in(r, load_wait(r));
     }
@@ -88,7 +88,7 @@ fn kept_in(r: &mut [u8], n: usize, t: u64, v: &[u8])
     if get_word(r, KEPT_PLACE) < t {
         let h = head_of(r);
         save_view(r, KEPT_IN, read_view(n, v));
-        save_head(r, with_kept(h, t));
+        save_head(r, Head { kept: t, ..h });
     } else {
         waiting_in(r, load_wait(r));
     }

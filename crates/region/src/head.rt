@@ -4,7 +4,7 @@ ghost use Rattle.octets.specs.Bytes.{put};
 ghost use Rattle.region.specs.Record.{record_size, n_place, code_place};
 ghost use Rattle.region.specs.Record.{kind_code, kind_of, operation_of, wait_of, wait_in};
 ghost use Rattle.region.specs.Record.{wait_words, wait_report, wait_bytes};
-ghost use Rattle.region.specs.Record.{head_of, head_bytes, with_maxtag, with_request, with_kept, with_wait};
+ghost use Rattle.region.specs.Record.{head_of, head_bytes};
 ghost use Rattle.region.specs.Record.{codes_known};
 
 use crate::places::{
@@ -25,31 +25,6 @@ pub struct Head {
     pub request: u64,
     pub kept: u64,
     pub wait: Wait,
-}
-
-// A head with another field.
-pub fn with_maxtag(h: Head, t: u64) -> Head
-    ensures { result ≡ with_maxtag h t }
-{
-    Head { maxtag: t, ..h }
-}
-
-pub fn with_request(h: Head, q: u64) -> Head
-    ensures { result ≡ with_request h q }
-{
-    Head { request: q, ..h }
-}
-
-pub fn with_kept(h: Head, t: u64) -> Head
-    ensures { result ≡ with_kept h t }
-{
-    Head { kept: t, ..h }
-}
-
-pub fn with_wait(h: Head, w: Wait) -> Head
-    ensures { result ≡ with_wait h w }
-{
-    Head { wait: w, ..h }
 }
 
 fn kind_of(code: u64) -> Kind

@@ -8,10 +8,9 @@ ghost use Rattle.table.specs.Quorum.{agreeing};
 ghost use Rattle.step.specs.Move.{agreement};
 ghost use Rattle.region.specs.Record.{record_size, record_of, heard_place, view_in, atround_in};
 
-use octets::{and, get_word};
+use octets::get_word;
 use react_bytes::tables::{heard_in, tag_in};
 use region::places::{ATROUND_IN, OWN_PLACE};
-use table::or;
 use table::quorum::is_quorum;
 
 // Whether sender s has sent, for each writer, the report held for the open round or a later one.
@@ -21,10 +20,8 @@ fn has_sent(r: &[u8], n: usize, s: usize) -> bool
         (heard_of (words cells r.now heard_place) s w)) }
 {
     let mut ok = true;
-    let mut w = 0;
-    while w < n {
-        w += 1;
-        ok = and(tag_in(r, ATROUND_IN, w) <= heard_in(r, s, w), ok);
+    for w in 0..n {
+        ok &= tag_in(r, ATROUND_IN, w + 1) <= heard_in(r, s, w + 1);
     }
     ok
 }
@@ -35,15 +32,7 @@ fn agreeing_in(r: &[u8], n: usize, own: usize) -> usize
     ensures { result
         ≡ agreeing n own (words cells r.now heard_place) (view_in r.now atround_in).tags }
 {
-    let mut k = 0;
-    let mut s = 0;
-    while s < n {
-        s += 1;
-        if or(s == own, has_sent(r, n, s)) {
-            k += 1;
-        }
-    }
-    k
+    (1..=n).filter(|&s| s == own || has_sent(r, n, s)).count()
 }
 
 // Whether a quorum does.

@@ -16,15 +16,14 @@ ghost use Rattle.region.specs.Record.{record_size, record_of, record_bytes};
 ghost use Rattle.step_bytes.specs.Moved.{IsStep, rested_of, after_agreement, followed, plan_tag, rests, Leads};
 
 use agree::agrees_in;
-use octets::{get_word, less};
+use octets::get_word;
 use react_bytes::waiting_in;
 use record::usable::has_open;
 use record::{Kind, Operation, Wait};
-use region::head::{head_of, load_wait, save_head, with_request, with_wait};
+use region::head::{Head, head_of, load_wait, save_head};
 use region::places::{KEPT_PLACE, MAXTAG_PLACE, REQUEST_PLACE};
 use rounds::{failed_in, good_in, lend_in, read_in, rested};
 use step::{Ending, Outbox, Sent};
-use table::larger;
 use table::quorum::{is_quorum, members};
 use view::{LIMIT, View};
 use wire::Message;
@@ -61,7 +60,7 @@ pub fn is_full_in(r: &[u8]) -> bool
     requires { length r.now ≡ record_size }
     ensures { result ≡ full (record_of r.now) }
 {
-    less(LIMIT, get_word(r, REQUEST_PLACE)) < 5
+    LIMIT.saturating_sub(get_word(r, REQUEST_PLACE)) < 5
 }
 
 // What an operation that is begun will send: a read with the next request number.
@@ -70,7 +69,7 @@ pub fn asked_in(r: &[u8]) -> Sent
     ensures { result ≡ One (Read ((record_of r.now).request + 1)) }
 {
     let request = get_word(r, REQUEST_PLACE) + 1;
-    Sent::One(Message::Read { request: request })
+    Sent::One(Message::Read { request })
 }
 
 // An operation is begun: its read goes out, with the next request number. That is what is sent.
@@ -86,8 +85,8 @@ pub fn ask_in(r: &mut [u8], o: Operation) -> Sent
         answered: 0,
         largest: 0,
     };
-    save_head(r, with_wait(with_request(h, request), wait));
-    Sent::One(Message::Read { request: request })
+    save_head(r, Head { request, wait, ..h });
+    Sent::One(Message::Read { request })
 }
 
 // What comes next. The wait says which pass is the first to try; what a pass leads to, only a later one takes up.
@@ -97,58 +96,31 @@ pub fn plan_in(r: &[u8], n: usize, f: usize) -> Plan
     ensures { Leads f result (record_of r.now) }
 {
     match load_wait(r) {
-        Wait::Idle => Plan::Rest,
         Wait::Reading {
             operation,
             answered,
             largest,
-        } => {
-            if is_quorum(n, f, members(n, answered)) {
-                return Plan::Read {
-                    operation: operation,
-                    tag: larger(largest, get_word(r, MAXTAG_PLACE)),
-                };
-            }
-            Plan::Rest
-        }
+        } if is_quorum(n, f, members(n, answered)) => Plan::Read {
+            operation,
+            tag: largest.max(get_word(r, MAXTAG_PLACE)),
+        },
         Wait::Writing {
             kind,
             round,
             tag,
             answered,
-        } => {
-            if is_quorum(n, f, members(n, answered)) {
-                if agrees_in(r, n, f) {
-                    return Plan::Agree {
-                        kind: kind,
-                        round: round,
-                        tag: tag,
-                    };
-                }
-                return Plan::Compare {
-                    kind: kind,
-                    round: round,
-                    tag: tag,
-                };
-            }
-            Plan::Rest
-        }
-        Wait::Comparing { kind, round, tag } => {
+        } if is_quorum(n, f, members(n, answered)) => {
             if agrees_in(r, n, f) {
-                return Plan::Agree {
-                    kind: kind,
-                    round: round,
-                    tag: tag,
-                };
+                Plan::Agree { kind, round, tag }
+            } else {
+                Plan::Compare { kind, round, tag }
             }
-            Plan::Rest
         }
-        Wait::Borrowing { kind, tag } => {
-            if tag <= get_word(r, KEPT_PLACE) {
-                return Plan::Borrow { kind: kind };
-            }
-            Plan::Rest
+        Wait::Comparing { kind, round, tag } if agrees_in(r, n, f) => {
+            Plan::Agree { kind, round, tag }
         }
+        Wait::Borrowing { kind, tag } if tag <= get_word(r, KEPT_PLACE) => Plan::Borrow { kind },
+        _ => Plan::Rest,
     }
 }
 
@@ -156,24 +128,7 @@ pub fn plan_in(r: &[u8], n: usize, f: usize) -> Plan
 pub fn is_rest(p: Plan) -> bool
     ensures { result ≡ rests p }
 {
-    match p {
-        Plan::Rest => true,
-        Plan::Read {
-            operation: _,
-            tag: _,
-        } => false,
-        Plan::Compare {
-            kind: _,
-            round: _,
-            tag: _,
-        } => false,
-        Plan::Agree {
-            kind: _,
-            round: _,
-            tag: _,
-        } => false,
-        Plan::Borrow { kind: _ } => false,
-    }
+    matches!(p, Plan::Rest)
 }
 
 // A quorum agrees on round i with tag t: the round is good, or it failed where `maxtag` is past its tag.
@@ -183,9 +138,10 @@ fn agreement_in(r: &mut [u8], n: usize, to: usize, sent: Sent, k: Kind, i: u64, 
     ensures { IsStep result r.new (after_agreement (started (record_of r.old) to sent) k i t) }
 {
     if get_word(r, MAXTAG_PLACE) <= t {
-        return good_in(r, n, to, sent, k, i, t);
+        good_in(r, n, to, sent, k, i, t)
+    } else {
+        failed_in(r, n, to, sent, k, i, t)
     }
-    failed_in(r, n, to, sent, k, i, t)
 }
 
 // A plan is followed, after `sent` went to node `to`.
@@ -198,14 +154,7 @@ pub fn follow_in(r: &mut [u8], n: usize, to: usize, sent: Sent, p: Plan) -> Effe
         Plan::Rest => rested(to, sent),
         Plan::Read { operation, tag } => read_in(r, to, sent, operation, tag),
         Plan::Compare { kind, round, tag } => {
-            waiting_in(
-                r,
-                Wait::Comparing {
-                    kind: kind,
-                    round: round,
-                    tag: tag,
-                },
-            );
+            waiting_in(r, Wait::Comparing { kind, round, tag });
             rested(to, sent)
         }
         Plan::Agree { kind, round, tag } => agreement_in(r, n, to, sent, kind, round, tag),

@@ -8,14 +8,14 @@ ghost use Rattle.step.specs.declared.Rule.TheVariants.{Borrowed};
 ghost use Rattle.step.specs.Step.{started, ended, ending_of};
 ghost use Rattle.step.specs.Move.{opened, next_tag, after_read, lent_view, after_good, after_failed, borrows};
 ghost use Rattle.region.specs.Record.{record_size, record_of, record_bytes};
-ghost use Rattle.step_bytes.specs.Moved.{IsStep, effect_of, rested_of};
+ghost use Rattle.step_bytes.specs.Moved.{IsStep, rested_of};
 
 use crate::Effect;
 use decide::{ending_of, next_tag};
-use octets::{fill, get_word, put_bytes};
+use octets::{get_word, put_bytes};
 use react_bytes::tables::newest_in;
 use record::{Kind, Operation, Wait};
-use region::head::{head_of, save_head, with_request, with_wait};
+use region::head::{Head, head_of, save_head};
 use region::places::{
     ATROUND_IN, ATROUND_PLACE, KEPT_IN, KEPT_PLACE, MAXTAG_PLACE, OWN_PLACE, REQUEST_PLACE,
 };
@@ -24,42 +24,13 @@ use step::{Ending, Outbox, Rule, Sent};
 use view::{LIMIT, VIEW, View, absent};
 use wire::Message;
 
-// Where the reports held for the open round end.
-const ATROUND_END: usize = ATROUND_PLACE + VIEW;
-
-// An effect: what was sent before, what follows a quorum of read answers, what follows agreement and with which view,
-// and the ending with its view.
-fn effect_of(
-    to: usize,
-    handler: Sent,
-    reading: Sent,
-    comparing: Sent,
-    good: View,
-    ending: Ending,
-    view: View,
-) -> Effect
-    ensures { result ≡ effect_of to handler reading comparing good ending view }
-{
-    Effect {
-        outbox: Outbox {
-            to: to,
-            handler: handler,
-            reading: reading,
-            comparing: comparing,
-            view: good,
-        },
-        ending: ending,
-        view: view,
-    }
-}
-
 // Nothing comes after what was sent. In a cluster this is what most steps give, and so it is made in its place.
 pub fn rested(to: usize, sent: Sent) -> Effect
     ensures { result ≡ rested_of to sent }
 {
     Effect {
         outbox: Outbox {
-            to: to,
+            to,
             handler: sent,
             reading: Sent::Nothing,
             comparing: Sent::Nothing,
@@ -83,9 +54,8 @@ fn open_in(r: &mut [u8], k: Kind, i: u64, t: u64)
         tag: t,
         answered: 0,
     };
-    let v = newest_in(r, t);
-    put_bytes(r, ATROUND_PLACE, &v);
-    save_head(r, with_wait(with_request(h, request), wait));
+    put_bytes(r, ATROUND_PLACE, &newest_in(r, t));
+    save_head(r, Head { request, wait, ..h });
 }
 
 // No round is open, and no report is held for one.
@@ -94,8 +64,8 @@ fn close_in(r: &mut [u8], w: Wait)
     ensures { r.new ≡ record_bytes (closed (record_of r.old) w) }
 {
     let h = head_of(r);
-    fill(&mut r[ATROUND_PLACE..ATROUND_END], 0);
-    save_head(r, with_wait(h, w));
+    r[ATROUND_PLACE..ATROUND_PLACE + VIEW].fill(0);
+    save_head(r, Head { wait: w, ..h });
 }
 
 // A quorum of read answers is there, and the tag used is t: an update sends its value and opens round 0, unless no tag
@@ -109,47 +79,39 @@ pub fn read_in(r: &mut [u8], to: usize, sent: Sent, o: Operation, t: u64) -> Eff
         request: get_word(r, REQUEST_PLACE) + 1,
         tag: t,
     };
+    let e = rested(to, sent);
     match o {
         Operation::Update(report) => {
             if t == LIMIT {
                 close_in(r, Wait::Idle);
-                return effect_of(
-                    to,
-                    sent,
-                    Sent::Nothing,
-                    Sent::Nothing,
-                    absent(),
-                    Ending::Spent,
-                    absent(),
-                );
+                return Effect {
+                    ending: Ending::Spent,
+                    ..e
+                };
             }
             let value = Message::Value {
                 tag: t + 1,
                 writer: get_word(r, OWN_PLACE) as usize,
-                report: report,
+                report,
             };
             open_in(r, Kind::Update, 0, t);
-            effect_of(
-                to,
-                sent,
-                Sent::Two(value, write),
-                Sent::Nothing,
-                absent(),
-                Ending::None,
-                absent(),
-            )
+            Effect {
+                outbox: Outbox {
+                    reading: Sent::Two(value, write),
+                    ..e.outbox
+                },
+                ..e
+            }
         }
         Operation::Scan => {
             open_in(r, Kind::Scan, 1, t);
-            effect_of(
-                to,
-                sent,
-                Sent::One(write),
-                Sent::Nothing,
-                absent(),
-                Ending::None,
-                absent(),
-            )
+            Effect {
+                outbox: Outbox {
+                    reading: Sent::One(write),
+                    ..e.outbox
+                },
+                ..e
+            }
         }
     }
 }
@@ -169,6 +131,7 @@ pub fn good_in(r: &mut [u8], n: usize, to: usize, sent: Sent, k: Kind, i: u64, t
     ensures { IsStep result r.new
         (after_good (started (record_of r.old) to sent) (record_of r.old) k i t) }
 {
+    let e = rested(to, sent);
     let held = load_view(r, ATROUND_IN, n);
     let good = Message::Good { tag: t };
     if i == 0 {
@@ -178,26 +141,25 @@ pub fn good_in(r: &mut [u8], n: usize, to: usize, sent: Sent, k: Kind, i: u64, t
             tag: next,
         };
         open_in(r, k, 1, next);
-        return effect_of(
-            to,
-            sent,
-            Sent::Nothing,
-            Sent::Two(good, write),
-            held,
-            Ending::None,
-            absent(),
-        );
+        return Effect {
+            outbox: Outbox {
+                comparing: Sent::Two(good, write),
+                view: held,
+                ..e.outbox
+            },
+            ..e
+        };
     }
     close_in(r, Wait::Idle);
-    effect_of(
-        to,
-        sent,
-        Sent::Nothing,
-        Sent::One(good),
-        held,
-        ending_of(k, Rule::Direct(i)),
-        held,
-    )
+    Effect {
+        outbox: Outbox {
+            comparing: Sent::One(good),
+            view: held,
+            ..e.outbox
+        },
+        ending: ending_of(k, Rule::Direct(i)),
+        view: held,
+    }
 }
 
 // The operation ends with the view of the good message kept.
@@ -207,17 +169,13 @@ pub fn lend_in(r: &mut [u8], n: usize, to: usize, sent: Sent, k: Kind) -> Effect
         (ended (started (record_of r.old) to sent) (closed (record_of r.old) Idle)
         (ending_of k Borrowed) (lent_view (record_of r.old))) }
 {
-    let v = load_view(r, KEPT_IN, n);
+    let view = load_view(r, KEPT_IN, n);
     close_in(r, Wait::Idle);
-    effect_of(
-        to,
-        sent,
-        Sent::Nothing,
-        Sent::Nothing,
-        absent(),
-        ending_of(k, Rule::Borrowed),
-        v,
-    )
+    Effect {
+        ending: ending_of(k, Rule::Borrowed),
+        view,
+        ..rested(to, sent)
+    }
 }
 
 // A failed round: the next one opens; after the third the operation borrows, now if it can.
@@ -234,15 +192,14 @@ pub fn failed_in(r: &mut [u8], n: usize, to: usize, sent: Sent, k: Kind, i: u64,
             tag: next,
         };
         open_in(r, k, i + 1, next);
-        return effect_of(
-            to,
-            sent,
-            Sent::Nothing,
-            Sent::One(write),
-            absent(),
-            Ending::None,
-            absent(),
-        );
+        let e = rested(to, sent);
+        return Effect {
+            outbox: Outbox {
+                comparing: Sent::One(write),
+                ..e.outbox
+            },
+            ..e
+        };
     }
     if t <= get_word(r, KEPT_PLACE) {
         return lend_in(r, n, to, sent, k);

@@ -27,7 +27,7 @@ returns-then-get_word-t c =
     sym (ap (λ (x : ℕ). ltb x a.t) c.get_word.ensures) ∙ lt-ltb _ _ c.if-get_word-t.true in
     c.save_head.ensures ∙ ap₂ (λ (x : List ℕ) (h : Head). put x n_place (head_bytes h))
     (c.save_view.ensures ∙ ap (λ (v : View). put r (view_place kept_in) (view_bytes nodes v)) c.read_view.ensures)
-    (c.with_kept.ensures ∙ ap (λ (h : Head). with_kept h a.t) head)
+    (ap (λ (h : Head). with_kept h a.t) head)
     ∙ kept-bytes r (λ i. (c.slice_known-1.given i).fits) c.requires.0 a.t (view_of a.n a.v.now) true e
 
 pub returns-else-get_word-t : goal.returns-else-get_word-t

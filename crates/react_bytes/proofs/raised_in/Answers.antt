@@ -26,7 +26,7 @@ returns-then-grows c =
       ap (λ (x : ℕ). ltb x a.t) c.get_word.ensures,
       c.save_head.ensures ∙ ap₂ (λ (x : List ℕ) (h : Head). put x n_place (head_bytes h))
           (c.put_bytes.ensures ∙ ap (put r (view_place atmax_in)) c.newest_in.ensures)
-          (c.with_maxtag.ensures ∙ ap (λ (h : Head). with_maxtag h a.t) head)
+          (ap (λ (h : Head). with_maxtag h a.t) head)
           ∙ raised-bytes r (λ i. (c.slice_known-1.given i).fits) c.requires a.t true e,
     )
 

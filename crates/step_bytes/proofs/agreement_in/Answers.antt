@@ -16,8 +16,8 @@ returns-then-get_word-t c =
     as_step (agreed-good (started (record_of r) a.to a.sent) a.k a.i a.t h)
     c.good_in.ensures
 
-pub returns : goal.returns
-returns c =
+pub returns-else-get_word-t : goal.returns-else-get_word-t
+returns-else-get_word-t c =
     let a = c.args in
     let r = a.r.now in
     let h = ap (λ (t : ℕ). leb t a.t) (sym (c.get_word.ensures ∙ maxtag-of r)) ∙ lt-leb _ _ c.if-get_word-t.false in

@@ -4,4 +4,4 @@ use Rattle.step_bytes.proofs.is_full_in.Goals as goal
 
 pub returns : goal.returns
 unfolding record_of
-returns c = simp (c.less.ensures, c.get_word.ensures)
+returns c = simp (c.saturating_sub.ensures, c.get_word.ensures)

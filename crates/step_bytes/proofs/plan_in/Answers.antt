@@ -13,8 +13,8 @@ use Rattle.step_bytes.proofs.Cases.{read-on, write-agrees, write-compares, compa
 use Rattle.step_bytes.proofs.Cases.{writing-most, wait-of, maxtag-of, kept_of, answered-of}
 use Rattle.step_bytes.proofs.plan_in.Goals as goal
 
-pub returns-then-is_quorum : goal.returns-then-is_quorum
-returns-then-is_quorum c =
+pub returns-in-Reading : goal.returns-in-Reading
+returns-in-Reading c =
     let a = c.args in
     let r = a.r.now in
     let h = c.requires in
@@ -22,7 +22,7 @@ returns-then-is_quorum c =
     let l : a.f < (record_of r).n = rw h.1 h.3 in
     let w = sym (c.load_wait.ensures ∙ wait-of r) ∙ c.in-Reading.is in
     let q = answered-of r a.f h.1 c.is_quorum.ensures c.in-Reading.answered c.members.ensures in
-    let t = c.larger.ensures ∙ ap (max c.in-Reading.largest) (c.get_word.ensures ∙ maxtag-of r) in (
+    let t = c.max.ensures ∙ ap (max c.in-Reading.largest) (c.get_word.ensures ∙ maxtag-of r) in (
       λ to sent. read-on a.f (started (record_of r) to sent) l w (sym q ∙ c.if-is_quorum.true) t,
       rw t (max-most _ _ _ (reading-most (record_of r) p w) p.max-high),
     )
@@ -31,79 +31,76 @@ pub returns-then-agrees_in : goal.returns-then-agrees_in
 returns-then-agrees_in c =
     let a = c.args in
     let r = a.r.now in
-    let h = c.requires in
     let w = sym (c.load_wait.ensures ∙ wait-of r) ∙ c.in-Writing.is in
-    let q = answered-of r a.f h.1 c.is_quorum-in-Writing.ensures c.in-Writing.answered c.members-in-Writing.ensures in (
-      λ to sent. write-agrees a.f (started (record_of r) to sent) _ _ _ w (sym q ∙ c.if-is_quorum-2.true)
-          (sym c.agrees_in.ensures ∙ c.if-agrees_in.true),
-      writing-most (record_of r) (parts (record_of r) h.4) w,
+    let q = answered-of r a.f c.requires.1 c.if-is_quorum-2.ensures c.in-Writing.answered
+    c.members-in-Writing-1.ensures in (
+      λ to sent. write-agrees a.f (started (record_of r) to sent) _ _ _ w (sym q) (sym c.if-agrees_in.ensures),
+      writing-most (record_of r) (parts (record_of r) c.requires.4) w,
     )
 
-pub returns-then-is_quorum-2 : goal.returns-then-is_quorum-2
-returns-then-is_quorum-2 c =
+pub returns-else-agrees_in : goal.returns-else-agrees_in
+returns-else-agrees_in c =
     let a = c.args in
     let r = a.r.now in
-    let h = c.requires in
     let w = sym (c.load_wait.ensures ∙ wait-of r) ∙ c.in-Writing.is in
-    let q = answered-of r a.f h.1 c.is_quorum-in-Writing.ensures c.in-Writing.answered c.members-in-Writing.ensures in (
-      λ to sent. write-compares a.f (started (record_of r) to sent) _ _ _ w (sym q ∙ c.if-is_quorum-2.true)
-          (sym c.agrees_in.ensures ∙ c.if-agrees_in.false),
-      writing-most (record_of r) (parts (record_of r) h.4) w,
+    let q = answered-of r a.f c.requires.1 c.if-is_quorum-2.ensures c.in-Writing.answered
+    c.members-in-Writing-1.ensures in (
+      λ to sent. write-compares a.f (started (record_of r) to sent) _ _ _ w (sym q) (sym c.if-agrees_in.ensures),
+      writing-most (record_of r) (parts (record_of r) c.requires.4) w,
     )
 
-pub returns-then-agrees_in-2 : goal.returns-then-agrees_in-2
-returns-then-agrees_in-2 c =
+pub returns-in-Comparing : goal.returns-in-Comparing
+returns-in-Comparing c =
     let a = c.args in
     let r = a.r.now in
     let w = sym (c.load_wait.ensures ∙ wait-of r) ∙ c.in-Comparing.is in (
-      λ to sent. compare-agrees a.f (started (record_of r) to sent) _ _ _ w
-          (sym c.agrees_in-in-Comparing.ensures ∙ c.if-agrees_in-2.true),
+      λ to sent. compare-agrees a.f (started (record_of r) to sent) _ _ _ w (sym c.if-agrees_in-2.ensures),
       (comparing-most (record_of r) (parts (record_of r) c.requires.4) w).tag,
     )
 
-pub returns-then-tag-get_word : goal.returns-then-tag-get_word
-returns-then-tag-get_word c =
+pub returns-in-Borrowing : goal.returns-in-Borrowing
+returns-in-Borrowing c =
     let a = c.args in
     let r = a.r.now in
     let w = sym (c.load_wait.ensures ∙ wait-of r) ∙ c.in-Borrowing.is in
-    let k = c.get_word-in-Borrowing.ensures ∙ kept_of r in
+    let k = c.get_word-in-Borrowing-1.ensures ∙ kept_of r in
     let y = ap (leb c.in-Borrowing.tag) (sym k) ∙ le-leb _ _ c.if-tag-get_word.true in
     (λ to sent. borrow-on a.f (started (record_of r) to sent) w y, omega arith)
 
-pub returns-in-Idle : goal.returns-in-Idle
-returns-in-Idle c =
-    let r = c.args.r.now in
-    must-rest c.args.f (record_of r) (sym (c.load_wait.ensures ∙ wait-of r) ∙
-    c.in-Idle.is) tt
-
-pub returns-else-is_quorum : goal.returns-else-is_quorum
-returns-else-is_quorum c =
+pub returns-in_default : goal.returns-in_default
+returns-in_default c =
     let a = c.args in
     let r = a.r.now in
     let w = sym (c.load_wait.ensures ∙ wait-of r) ∙ c.in-Reading.is in
-    let q = answered-of r a.f c.requires.1 c.is_quorum.ensures c.in-Reading.answered
-    c.members.ensures in
-    must-rest a.f (record_of r) w (sym q ∙ c.if-is_quorum.false)
+    let q = answered-of r a.f c.requires.1 c.if-is_quorum.ensures c.in-Reading.answered c.members.ensures in
+    must-rest a.f (record_of r) w (sym q)
 
-pub returns-else-is_quorum-2 : goal.returns-else-is_quorum-2
-returns-else-is_quorum-2 c =
+pub returns-in_default-2 : goal.returns-in_default-2
+returns-in_default-2 c =
     let a = c.args in
     let r = a.r.now in
     let w = sym (c.load_wait.ensures ∙ wait-of r) ∙ c.in-Writing.is in
-    let q = answered-of r a.f c.requires.1 c.is_quorum-in-Writing.ensures c.in-Writing.answered
-    c.members-in-Writing.ensures in
-    must-rest a.f (record_of r) w (sym q ∙ c.if-is_quorum-2.false)
+    let q = answered-of r a.f c.requires.1 c.if-is_quorum-2.ensures c.in-Writing.answered
+    c.members-in-Writing-1.ensures in
+    must-rest a.f (record_of r) w (sym q)
 
-pub returns-else-agrees_in-2 : goal.returns-else-agrees_in-2
-returns-else-agrees_in-2 c =
-    let r = c.args.r.now in
+pub returns-in_default-3 : goal.returns-in_default-3
+returns-in_default-3 c =
+    let a = c.args in
+    let r = a.r.now in
     let w = sym (c.load_wait.ensures ∙ wait-of r) ∙ c.in-Comparing.is in
-    must-rest c.args.f (record_of r) w (sym c.agrees_in-in-Comparing.ensures ∙ c.if-agrees_in-2.false)
+    must-rest a.f (record_of r) w (sym c.if-agrees_in-2.ensures)
 
-pub returns-else-tag-get_word : goal.returns-else-tag-get_word
-returns-else-tag-get_word c =
+pub returns-in_default-4 : goal.returns-in_default-4
+returns-in_default-4 c =
     let a = c.args in
     let r = a.r.now in
     let w = sym (c.load_wait.ensures ∙ wait-of r) ∙ c.in-Borrowing.is in
-    let k = c.get_word-in-Borrowing.ensures ∙ kept_of r in
+    let k = c.get_word-in-Borrowing-1.ensures ∙ kept_of r in
     must-rest a.f (record_of r) w (ap (leb c.in-Borrowing.tag) (sym k) ∙ lt-leb _ _ c.if-tag-get_word.false)
+
+pub returns-in_default-5 : goal.returns-in_default-5
+returns-in_default-5 c =
+    let a = c.args in
+    let r = a.r.now in
+    must-rest a.f (record_of r) (sym (c.load_wait.ensures ∙ wait-of r) ∙ c.in_default.is) tt

@@ -1,6 +1,6 @@
 -- `step_bytes::agree::has_sent` meets its contract.
 use mathlib.Core.Path.{◌≡◌}
-use Prim.Native.Nat.{ℕ, ◌-◌, ◌≤◌}
+use Prim.Native.Nat.{ℕ}
 use lib.Dec.{leb}
 use Rattle.octets.specs.Word.{words}
 use Rattle.table.specs.Loop.{all}
@@ -10,8 +10,4 @@ use Rattle.step_bytes.proofs.agree.has_sent.Given as goal
 
 abbrev pub invariant-loop-w : goal.invariant-loop-w
 invariant-loop-w l =
-    (l.w ≤ l.n) × (l.ok ≡ all l.w (λ (i : ℕ). leb (tag_of (view_in l.r atround_in) i)
-    (heard_of (words cells l.r heard_place) l.s i)))
-
-abbrev pub decreases-loop-w : goal.decreases-loop-w
-decreases-loop-w l = l.n - l.w
+    l.ok ≡ all l.w (λ (i : ℕ). leb (tag_of (view_in l.r atround_in) i) (heard_of (words cells l.r heard_place) l.s i))

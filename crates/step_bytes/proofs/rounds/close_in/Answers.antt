@@ -1,4 +1,5 @@
 -- `step_bytes::rounds::close_in` meets its contract.
+use borrow.Author.Rules.{rules}
 use mathlib.Core.Path.{refl, ap, ◌∙◌}
 use mathlib.Core.List.{List}
 use Prim.Native.Nat.{ℕ}
@@ -22,7 +23,7 @@ returns c =
     let len = view_size nodes in
     let absent = zeros (part r at len) (length_part r at len (omega arith)) in
     let held = lent_back r at len (λ (s : List ℕ). replicate (length s) 0) refl (omega arith)
-    c.fill.auto.b
-    c.fill.ensures ∙ ap (put r at) absent in
+    c.fill.auto.self
+    (search rules) ∙ ap (put r at) absent in
     turned-bytes r (λ i. (c.slice_known-1.given i).fits) l (λ (q : ℕ). q) a.w no_view c.head_of-h.ensures held
-    c.with_wait.ensures c.save_head.ensures
+    refl c.save_head.ensures

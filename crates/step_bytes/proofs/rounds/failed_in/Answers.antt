@@ -25,7 +25,7 @@ returns-then-i-lt3 c =
     let request = c.get_word.ensures in
     let bytes = c.open_in.ensures in
     is-step (failed-open d a.to a.sent a.k a.i a.t (lt-ltb _ _ more))
-    (simp (c.effect_of.ensures, c.absent.ensures, c.absent-then-i-lt3.ensures, request, next))
+    (simp (c.rested-e.ensures, request, next))
     (bytes ∙ ap (λ (t : ℕ). record_bytes (opened d a.k (a.i + 1) t)) next)
 
 pub returns-then-t-get_word : goal.returns-then-t-get_word

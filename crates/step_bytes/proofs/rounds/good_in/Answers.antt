@@ -24,7 +24,7 @@ returns-then-i-eq0 c =
     let request = c.get_word.ensures in
     let bytes = c.open_in.ensures in
     is-step (good-open d a.to a.sent a.k a.i a.t (eq-eqb _ _ zero))
-    (simp (c.effect_of.ensures, c.absent.ensures, request, next, held))
+    (simp (c.rested-e.ensures, request, next, held))
     (bytes ∙ ap (λ (t : ℕ). record_bytes (opened d a.k 1 t)) next)
 
 pub returns : goal.returns
@@ -36,5 +36,5 @@ returns c =
     let held = c.load_view-held.ensures
     ∙ places_of a.r.now atround_in p.1 in
     is-step (good-end (record_of a.r.now) a.to a.sent a.k a.i a.t (ne_eqb _ _ nonzero))
-    (simp (c.effect_of-2.ensures, c.ending_of.ensures, held))
+    (simp (c.rested-e.ensures, c.ending_of.ensures, held))
     c.close_in.ensures

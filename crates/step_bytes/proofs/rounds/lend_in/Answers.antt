@@ -7,6 +7,6 @@ use Rattle.step_bytes.proofs.rounds.lend_in.Goals as goal
 pub returns : goal.returns
 unfolding record_of
 returns c =
-    let view = c.load_view-v.ensures ∙ places_of c.args.r.now kept_in c.requires.1 in
+    let view = c.load_view-view.ensures ∙ places_of c.args.r.now kept_in c.requires.1 in
     let bytes = c.close_in.ensures in
-    (simp (c.effect_of.ensures, c.absent.ensures, c.ending_of.ensures, view), bytes)
+    (simp (c.rested.ensures, c.ending_of.ensures, view), bytes)

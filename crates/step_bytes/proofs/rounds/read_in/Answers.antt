@@ -16,7 +16,7 @@ returns-then-t-eq-LIMIT c =
     let bytes = c.close_in.ensures in
     rw c.in-Update.is (is-step (read-spent (record_of a.r.now) a.to a.sent c.in-Update.report a.t
     (eq-eqb _ _ last))
-    (simp (c.effect_of.ensures, c.absent.ensures, c.absent-then-t-eq-LIMIT.ensures)) bytes)
+    (simp (c.rested-e.ensures)) bytes)
 
 pub returns-else-t-eq-LIMIT : goal.returns-else-t-eq-LIMIT
 unfolding record_of
@@ -28,7 +28,7 @@ returns-else-t-eq-LIMIT c =
     let bytes = c.open_in.ensures in
     rw c.in-Update.is (is-step (read-update (record_of a.r.now) a.to a.sent c.in-Update.report a.t
     (ne_eqb _ _ below))
-    (simp (c.effect_of-in-Update.ensures, c.absent-in-Update.ensures, c.absent-in-Update-2.ensures, request, own))
+    (simp (c.rested-e.ensures, request, own))
     bytes)
 
 pub returns-in-Scan : goal.returns-in-Scan
@@ -38,4 +38,4 @@ returns-in-Scan c =
     let request = c.get_word.ensures in
     let bytes = c.open_in-in-Scan.ensures in
     rw c.in-Scan.is (is-step (read-scan (record_of a.r.now) a.to a.sent a.t)
-    (simp (c.effect_of-in-Scan.ensures, c.absent-in-Scan.ensures, c.absent-in-Scan-2.ensures, request)) bytes)
+    (simp (c.rested-e.ensures, request)) bytes)
