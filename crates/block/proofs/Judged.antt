@@ -6,6 +6,7 @@ use mathlib.Core.List.{List}
 use native.Mathlib.Nat.{lt_of_not-le}
 use native.Mathlib.Decide.{dec_le}
 use native.Mathlib.Numerals.{add-one}
+use Rattle.std.proofs.Common.{◌&&◌}
 use native.Mathlib.Omega.{arith}
 use lib.ListN.{length, get_or}
 use lib.Dec.{leb, ltb, eqb}
@@ -33,7 +34,7 @@ use Rattle.region.specs.Record.{maxtag_place}
 use Rattle.region.specs.Record.{request_place, kept_place, last_in, atmax_in, atround_in, kept_in}
 use Rattle.table.proofs.Laws.{all-at, all-all}
 use Rattle.block.specs.Block.{record_sound}
-use Rattle.block.specs.Judge.{group, cell_within}
+use Rattle.block.specs.Judge.{group, cell_within, stated}
 
 -- ---- a word within the limit
 
@@ -100,7 +101,7 @@ tables_within maxtag round kept r =
     (view_within kept (view_in r kept_in)))
 
 -- the numbers and the tables, of n nodes
-abbrev judged_as : ℕ → List ℕ → Bool
+abbrev pub judged_as : ℕ → List ℕ → Bool
 judged_as n r =
     both (numbers_within n (word r maxtag_place) (word r request_place) (word r kept_place) (wait_in r))
     (tables_within (word r maxtag_place) (round_tag (wait_in r)) (word r kept_place) r)
@@ -109,49 +110,54 @@ module _ (n f c : ℕ) (r : List ℕ) where
   abbrev cluster : Bool
   cluster = both (eqb (word r n_place) n) (eqb (word r f_place) f)
 
-  abbrev stated : Bool
-  stated = both cluster (eqb (word r own_place) c)
-
-  -- where the record states another n, f or number
-  pub judged-other : stated ≡ false → false ≡ record_sound n f c r
-  unfolding record_of
-  judged-other h = sym (ap (both (both (codes_known r) (usable (record_of r)))) h
-      ∙ never (both (codes_known r) (usable (record_of r))))
-    where
-      never : (t : Bool) → both t false ≡ false
-      never true = refl
-      never false = refl
-
   abbrev whole : (x y z : ℕ) → Bool
   whole x y z = both (codes_known r) (both (sizes_within x y z) (judged_as x r))
 
-  -- where it states these, and they may be
-  pub judged : {t : Bool} → sizes_within n f c ≡ true → stated ≡ true → t ≡ both (codes_known r) (judged_as n r)
-      → t ≡ record_sound n f c r
+  -- where there may be such a node
+  pub judged : sizes_within n f c ≡ true
+      → both (stated n f c r) (both (codes_known r) (judged_as n r)) ≡ record_sound n f c r
   unfolding usable numbers_ok tables_ok record_of
-  judged s h e =
-      let same = both_left cluster (eqb (word r own_place) c) h in
-      let n-is = eqb-true (word r n_place) n (both_left (eqb (word r n_place) n) (eqb (word r f_place) f) same) in
-      let f-is = eqb-true (word r f_place) f (both_right (eqb (word r n_place) n) (eqb (word r f_place) f) same) in
-      let own_is = eqb-true (word r own_place) c (both_right cluster (eqb (word r own_place) c) h) in
-      e ∙ sym (ap (λ (t : Bool). both (codes_known r) (both t (judged_as n r))) s)
-      ∙ ap₂ (λ (x y : ℕ). whole x y c) (sym n-is) (sym f-is)
-      ∙ ap (λ (z : ℕ). whole (word r n_place) (word r f_place) z) (sym own_is)
-      ∙ sym (ap (both (both (codes_known r) (usable (record_of r)))) h
-      ∙ only (both (codes_known r) (usable (record_of r))))
+  judged s = first (stated n f c r) refl
     where
-      only : (t : Bool) → both t true ≡ t
+      known : Bool
+      known = both (codes_known r) (usable (record_of r))
+
+      never : (t : Bool) → false ≡ both t false
+      never true = refl
+      never false = refl
+
+      only : (t : Bool) → t ≡ both t true
       only true = refl
       only false = refl
+
+      first : (t : Bool) → stated n f c r ≡ t
+          → both t (both (codes_known r) (judged_as n r)) ≡ record_sound n f c r
+      first false h = never known ∙ sym (ap (both known) h)
+      first true h =
+          let same = both_left cluster (eqb (word r own_place) c) h in
+          let n-is = eqb-true (word r n_place) n (both_left (eqb (word r n_place) n) (eqb (word r f_place) f) same) in
+          let f-is = eqb-true (word r f_place) f (both_right (eqb (word r n_place) n) (eqb (word r f_place) f) same) in
+          let own_is = eqb-true (word r own_place) c (both_right cluster (eqb (word r own_place) c) h) in
+          sym (ap (λ (t : Bool). both (codes_known r) (both t (judged_as n r))) s)
+          ∙ ap₂ (λ (x y : ℕ). whole x y c) (sym n-is) (sym f-is)
+          ∙ ap (λ (z : ℕ). whole (word r n_place) (word r f_place) z) (sym own_is)
+          ∙ only known
+          ∙ sym (ap (both known) h)
 
 -- ---- the cells of the table of tags heard, judged in groups
 
 abbrev Within : List ℕ → ℕ → Bool
 Within r k = leb (at (words cells r heard_place) k) limit
 
-pub group-more : (k : ℕ) (p : ℕ → Bool) → all_to (k + 1) p ≡ both (p k) (all_to k p)
+pub group-next : (k : ℕ) (p : ℕ → Bool) (ok b : Bool) → ok ≡ all_to k p → b ≡ p k → (ok && b) ≡ all_to (k + 1) p
 unfolding all_to
-group-more k p = rw (add-one k)
+group-next k p ok b e f = rw (e, f, add-one k) (turned (all_to k p) (p k))
+  where
+    turned : (x y : Bool) → (x && y) ≡ both y x
+    turned true true = refl
+    turned true false = refl
+    turned false true = refl
+    turned false false = refl
 
 -- the cells before a group keep the limit, and so do those of the group
 pub groups-more : (r : List ℕ) (i : ℕ) → all (group * i) (Within r) ≡ true

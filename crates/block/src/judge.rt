@@ -8,9 +8,9 @@ ghost use Rattle.table.specs.Table.{view_within, heard_within, cells};
 ghost use Rattle.record.specs.Usable.{sizes_within};
 ghost use Rattle.region.specs.Record.{record_size, heard_place, view_in, last_in, atmax_in, atround_in, kept_in, views};
 ghost use Rattle.block.specs.Block.{record_sound};
-ghost use Rattle.block.specs.Judge.{group, cell_within};
+ghost use Rattle.block.specs.Judge.{group, cell_within, stated};
 
-use octets::{WORD, and, get_word};
+use octets::{WORD, get_word};
 use record::usable::{numbers_within, round_tag};
 use region::head::{codes_known, load_wait};
 use region::places::{
@@ -32,10 +32,8 @@ fn group_sound(r: &[u8], k: usize) -> bool
     ensures { result ≡ all_to group (λ j. cell_within r.now (k + j)) }
 {
     let mut ok = true;
-    let mut j = 0;
-    while j < GROUP {
-        ok = and(r[HEARD_PLACE + WORD * (k + j)] < 128, ok);
-        j += 1;
+    for j in 0..GROUP {
+        ok &= r[HEARD_PLACE + WORD * (k + j)] < 128;
     }
     ok
 }
@@ -45,11 +43,8 @@ fn heard_sound(r: &[u8]) -> bool
     requires { length r.now ≡ record_size }
     ensures { result ≡ heard_within (words cells r.now heard_place) }
 {
-    let mut i = 0;
-    while i < GROUPS {
-        if group_sound(r, GROUP * i) {
-            i += 1;
-        } else {
+    for i in 0..GROUPS {
+        if !group_sound(r, GROUP * i) {
             return false;
         }
     }
@@ -62,8 +57,7 @@ fn view_sound(r: &[u8], i: usize, top: u64) -> bool
     ensures { result ≡ view_within top (view_in r.now i) }
 {
     let at = VIEWS_PLACE + VIEW * i;
-    let end = at + VIEW;
-    view_ok(NODES, top, &r[at..end])
+    view_ok(NODES, top, &r[at..at + VIEW])
 }
 
 // Whether the tables keep their limits: the record's `maxtag` and kept tag, and the tag of the open round.
@@ -76,16 +70,21 @@ fn tables_sound(r: &[u8], maxtag: u64, round: u64, kept: u64) -> bool
         (view_within round (view_in r.now atround_in)))
         (view_within kept (view_in r.now kept_in))) }
 {
-    and(
-        and(heard_sound(r), view_sound(r, LAST_IN, LIMIT)),
-        and(
-            and(
-                view_sound(r, ATMAX_IN, maxtag),
-                view_sound(r, ATROUND_IN, round),
-            ),
-            view_sound(r, KEPT_IN, kept),
-        ),
-    )
+    heard_sound(r)
+        && view_sound(r, LAST_IN, LIMIT)
+        && view_sound(r, ATMAX_IN, maxtag)
+        && view_sound(r, ATROUND_IN, round)
+        && view_sound(r, KEPT_IN, kept)
+}
+
+// Whether the record states this n, this f and the number c.
+fn is_stated(r: &[u8], n: usize, f: usize, c: usize) -> bool
+    requires { length r.now ≡ record_size }
+    ensures { result ≡ stated n f c r.now }
+{
+    get_word(r, N_PLACE) == n as u64
+        && get_word(r, F_PLACE) == f as u64
+        && get_word(r, OWN_PLACE) == c as u64
 }
 
 // Whether these bytes are a usable record of node c of n, f of which may stop. That there may be such a node is judged
@@ -94,19 +93,11 @@ pub fn record_sound(r: &[u8], n: usize, f: usize, c: usize) -> bool
     requires { (length r.now ≡ record_size) × (sizes_within n f c ≡ true) }
     ensures { result ≡ record_sound n f c r.now }
 {
-    if and(
-        and(
-            get_word(r, N_PLACE) == n as u64,
-            get_word(r, F_PLACE) == f as u64,
-        ),
-        get_word(r, OWN_PLACE) == c as u64,
-    ) {
-        let maxtag = get_word(r, MAXTAG_PLACE);
-        let kept = get_word(r, KEPT_PLACE);
-        let wait = load_wait(r);
-        let numbers = numbers_within(n, maxtag, get_word(r, REQUEST_PLACE), kept, wait);
-        let tables = tables_sound(r, maxtag, round_tag(wait), kept);
-        return and(codes_known(r), and(numbers, tables));
-    }
-    false
+    let maxtag = get_word(r, MAXTAG_PLACE);
+    let kept = get_word(r, KEPT_PLACE);
+    let wait = load_wait(r);
+    is_stated(r, n, f, c)
+        && codes_known(r)
+        && numbers_within(n, maxtag, get_word(r, REQUEST_PLACE), kept, wait)
+        && tables_sound(r, maxtag, round_tag(wait), kept)
 }

@@ -12,9 +12,8 @@ ghost use Rattle.block.specs.Block.{block_size, has_stopped, record_in, channel_
 ghost use Rattle.block.specs.Block.{receive, halt, channels_sound, block_sound};
 
 use judge::record_sound;
-use octets::and;
 use record::Node;
-use region::places::{CAPACITY, CHANNEL, RECORD};
+use region::places::{CAPACITY, CHANNEL, COUNT_PLACE, RECORD};
 use view::NODES;
 
 // Where the parts of a block stand, and its bytes.
@@ -40,7 +39,7 @@ pub fn waiting_in(k: &[u8], a: usize) -> usize
     ensures { (result ≡ waiting_in k.now a) × (result ≤ 255) }
 {
     let at = CHANNELS_PLACE + CHANNEL * (a - 1);
-    region::channel::index(k[at])
+    usize::from(k[at + COUNT_PLACE])
 }
 
 // The slot of the message that has waited longest on the channel from node a.
@@ -49,8 +48,7 @@ pub fn first_in(k: &[u8], a: usize) -> &[u8]
     ensures { result.now ≡ first (channel_in k.now a) }
 {
     let at = CHANNELS_PLACE + CHANNEL * (a - 1);
-    let end = at + CHANNEL;
-    region::channel::first(&k[at..end])
+    region::channel::first(&k[at..at + CHANNEL])
 }
 
 // Writes another record.
@@ -62,6 +60,7 @@ pub fn keep_node(k: &mut [u8], c: Node)
 }
 
 // Copies the node's record.
+#[tactic(auto, unfolding(crate::specs::Block::record_in, octets::specs::Bytes::part, octets::specs::Bytes::put))]
 pub fn copy_record(k: &[u8], r: &mut [u8])
     requires { (length k.now ≡ block_size) × (length r.old ≡ record_size) }
     ensures { r.new ≡ record_in k.now }
@@ -84,8 +83,7 @@ pub fn take_off(k: &mut [u8], a: usize)
     ensures { k.new ≡ take_off a k.old }
 {
     let at = CHANNELS_PLACE + CHANNEL * (a - 1);
-    let end = at + CHANNEL;
-    region::channel::pop(&mut k[at..end]);
+    region::channel::pop(&mut k[at..at + CHANNEL]);
 }
 
 // Puts a message at the end of the channel from node a, unless the node has stopped.
@@ -93,12 +91,10 @@ pub fn receive_from(k: &mut [u8], a: usize, m: &[u8])
     requires { (length k.old ≡ block_size) × (1 ≤ a) × (a ≤ nodes) × (length m.now ≤ slot_size) }
     ensures { k.new ≡ receive a m.now k.old }
 {
-    if 0 < k[STOP_PLACE] {
-        return;
+    if !has_stopped(k) {
+        let at = CHANNELS_PLACE + CHANNEL * (a - 1);
+        region::channel::push(&mut k[at..at + CHANNEL], m);
     }
-    let at = CHANNELS_PLACE + CHANNEL * (a - 1);
-    let end = at + CHANNEL;
-    region::channel::push(&mut k[at..end], m);
 }
 
 // Stops the node and empties its channels from 1 to n.
@@ -107,12 +103,9 @@ pub fn halt_node(k: &mut [u8], n: usize)
     ensures { k.new ≡ halt n k.old }
 {
     k[STOP_PLACE] = 1;
-    let mut i = 0;
-    while i < n {
+    for i in 0..n {
         let at = CHANNELS_PLACE + CHANNEL * i;
-        let end = at + CHANNEL;
-        region::channel::clear(&mut k[at..end]);
-        i += 1;
+        region::channel::clear(&mut k[at..at + CHANNEL]);
     }
 }
 
@@ -122,21 +115,17 @@ fn channels_sound(k: &[u8], n: usize) -> bool
     ensures { result ≡ channels_sound n k.now }
 {
     let mut ok = true;
-    let mut a = 0;
-    while a < n {
-        a += 1;
-        ok = and(waiting_in(k, a) <= CAPACITY, ok);
+    for a in 0..n {
+        ok &= waiting_in(k, a + 1) <= CAPACITY;
     }
     ok
 }
 
 // Whether refusal 2 has nothing against the block of node c of n, f of which may stop, where there may be such a node.
+#[tactic(auto, unfolding(crate::specs::Block::block_sound, crate::specs::Block::record_in, octets::specs::Bytes::part))]
 pub fn block_sound(k: &[u8], n: usize, f: usize, c: usize) -> bool
     requires { (length k.now ≡ block_size) × (sizes_within n f c ≡ true) }
     ensures { result ≡ block_sound n f c k.now }
 {
-    and(
-        record_sound(&k[RECORD_PLACE..CHANNELS_PLACE], n, f, c),
-        channels_sound(k, n),
-    )
+    record_sound(&k[RECORD_PLACE..CHANNELS_PLACE], n, f, c) && channels_sound(k, n)
 }

@@ -1,9 +1,6 @@
 -- `block::halt_node` meets its contract: after i turns its loop has what the definition has after i.
-use borrow.Author.Rules.{rules}
-use Prim.Native.Nat.{ℕ, ◌+◌, ◌*◌}
-use mathlib.Core.Path.{◌≡◌, refl, sym, ap, ◌∙◌}
-use mathlib.Core.List.{List}
-use native.Mathlib.Omega.{arith}
+use Rattle.std.proofs.Common.{◌≡◌, ℕ, ◌+◌, ◌*◌, List, refl, sym, ap, ◌∙◌, arith}
+use Rattle.std.proofs.Math.ListN.{length-set}
 use Rattle.octets.proofs.Loop.{up_to-none, up_to-more}
 use Rattle.octets.proofs.Lent.{lent_back}
 use Rattle.region.specs.Channel.{clear, channel_size}
@@ -11,22 +8,18 @@ use Rattle.block.specs.Block.{channel_place, change, on_channel, halt, channels_
 use Rattle.block.proofs.halt_node.Goals as goal
 
 pub loop-i-init : goal.loop-i-init
-loop-i-init c = (search rules, search rules, sym (up_to-none _ _))
+loop-i-init c = sym (up_to-none _ _)
 
 pub loop-i-preserved : goal.loop-i-preserved
-loop-i-preserved c = let i = c.loop-i.i in
+loop-i-preserved c =
+    let i = c.loop-i.i in
     let k = c.loop-i.k in
-    let at : channels_place + channel_size * i ≡ channel_place (i + 1) = omega arith in (
-      search rules,
-      search rules,
-      lent_back k (channels_place + channel_size * i) channel_size clear refl (omega arith)
-          c.clear.auto.t c.clear.ensures
-          ∙ ap (λ (j : ℕ). change j channel_size clear k) at ∙ ap (λ (t : List ℕ). on_channel (i + 1) clear t)
-          c.loop-i.invariant.2
-          ∙ sym (up_to-more i (λ j. on_channel (j + 1) clear) _),
-    )
+    let at : channels_place + channel_size * i ≡ channel_place (i + 1) = omega arith in
+    lent_back k (channels_place + channel_size * i) channel_size clear refl (omega (arith, length-set {A = ℕ})) c.clear.auto.t c.clear.ensures
+    ∙ ap (λ (j : ℕ). change j channel_size clear k) at
+    ∙ ap (λ (t : List ℕ). on_channel (i + 1) clear t) c.loop-i.invariant
+    ∙ sym (up_to-more i (λ j. on_channel (j + 1) clear) _)
 
 pub returns : goal.returns
 unfolding halt
-returns c = let e : c.loop-i.i ≡ c.args.n = omega arith in rw e
-    at c.loop-i.invariant.2
+returns c = let e : c.loop-i.i ≡ c.args.n = omega arith in rw e at c.loop-i.invariant

@@ -1,19 +1,13 @@
 -- `block::waiting_in` meets its contract.
-use native.Mathlib.Omega.{arith}
-use native.Mathlib.Nat.{add-zero}
-use mathlib.Core.Path.{◌∙◌, sym, ap}
-use lib.ListN.{get_or}
-use Prim.Native.Nat.{ℕ}
+use Rattle.std.proofs.Common.{◌+◌, ◌∙◌, sym, arith}
 use Rattle.octets.proofs.Put.{get_d_part}
-use Rattle.region.specs.Channel.{channel_size}
+use Rattle.region.specs.Channel.{channel_size, count_place}
 use Rattle.block.specs.Block.{channel_place, channel_in}
 use Rattle.block.proofs.waiting_in.Goals as goal
 
 pub returns : goal.returns
 unfolding channel_in
-returns c = let k = c.args.k.now in
-    let at = channel_place c.args.a in (
-      c.index.ensures.0 ∙ sym (get_d_part k at channel_size 0 (omega arith) ∙ ap (λ (j : ℕ). get_or k j 0)
-          (add-zero at)),
-      c.index.ensures.1,
-    )
+returns c = (
+  c.from.ensures ∙ sym (get_d_part c.args.k.now (channel_place c.args.a) channel_size count_place (omega arith)),
+  omega (arith, c.from.ensures, (c.type_inv.k (channel_place c.args.a + count_place)).fits),
+)

@@ -1,8 +1,5 @@
 -- `block::judge::heard_sound` meets its contract: the invariant: the first i groups were judged.
-use borrow.Author.Rules.{rules}
-use Prim.Native.Nat.{◌*◌}
-use mathlib.Core.Path.{◌≡◌, sym, ◌∙◌}
-use native.Mathlib.Omega.{arith}
+use Rattle.std.proofs.Common.{◌≡◌, ◌*◌, sym, ◌∙◌, arith}
 use Rattle.table.specs.Table.{heard_within, cells}
 use Rattle.table.proofs.Laws.{all_none}
 use Rattle.block.specs.Judge.{group}
@@ -10,21 +7,17 @@ use Rattle.block.proofs.Judged.{groups-more, group-fails}
 use Rattle.block.proofs.judge.heard_sound.Goals as goal
 
 pub loop-i-init : goal.loop-i-init
-loop-i-init c = (search rules, all_none _)
+loop-i-init c = all_none _
 
 pub loop-i-preserved : goal.loop-i-preserved
-loop-i-preserved c = (
-  omega arith,
-  groups-more c.args.r.now c.loop-i.i
-      c.loop-i.invariant.1 (sym c.group_sound.ensures ∙ c.if-group_sound.true),
-)
+loop-i-preserved c =
+    groups-more c.args.r.now c.loop-i.i c.loop-i.invariant (sym c.group_sound.ensures ∙ c.if-not-group_sound.false)
 
-pub returns-else-group_sound : goal.returns-else-group_sound
+pub returns-then-not-group_sound : goal.returns-then-not-group_sound
 unfolding heard_within
-returns-else-group_sound c =
-    sym (group-fails c.args.r.now c.loop-i.i
-    (omega arith) (sym c.group_sound.ensures ∙ c.if-group_sound.false))
+returns-then-not-group_sound c =
+    sym (group-fails c.args.r.now c.loop-i.i (omega arith) (sym c.group_sound.ensures ∙ c.if-not-group_sound.true))
 
 pub returns : goal.returns
 unfolding heard_within
-returns c = let e : group * c.loop-i.i ≡ cells = omega arith in rw e at (sym c.loop-i.invariant.1)
+returns c = let e : group * c.loop-i.i ≡ cells = omega arith in rw e at (sym c.loop-i.invariant)

@@ -1,8 +1,5 @@
 -- `block::judge::heard_sound` meets its contract: the invariant: the first i groups were judged.
-use Prim.Native.Nat.{ℕ, ◌-◌, ◌*◌, ◌≤◌}
-use mathlib.Core.Path.{◌≡◌}
-use mathlib.Core.Bool.{true}
-use lib.Dec.{leb}
+use Rattle.std.proofs.Common.{◌≡◌, ◌*◌, ℕ, true, leb}
 use Rattle.octets.specs.Word.{words}
 use Rattle.view.specs.Size.{limit}
 use Rattle.table.specs.Loop.{all}
@@ -12,8 +9,4 @@ use Rattle.block.specs.Judge.{group}
 use Rattle.block.proofs.judge.heard_sound.Given as goal
 
 abbrev pub invariant-loop-i : goal.invariant-loop-i
-invariant-loop-i l = (group * l.i ≤ cells) × (all (group * l.i) (λ (k : ℕ). leb (at
-    (words cells l.r heard_place) k) limit) ≡ true)
-
-abbrev pub decreases-loop-i : goal.decreases-loop-i
-decreases-loop-i l = cells - group * l.i
+invariant-loop-i l = all (group * l.i) (λ (k : ℕ). leb (at (words cells l.r heard_place) k) limit) ≡ true

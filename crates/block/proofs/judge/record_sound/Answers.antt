@@ -1,44 +1,19 @@
 -- `block::judge::record_sound` meets its contract.
-use Prim.Native.Nat.{ℕ}
-use mathlib.Core.Path.{sym, ap, ap₂, ◌∙◌}
-use lib.Dec.{eqb}
+use Rattle.std.proofs.Common.{◌≡◌, ◌∙◌, rules}
 use Rattle.octets.specs.Test.{both}
-use Rattle.record.proofs.Parts.{sizes-most}
-use Rattle.block.proofs.Judged.{judged, judged-other}
+use Rattle.region.specs.Record.{codes_known}
+use Rattle.block.specs.Judge.{stated}
+use Rattle.block.proofs.Judged.{judged, judged_as}
 use Rattle.block.proofs.judge.record_sound.Goals as goal
 
-pub returns-then-and : goal.returns-then-and
-returns-then-and c =
+pub returns-then-numbers_within : goal.returns-then-numbers_within
+returns-then-numbers_within c =
     let a = c.args in
-    judged a.n a.f a.c a.r.now c.requires.1
-    (sym (c.and-2.ensures ∙ ap₂ both (c.and.ensures
-    ∙ ap₂ both (ap (λ (x : ℕ). eqb x a.n) c.get_word.ensures) (ap (λ (x : ℕ). eqb x a.f)
-    c.get_word-2.ensures))
-    (ap (λ (x : ℕ). eqb x a.c) c.get_word-3.ensures))
-    ∙ c.if-and.true)
-    (simp (
-      c.and-then-and-2.ensures,
-      c.and-then-and.ensures,
-      c.codes_known.ensures,
-      c.tables_sound-tables.ensures,
-      c.round_tag.ensures,
-      c.numbers_within-numbers.ensures,
-      c.get_word-then-and.ensures,
-      c.load_wait-wait.ensures,
-      c.get_word-kept.ensures,
-      c.get_word-maxtag.ensures,
-    ))
+    let e : c.tables_sound.result ≡ both (stated a.n a.f a.c a.r.now) (both (codes_known a.r.now) (judged_as a.n a.r.now)) = search rules in
+    e ∙ judged a.n a.f a.c a.r.now c.requires.1
 
-pub returns : goal.returns
-returns c =
+pub returns-else-numbers_within : goal.returns-else-numbers_within
+returns-else-numbers_within c =
     let a = c.args in
-    judged-other a.n a.f a.c a.r.now
-    (sym (c.and-2.ensures ∙ ap₂ both (c.and.ensures
-    ∙ ap₂ both (ap (λ (x : ℕ). eqb x a.n) c.get_word.ensures) (ap (λ (x : ℕ). eqb x a.f)
-    c.get_word-2.ensures))
-    (ap (λ (x : ℕ). eqb x a.c) c.get_word-3.ensures))
-    ∙ c.if-and.false)
-
-pub numbers_within-numbers-requires : goal.numbers_within-numbers-requires
-numbers_within-numbers-requires c =
-    let a = c.args in sizes-most a.n a.f a.c c.requires.1
+    let e : c.if-codes_known.value ≡ both (stated a.n a.f a.c a.r.now) (both (codes_known a.r.now) (judged_as a.n a.r.now)) = search rules in
+    e ∙ judged a.n a.f a.c a.r.now c.requires.1

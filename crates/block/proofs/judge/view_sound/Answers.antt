@@ -20,5 +20,5 @@ returns c =
     let l : view_place a.i + view_size nodes ≤ length r = omega arith in
     c.view_ok.ensures ∙ ap (λ (s : List ℕ). view_ok nodes a.top s) (lent r (view_place a.i) (view_size nodes) refl)
     ∙ view-within a.top (part r (view_place a.i) (view_size nodes))
-    (part_bytes r (view_place a.i) (view_size nodes) (λ i. (c.shared_slice_known-1.given i).fits))
+    (part_bytes r (view_place a.i) (view_size nodes) (λ i. (c.type_inv.r i).fits))
     (length_part r (view_place a.i) (view_size nodes) l)
