@@ -2,12 +2,12 @@
 use Prim.Native.Nat.{ℕ, ◌+◌, ◌<◌, ◌≤◌}
 use native.Mathlib.Omega.{arith}
 use native.Mathlib.Decide.{ℕ_discrete}
-use mathlib.Core.Path.{◌≡◌, refl, sym, ap, ◌∙◌, subst}
+use mathlib.Core.Path.{◌≡◌, sym, ap, ◌∙◌, subst}
 use mathlib.Core.Bool.{Bool, true, false}
 use mathlib.Core.List.{List}
 use lib.ListN.{length}
 use lib.Dec.{leb, eqb, T}
-use borrow.Author.Tests.{eqb-true, eq-eqb, ne_eqb, leb-true}
+use borrow.Author.Tests.{eqb-true, eq-eqb, leb-true}
 use Rattle.octets.specs.Test.{pick, both}
 use Rattle.octets.proofs.Test.{both_left, both_right}
 use Rattle.table.specs.Loop.{all, count}
@@ -63,35 +63,6 @@ fits-size b h s = eqb-true (length b) (cluster_size (stated b)) (go (eqb (length
 
 pub fits-length : (b : List ℕ) (n : ℕ) → fits b ≡ true → n ≡ stated b → is_size n ≡ true → length b ≡ cluster_size n
 fits-length b n h e s = fits-size b h (ap is_size (sym e) ∙ s) ∙ ap (λ (k : ℕ). cluster_size k) (sym e)
-
--- what the two checks are where n is known
-pub fits-empty : (b : List ℕ) → length b ≡ 0 → fits b ≡ false
-unfolding fits
-fits-empty b e = rw (eq-eqb (length b) 0 e) refl
-
-pub fits-sized : (b : List ℕ) (n : ℕ) → (length b ≡ 0 → ⊥) → n ≡ stated b → is_size n ≡ true
-    → fits b ≡ eqb (length b) (cluster_size n)
-unfolding fits
-fits-sized b n h e s = rw (ne_eqb (length b) 0 h, sym e, s) refl
-
-pub fits-unsized : (b : List ℕ) (n : ℕ) → (length b ≡ 0 → ⊥) → n ≡ stated b → is_size n ≡ false → fits b ≡ true
-unfolding fits
-fits-unsized b n h e s = rw (ne_eqb (length b) 0 h, sym e, s) refl
-
-pub sound-sized : (b : List ℕ) (n f : ℕ) → n ≡ stated b → f ≡ faults_in b → is_size n ≡ true
-    → tolerates n f ≡ true → sound b ≡ both (all n (λ c. block_sound n f c (block b c))) (leb (count n (stopped b)) f)
-unfolding sound
-sound-sized b n f e g s t = rw (sym e, sym g, s, t) refl
-
-pub sound-intolerant : (b : List ℕ) (n f : ℕ) → n ≡ stated b → f ≡ faults_in b → is_size n ≡ true → tolerates n f ≡
-    false
-    → sound b ≡ false
-unfolding sound
-sound-intolerant b n f e g s t = rw (sym e, sym g, s, t) refl
-
-pub sound-unsized : (b : List ℕ) (n : ℕ) → n ≡ stated b → is_size n ≡ false → sound b ≡ false
-unfolding sound
-sound-unsized b n e s = rw (sym e, s) refl
 
 -- what refusal 2 asks, one by one
 module _ (b : List ℕ) (h : sound b ≡ true) where

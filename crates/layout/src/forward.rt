@@ -8,10 +8,10 @@ ghost use Rattle.block.specs.Block.{receive};
 ghost use Rattle.layout.specs.Layout.{cluster_size, channel, on_block};
 ghost use Rattle.layout.specs.Slot.{channel_at, slot_place, slot_from, IsSlot};
 
-use crate::{BLOCKS_PLACE, stopped_at};
-use block::{BLOCK, CHANNELS_PLACE};
-use octets::{copy_within, fill};
-use region::channel::{FULL, index};
+use crate::{block_place, stopped_at};
+use block::CHANNELS_PLACE;
+use octets::copy_within;
+use region::channel::FULL;
 use region::places::{CAPACITY, CHANNEL, COUNT_PLACE, OLDEST_PLACE, SLOT, SLOTS_PLACE};
 
 // Where the channel from a to c stands.
@@ -19,7 +19,7 @@ fn channel_at(a: usize, c: usize) -> usize
     requires { (1 ≤ a) × (a ≤ nodes) × (1 ≤ c) × (c ≤ nodes) }
     ensures { result ≡ channel_at a c }
 {
-    BLOCKS_PLACE + BLOCK * (c - 1) + (CHANNELS_PLACE + CHANNEL * (a - 1))
+    block_place(c) + (CHANNELS_PLACE + CHANNEL * (a - 1))
 }
 
 // Where the slot of the message that has waited longest on the channel from a to c stands.
@@ -28,8 +28,7 @@ pub fn first_place(b: &[u8], a: usize, c: usize) -> usize
     ensures { result ≡ slot_place a c (oldest (channel b.now a c)) }
 {
     let at = channel_at(a, c);
-    let oldest = b[at + OLDEST_PLACE];
-    at + (SLOTS_PLACE + SLOT * (index(oldest) % CAPACITY))
+    at + (SLOTS_PLACE + SLOT * (usize::from(b[at + OLDEST_PLACE]) % CAPACITY))
 }
 
 // The slot at `to` gets the message of so many bytes that stands in the slot at `from`, and zeros after it. It may be
@@ -40,9 +39,7 @@ fn fill_slot(b: &mut [u8], from: usize, to: usize, len: usize)
         × (from < to → from + slot_size ≤ to) × (to < from → to + slot_size ≤ from) }
     ensures { b.new ≡ put b.old to (slot_from b.old from len) }
 {
-    let end = to + len;
-    let last = to + SLOT;
-    fill(&mut b[end..last], 0);
+    b[to + len..to + SLOT].fill(0);
     copy_within(b, from, to, len);
 }
 
@@ -57,11 +54,11 @@ pub fn forward_at(b: &mut [u8], from: usize, len: usize, a: usize, c: usize)
         return;
     }
     let at = channel_at(a, c);
-    let k = b[at + COUNT_PLACE];
-    if k < FULL {
-        let h = b[at + OLDEST_PLACE];
-        let to = at + (SLOTS_PLACE + SLOT * ((index(h) + index(k)) % CAPACITY));
+    let count = b[at + COUNT_PLACE];
+    if count < FULL {
+        let oldest = usize::from(b[at + OLDEST_PLACE]);
+        let to = at + (SLOTS_PLACE + SLOT * ((oldest + usize::from(count)) % CAPACITY));
         fill_slot(b, from, to, len);
-        b[at + COUNT_PLACE] = k + 1;
+        b[at + COUNT_PLACE] = count + 1;
     }
 }

@@ -3,20 +3,18 @@
 
 pub mod forward;
 
-ghost use Rattle.std.specs.Prelude.{◌≡◌, true, ◌≤◌, length};
+ghost use Rattle.std.specs.Prelude.{◌≡◌, true, ◌<◌, ◌≤◌, ◌^◌, length};
 ghost use Rattle.view.specs.Size.{nodes};
 ghost use Rattle.table.specs.Loop.{all, count};
 ghost use Rattle.table.specs.Quorum.{can_be};
 ghost use Rattle.region.specs.Channel.{slot_size, count_of, first};
 ghost use Rattle.region.specs.Record.{record_size, record_of, record_bytes};
-ghost use Rattle.block.specs.Block.{record_in, keep_record, take_off, receive, halt, block_sound};
-ghost use Rattle.layout.specs.Layout.{cluster_size, blocks_place, size_for, stated, faults_in, block};
+ghost use Rattle.block.specs.Block.{block_size, record_in, keep_record, take_off, receive, halt, block_sound};
+ghost use Rattle.layout.specs.Layout.{cluster_size, blocks_place, block_place, size_for, stated, faults_in, block};
 ghost use Rattle.layout.specs.Layout.{stopped, channel, on_block, fits, sound, is_node};
 
 use block::BLOCK;
-use octets::and;
 use record::Node;
-use region::channel::index;
 use table::quorum::tolerates;
 use view::NODES;
 
@@ -28,10 +26,11 @@ pub const FAULTS_PLACE: usize = STATED_PLACE + 1;
 pub const BLOCKS_PLACE: usize = FAULTS_PLACE + 1;
 
 // The bytes to lend for a cluster of n nodes; 0 where there may be none.
+#[tactic(auto, unfolding(crate::specs::Layout::size_for))]
 pub fn size(n: usize) -> usize
     ensures { result ≡ size_for n }
 {
-    if and(1 <= n, n <= NODES) {
+    if 1 <= n && n <= NODES {
         BLOCKS_PLACE + BLOCK * n
     } else {
         0
@@ -43,14 +42,31 @@ pub fn faults_in(b: &[u8]) -> usize
     requires { blocks_place ≤ length b.now }
     ensures { result ≡ faults_in b.now }
 {
-    index(b[FAULTS_PLACE])
+    usize::from(b[FAULTS_PLACE])
 }
 
 // Whether c is a node's number.
 pub fn is_node(n: usize, c: usize) -> bool
     ensures { result ≡ is_node n c }
 {
-    and(1 <= c, c <= n)
+    1 <= c && c <= n
+}
+
+// Where the block of node c stands.
+fn block_place(c: usize) -> usize
+    requires { (1 ≤ c) × (cluster_size c < 2 ^ 64) }
+    ensures { result ≡ block_place c }
+{
+    BLOCKS_PLACE + BLOCK * (c - 1)
+}
+
+// The block of node c.
+fn block_of(b: &[u8], c: usize) -> &[u8]
+    requires { (1 ≤ c) × (cluster_size c ≤ length b.now) }
+    ensures { (result.now ≡ block b.now c) × (length result.now ≡ block_size) }
+{
+    let at = block_place(c);
+    &b[at..at + BLOCK]
 }
 
 // Whether node c has stopped.
@@ -58,9 +74,7 @@ pub fn stopped_at(b: &[u8], c: usize) -> bool
     requires { (1 ≤ c) × (cluster_size c ≤ length b.now) }
     ensures { result ≡ stopped b.now c }
 {
-    let at = BLOCKS_PLACE + BLOCK * (c - 1);
-    let end = at + BLOCK;
-    block::has_stopped(&b[at..end])
+    block::has_stopped(block_of(b, c))
 }
 
 // How many messages wait on the channel from a to c.
@@ -68,9 +82,7 @@ pub fn waiting_at(b: &[u8], a: usize, c: usize) -> usize
     requires { (1 ≤ a) × (a ≤ nodes) × (1 ≤ c) × (cluster_size c ≤ length b.now) }
     ensures { (result ≡ count_of (channel b.now a c)) × (result ≤ 255) }
 {
-    let at = BLOCKS_PLACE + BLOCK * (c - 1);
-    let end = at + BLOCK;
-    block::waiting_in(&b[at..end], a)
+    block::waiting_in(block_of(b, c), a)
 }
 
 // The slot of the message that has waited longest on the channel from a to c.
@@ -78,9 +90,7 @@ pub fn first_at(b: &[u8], a: usize, c: usize) -> &[u8]
     requires { (1 ≤ a) × (a ≤ nodes) × (1 ≤ c) × (cluster_size c ≤ length b.now) }
     ensures { result.now ≡ first (channel b.now a c) }
 {
-    let at = BLOCKS_PLACE + BLOCK * (c - 1);
-    let end = at + BLOCK;
-    block::first_in(&b[at..end], a)
+    block::first_in(block_of(b, c), a)
 }
 
 // Node c receives a message from a, unless it has stopped.
@@ -88,9 +98,8 @@ pub fn receive_at(b: &mut [u8], a: usize, c: usize, m: &[u8])
     requires { (1 ≤ a) × (a ≤ nodes) × (1 ≤ c) × (cluster_size c ≤ length b.old) × (length m.now ≤ slot_size) }
     ensures { b.new ≡ on_block c (receive a m.now) b.old }
 {
-    let at = BLOCKS_PLACE + BLOCK * (c - 1);
-    let end = at + BLOCK;
-    block::receive_from(&mut b[at..end], a, m);
+    let at = block_place(c);
+    block::receive_from(&mut b[at..at + BLOCK], a, m);
 }
 
 // Takes the oldest message off the channel from a to c.
@@ -98,9 +107,8 @@ pub fn take_off_at(b: &mut [u8], a: usize, c: usize)
     requires { (1 ≤ a) × (a ≤ nodes) × (1 ≤ c) × (cluster_size c ≤ length b.old) }
     ensures { b.new ≡ on_block c (take_off a) b.old }
 {
-    let at = BLOCKS_PLACE + BLOCK * (c - 1);
-    let end = at + BLOCK;
-    block::take_off(&mut b[at..end], a);
+    let at = block_place(c);
+    block::take_off(&mut b[at..at + BLOCK], a);
 }
 
 // Writes another record of node c.
@@ -108,9 +116,8 @@ pub fn keep_at(b: &mut [u8], c: usize, d: Node)
     requires { (1 ≤ c) × (cluster_size c ≤ length b.old) }
     ensures { b.new ≡ on_block c (keep_record d) b.old }
 {
-    let at = BLOCKS_PLACE + BLOCK * (c - 1);
-    let end = at + BLOCK;
-    block::keep_node(&mut b[at..end], d);
+    let at = block_place(c);
+    block::keep_node(&mut b[at..at + BLOCK], d);
 }
 
 // Copies the record of node c.
@@ -118,9 +125,7 @@ pub fn copy_record_at(b: &[u8], c: usize, r: &mut [u8])
     requires { (1 ≤ c) × (cluster_size c ≤ length b.now) × (length r.old ≡ record_size) }
     ensures { r.new ≡ record_in (block b.now c) }
 {
-    let at = BLOCKS_PLACE + BLOCK * (c - 1);
-    let end = at + BLOCK;
-    block::copy_record(&b[at..end], r);
+    block::copy_record(block_of(b, c), r);
 }
 
 // Writes another record of node c, given in bytes.
@@ -129,9 +134,8 @@ pub fn keep_record_at(b: &mut [u8], c: usize, r: &[u8])
         × (r.now ≡ record_bytes (record_of r.now)) }
     ensures { b.new ≡ on_block c (keep_record (record_of r.now)) b.old }
 {
-    let at = BLOCKS_PLACE + BLOCK * (c - 1);
-    let end = at + BLOCK;
-    block::keep_record(&mut b[at..end], r);
+    let at = block_place(c);
+    block::keep_record(&mut b[at..at + BLOCK], r);
 }
 
 // Stops node c of n.
@@ -139,9 +143,8 @@ pub fn halt_at(b: &mut [u8], n: usize, c: usize)
     requires { (n ≤ nodes) × (1 ≤ c) × (cluster_size c ≤ length b.old) }
     ensures { b.new ≡ on_block c (halt n) b.old }
 {
-    let at = BLOCKS_PLACE + BLOCK * (c - 1);
-    let end = at + BLOCK;
-    block::halt_node(&mut b[at..end], n);
+    let at = block_place(c);
+    block::halt_node(&mut b[at..at + BLOCK], n);
 }
 
 // How many of the nodes 1 to n have stopped.
@@ -149,15 +152,7 @@ pub fn stopped_nodes(b: &[u8], n: usize) -> usize
     requires { (n ≤ nodes) × (length b.now ≡ cluster_size n) }
     ensures { result ≡ count n (stopped b.now) }
 {
-    let mut k = 0;
-    let mut c = 0;
-    while c < n {
-        c += 1;
-        if stopped_at(b, c) {
-            k += 1;
-        }
-    }
-    k
+    (1..=n).filter(|&c| stopped_at(b, c)).count()
 }
 
 // Whether every block is sound.
@@ -166,41 +161,39 @@ fn blocks_sound(b: &[u8], n: usize, f: usize) -> bool
     ensures { result ≡ all n (λ c. block_sound n f c (block b.now c)) }
 {
     let mut ok = true;
-    let mut c = 0;
-    while c < n {
-        let at = BLOCKS_PLACE + BLOCK * c;
-        let end = at + BLOCK;
-        c += 1;
-        ok = and(block::block_sound(&b[at..end], n, f, c), ok);
+    for c in 0..n {
+        ok &= block::block_sound(block_of(b, c + 1), n, f, c + 1);
     }
     ok
 }
 
 // Whether the length is right, so far as the bytes state an n (refusal 12).
+#[tactic(auto, unfolding(crate::specs::Layout::fits))]
 pub fn is_fit(b: &[u8]) -> bool
     ensures { result ≡ fits b.now }
 {
-    if b.len() == 0 {
+    if b.is_empty() {
         return false;
     }
-    let n = index(b[STATED_PLACE]);
-    if and(1 <= n, n <= NODES) {
-        return b.len() == BLOCKS_PLACE + BLOCK * n;
+    let n = usize::from(b[STATED_PLACE]);
+    if 1 <= n && n <= NODES {
+        b.len() == BLOCKS_PLACE + BLOCK * n
+    } else {
+        true
     }
-    true
 }
 
 // Whether the bytes are a cluster that can be used (refusal 2).
+#[tactic(auto, unfolding(crate::specs::Layout::sound))]
 pub fn is_sound(b: &[u8]) -> bool
     requires { fits b.now ≡ true }
     ensures { result ≡ sound b.now }
 {
-    let n = index(b[STATED_PLACE]);
-    if and(1 <= n, n <= NODES) {
+    let n = usize::from(b[STATED_PLACE]);
+    if 1 <= n && n <= NODES {
         let f = faults_in(b);
         if tolerates(n, f) {
-            let blocks = blocks_sound(b, n, f);
-            return and(blocks, stopped_nodes(b, n) <= f);
+            return blocks_sound(b, n, f) && stopped_nodes(b, n) <= f;
         }
     }
     false

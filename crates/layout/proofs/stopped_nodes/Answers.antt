@@ -1,37 +1,16 @@
--- `layout::stopped_nodes` meets its contract: after i turns its loop has what the definition has after i.
-use borrow.Author.Rules.{rules}
-use mathlib.Core.Path.{◌≡◌, sym, ◌∙◌}
-use native.Mathlib.Omega.{arith}
-use Rattle.table.proofs.Laws.{count_none, count-more}
+-- `layout::stopped_nodes` meets its contract.
+use Rattle.std.proofs.Common.{rules, ◌∙◌}
+use Rattle.std.proofs.lemmas.Iterator.Consumers.{count_from_yields_List, YieldsList-at, YieldsList-from_filter}
+use Rattle.table.proofs.Ranges.{yields-up_to, filtered}
+use Rattle.layout.specs.Layout.{stopped}
 use Rattle.layout.proofs.stopped_nodes.Goals as goal
 
-pub loop-c-init : goal.loop-c-init
-loop-c-init c = (search rules, search rules, sym (count_none _))
-
-pub loop-c-preserved-then-stopped_at : goal.loop-c-preserved-then-stopped_at
-loop-c-preserved-then-stopped_at c = (
-  search rules,
-  search rules,
-  simp (
-    count-more,
-    sym c.stopped_at.ensures
-        ∙ c.if-stopped_at.true,
-    c.loop-c.invariant.2,
-  ),
-)
-
-pub loop-c-preserved : goal.loop-c-preserved
-loop-c-preserved c = (
-  search rules,
-  search rules,
-  simp (
-    count-more,
-    sym c.stopped_at.ensures
-        ∙ c.if-stopped_at.false,
-    c.loop-c.invariant.2,
-  ),
-)
-
 pub returns : goal.returns
-returns c = let e : c.loop-c.c ≡ c.args.n = omega arith in rw e
-    at c.loop-c.invariant.2
+returns c =
+    let n = c.args.n in
+    let p = stopped c.args.b.now in
+    let e = c.new.ensures in
+    let road = YieldsList-at c.filter.ensures.source (yields-up_to n e.start e.end e.exhausted) in
+    count_from_yields_List _ _ c.count.ensures.ran
+    (YieldsList-from_filter _ p road c.filter.ensures.closure (λ x b q k. search rules))
+    ∙ filtered n p

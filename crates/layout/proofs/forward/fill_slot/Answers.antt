@@ -41,7 +41,7 @@ returns c =
     let m = part b a.from a.len in
     let lm : length m ≡ a.len = length_part b a.from a.len p.2 in
     let cleared = lent_back b at more (λ (t : List ℕ). replicate (length t) 0) (omega arith) (omega arith)
-    c.fill.auto.b c.fill.ensures
+    c.fill.auto.self (search rules)
     ∙ ap (λ (k : ℕ). put b at (replicate {A = ℕ} k 0)) (length_part b at more (omega arith)) in
     let still : part (put b at w) a.from a.len ≡ m =
     part-other b at w a.from a.len (omega arith) (apart a.from a.to a.len p.4 p.5 p.1)

@@ -11,5 +11,5 @@ returns c =
     let a = c.args in
     let p = c.requires in
     let at = c.channel_at-at.ensures in
-    ap₂ (λ (x y : ℕ). x + slot_at y) at (c.index.ensures.0
+    ap₂ (λ (x y : ℕ). x + slot_at y) at (c.from.ensures
     ∙ ap (λ (x : ℕ). get_or a.b.now (x + oldest_place) 0) at ∙ oldest-at a.b.now a.a a.c p.0 p.1)

@@ -24,7 +24,7 @@ pub fill_slot-requires : goal.fill_slot-requires
 fill_slot-requires c =
     let a = c.args in
     let p = c.requires in
-    let i = c.index.result + c.index-then-k-lt-FULL.result in
+    let i = c.from-oldest.result + c.from.result in
     let at = c.channel_at-at.ensures in
     let target = slot_of a.a a.c i p.0 p.1 p.2 p.3 in (
       p.5,
@@ -41,8 +41,8 @@ fill_slot-requires c =
       ),
     )
 
-pub returns-then-k-lt-FULL : goal.returns-then-k-lt-FULL
-returns-then-k-lt-FULL c =
+pub returns-then-count-lt-FULL : goal.returns-then-count-lt-FULL
+returns-then-count-lt-FULL c =
     let a = c.args in
     let p = c.requires in
     let b = a.b.now in
@@ -51,11 +51,11 @@ returns-then-k-lt-FULL c =
     let at = c.channel_at-at.ensures in
     let n : get_or b (c.channel_at-at.result + count_place) 0 ≡ count_of t
     = ap (λ (x : ℕ). get_or b (x + count_place) 0) at ∙ count_at b a.a a.c p.0 p.1 in
-    let h : c.index.result ≡ oldest t
-    = c.index.ensures.0
+    let h : c.from-oldest.result ≡ oldest t
+    = c.from-oldest.ensures
     ∙ ap (λ (x : ℕ). get_or b (x + oldest_place) 0) at ∙ oldest-at b a.a a.c p.0 p.1 in
-    let k : c.index-then-k-lt-FULL.result ≡ count_of t
-    = c.index-then-k-lt-FULL.ensures.0 ∙ n in
+    let k : c.from.result ≡ count_of t
+    = c.from.ensures ∙ n in
     let long : length s ≡ slot_size = simp (length-append, length-replicate, length_part b a.from a.len p.7)
     (omega (arith, p.6)) in
     ap₂ (λ (x y : ℕ). set c.fill_slot.new.b (x + count_place) (y + 1)) at n
@@ -64,10 +64,10 @@ returns-then-k-lt-FULL c =
     ∙ ap₂ (λ (x y : ℕ). put b (x + slot_at y) s) at (ap₂ (λ (x y : ℕ). x + y) h k))
     ∙ sym (pass-in b a.a a.c p.0 p.1 p.2 p.4 s
     (sym c.stopped_at.ensures ∙ c.if-stopped_at.false)
-    (omega (arith, n, c.if-k-lt-FULL.true)) (omega (arith, long)))
+    (omega (arith, n, c.if-count-lt-FULL.true)) (omega (arith, long)))
 
-pub returns-else-k-lt-FULL : goal.returns-else-k-lt-FULL
-returns-else-k-lt-FULL c =
+pub returns-else-count-lt-FULL : goal.returns-else-count-lt-FULL
+returns-else-count-lt-FULL c =
     let a = c.args in
     let p = c.requires in
     let b = a.b.now in
@@ -76,4 +76,4 @@ returns-else-k-lt-FULL c =
     ∙ count_at b a.a a.c p.0 p.1 in
     sym (pass-full b a.a a.c p.0 p.1 p.2 p.4 (slot_from b a.from a.len)
     (sym c.stopped_at.ensures ∙ c.if-stopped_at.false)
-    (omega (arith, n, c.if-k-lt-FULL.false)))
+    (omega (arith, n, c.if-count-lt-FULL.false)))
