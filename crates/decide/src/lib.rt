@@ -6,14 +6,13 @@
 ghost use Rattle.std.specs.Prelude.{◌≡◌, ◌≤◌};
 ghost use Rattle.octets.specs.Test.{pick};
 ghost use Rattle.view.specs.Size.{nodes, limit};
-ghost use Rattle.step.specs.Forward.{is_value, is_forward};
+ghost use Rattle.step.specs.Forward.{is_forward};
 ghost use Rattle.step.specs.Step.{ending_of};
 ghost use Rattle.step.specs.React.{read_wait, write_wait, round_holds};
 ghost use Rattle.step.specs.Move.{next_tag};
 
 use record::{Kind, Wait};
 use step::{Ending, Rule, Sent};
-use table::larger;
 use table::quorum::{is_member, with_member};
 use wire::Message;
 
@@ -23,36 +22,16 @@ pub fn read_wait(wait: Wait, request: u64, s: usize, q: u64, t: u64) -> Wait
     ensures { result ≡ read_wait request s q t wait }
 {
     match wait {
-        Wait::Idle => wait,
         Wait::Reading {
             operation,
             answered,
             largest,
-        } => {
-            if q == request {
-                if is_member(answered, s) {
-                    return wait;
-                }
-                return Wait::Reading {
-                    operation: operation,
-                    answered: with_member(answered, s),
-                    largest: larger(largest, t),
-                };
-            }
-            wait
-        }
-        Wait::Writing {
-            kind: _,
-            round: _,
-            tag: _,
-            answered: _,
-        } => wait,
-        Wait::Comparing {
-            kind: _,
-            round: _,
-            tag: _,
-        } => wait,
-        Wait::Borrowing { kind: _, tag: _ } => wait,
+        } if q == request && !is_member(answered, s) => Wait::Reading {
+            operation,
+            answered: with_member(answered, s),
+            largest: largest.max(t),
+        },
+        _ => wait,
     }
 }
 
@@ -62,40 +41,20 @@ pub fn write_wait(wait: Wait, request: u64, s: usize, q: u64, t: u64) -> Wait
     ensures { result ≡ write_wait request s q t wait }
 {
     match wait {
-        Wait::Idle => wait,
-        Wait::Reading {
-            operation: _,
-            answered: _,
-            largest: _,
-        } => wait,
         Wait::Writing {
             kind,
             round,
             tag,
             answered,
-        } => {
-            if q == request {
-                if t == tag {
-                    if is_member(answered, s) {
-                        return wait;
-                    }
-                    return Wait::Writing {
-                        kind: kind,
-                        round: round,
-                        tag: tag,
-                        answered: with_member(answered, s),
-                    };
-                }
-                return wait;
+        } if q == request && t == tag && !is_member(answered, s) => {
+            Wait::Writing {
+                kind,
+                round,
+                tag,
+                answered: with_member(answered, s),
             }
-            wait
         }
-        Wait::Comparing {
-            kind: _,
-            round: _,
-            tag: _,
-        } => wait,
-        Wait::Borrowing { kind: _, tag: _ } => wait,
+        _ => wait,
     }
 }
 
@@ -104,24 +63,8 @@ pub fn round_holds(wait: Wait, t: u64) -> bool
     ensures { result ≡ round_holds wait t }
 {
     match wait {
-        Wait::Idle => false,
-        Wait::Reading {
-            operation: _,
-            answered: _,
-            largest: _,
-        } => false,
-        Wait::Writing {
-            kind: _,
-            round: _,
-            tag,
-            answered: _,
-        } => t <= tag,
-        Wait::Comparing {
-            kind: _,
-            round: _,
-            tag,
-        } => t <= tag,
-        Wait::Borrowing { kind: _, tag: _ } => false,
+        Wait::Writing { tag, .. } | Wait::Comparing { tag, .. } => t <= tag,
+        Wait::Idle | Wait::Reading { .. } | Wait::Borrowing { .. } => false,
     }
 }
 
@@ -137,13 +80,11 @@ pub fn write_sent(grown: bool, q: u64, t: u64) -> Sent
     ensures { result ≡ pick grown (Sent.Two (Message.Echo t) (Message.WriteAnswer q t))
         (Sent.One (Message.WriteAnswer q t)) }
 {
+    let answer = Message::WriteAnswer { request: q, tag: t };
     if grown {
-        Sent::Two(
-            Message::Echo { tag: t },
-            Message::WriteAnswer { request: q, tag: t },
-        )
+        Sent::Two(Message::Echo { tag: t }, answer)
     } else {
-        Sent::One(Message::WriteAnswer { request: q, tag: t })
+        Sent::One(answer)
     }
 }
 
@@ -152,10 +93,7 @@ pub fn next_tag(maxtag: u64, i: u64, r: u64) -> u64
     requires { r ≤ limit }
     ensures { result ≡ next_tag maxtag i r }
 {
-    if i == 0 {
-        return larger(r + 1, maxtag);
-    }
-    maxtag
+    if i == 0 { maxtag.max(r + 1) } else { maxtag }
 }
 
 // The ending of an operation of this kind, by this rule.
@@ -172,27 +110,5 @@ pub fn ending_of(k: Kind, rule: Rule) -> Ending
 pub fn is_forward(s: Sent) -> bool
     ensures { result ≡ is_forward s }
 {
-    match s {
-        Sent::Nothing => false,
-        Sent::One(m) => is_value(m),
-        Sent::Two(_, _) => false,
-    }
-}
-
-fn is_value(m: Message) -> bool
-    ensures { result ≡ is_value m }
-{
-    match m {
-        Message::Read { request: _ } => false,
-        Message::ReadAnswer { request: _, tag: _ } => false,
-        Message::Write { request: _, tag: _ } => false,
-        Message::WriteAnswer { request: _, tag: _ } => false,
-        Message::Echo { tag: _ } => false,
-        Message::Value {
-            tag: _,
-            writer: _,
-            report: _,
-        } => true,
-        Message::Good { tag: _ } => false,
-    }
+    matches!(s, Sent::One(Message::Value { .. }))
 }

@@ -11,7 +11,6 @@ ghost use Rattle.step.specs.Step.{started};
 ghost use Rattle.step.specs.React.{raised, received, keep, react};
 
 use decide::{read_wait, round_holds, sent_where, write_sent, write_wait};
-use octets::and;
 use record::Node;
 use record::changes::waiting_node;
 use step::{Ending, Outbox, Sent, Step};
@@ -26,7 +25,7 @@ pub fn started_step(c: Node, to: usize, sent: Sent) -> Step
     Step {
         node: c,
         outbox: Outbox {
-            to: to,
+            to,
             handler: sent,
             reading: Sent::Nothing,
             comparing: Sent::Nothing,
@@ -38,16 +37,19 @@ pub fn started_step(c: Node, to: usize, sent: Sent) -> Step
 }
 
 // A tag above `maxtag` raises it, and with it the reports held for it.
+#[tactic(auto, unfolding(step::specs::React::raised))]
 fn raised_node(c: Node, t: u64) -> Node
     ensures { result ≡ raised c t }
 {
     if c.maxtag < t {
-        let mut d = c;
-        d.maxtag = t;
-        d.atmax = newest_view(t, c.last, c.atmax);
-        return d;
+        Node {
+            maxtag: t,
+            atmax: newest_view(t, c.last, c.atmax),
+            ..c
+        }
+    } else {
+        c
     }
-    c
 }
 
 // The view with the entry put, where the flag says so.
@@ -55,41 +57,45 @@ fn put_where(flag: bool, v: View, w: usize, t: u64, p: Report) -> View
     requires { (1 ≤ w) × (w ≤ nodes) }
     ensures { result ≡ pick flag (put_entry v w t p) v }
 {
-    if flag {
-        return put_entry(v, w, t, p);
-    }
-    v
+    if flag { put_entry(v, w, t, p) } else { v }
 }
 
 // A value of writer w from sender s: the tag heard changes, and where it is new the tables that may hold it.
+#[tactic(auto, unfolding(step::specs::React::received))]
 fn received_node(c: Node, s: usize, w: usize, t: u64, p: Report) -> Node
     requires { (1 ≤ s) × (s ≤ nodes) × (1 ≤ w) × (w ≤ nodes) }
     ensures { result ≡ received c s w t p }
 {
     let fresh = tag_of(c.last, w) < t;
-    let wait = c.wait;
-    let mut d = c;
-    d.heard[(s - 1) * NODES + (w - 1)] = t;
-    d.last = put_where(fresh, c.last, w, t, p);
-    d.atmax = put_where(and(fresh, t <= c.maxtag), c.atmax, w, t, p);
-    d.atround = put_where(and(fresh, round_holds(wait, t)), c.atround, w, t, p);
-    d
+    let mut heard = c.heard;
+    heard[(s - 1) * NODES + (w - 1)] = t;
+    Node {
+        heard,
+        last: put_where(fresh, c.last, w, t, p),
+        atmax: put_where(fresh && t <= c.maxtag, c.atmax, w, t, p),
+        atround: put_where(fresh && round_holds(c.wait, t), c.atround, w, t, p),
+        ..c
+    }
 }
 
 // Of the good messages the one with the greatest tag is kept, the earlier on a tie.
+#[tactic(auto, unfolding(step::specs::React::keep))]
 fn kept_node(c: Node, t: u64, v: View) -> Node
     ensures { result ≡ keep c t v }
 {
     if c.kept < t {
-        let mut d = c;
-        d.kept = t;
-        d.keptview = v;
-        return d;
+        Node {
+            kept: t,
+            keptview: v,
+            ..c
+        }
+    } else {
+        c
     }
-    c
 }
 
 // The handler of each kind. `v` is the view that a good message carries.
+#[tactic(auto, unfolding(step::specs::React::react))]
 pub fn react_to(c: Node, s: usize, m: Message, v: View) -> Step
     requires { (1 ≤ s) × (s ≤ c.n) × (c.n ≤ nodes) × (lawful c.n m v ≡ true) }
     ensures { result ≡ react c s m v }
@@ -100,19 +106,16 @@ pub fn react_to(c: Node, s: usize, m: Message, v: View) -> Step
                 c,
                 s,
                 Sent::One(Message::ReadAnswer {
-                    request: request,
+                    request,
                     tag: c.maxtag,
                 }),
             )
         }
-        Message::ReadAnswer { request, tag } => {
-            let wait = c.wait;
-            started_step(
-                waiting_node(c, read_wait(wait, c.request, s, request, tag)),
-                s,
-                Sent::Nothing,
-            )
-        }
+        Message::ReadAnswer { request, tag } => started_step(
+            waiting_node(c, read_wait(c.wait, c.request, s, request, tag)),
+            s,
+            Sent::Nothing,
+        ),
         Message::Write { request, tag } => {
             started_step(
                 raised_node(c, tag),
@@ -120,21 +123,16 @@ pub fn react_to(c: Node, s: usize, m: Message, v: View) -> Step
                 write_sent(c.maxtag < tag, request, tag),
             )
         }
-        Message::WriteAnswer { request, tag } => {
-            let wait = c.wait;
-            started_step(
-                waiting_node(c, write_wait(wait, c.request, s, request, tag)),
-                s,
-                Sent::Nothing,
-            )
-        }
-        Message::Echo { tag } => {
-            started_step(
-                raised_node(c, tag),
-                s,
-                sent_where(c.maxtag < tag, Message::Echo { tag: tag }),
-            )
-        }
+        Message::WriteAnswer { request, tag } => started_step(
+            waiting_node(c, write_wait(c.wait, c.request, s, request, tag)),
+            s,
+            Sent::Nothing,
+        ),
+        Message::Echo { tag } => started_step(
+            raised_node(c, tag),
+            s,
+            sent_where(c.maxtag < tag, m),
+        ),
         Message::Value {
             tag,
             writer,
@@ -142,14 +140,7 @@ pub fn react_to(c: Node, s: usize, m: Message, v: View) -> Step
         } => started_step(
             received_node(c, s, writer, tag, report),
             s,
-            sent_where(
-                tag_of(c.last, writer) < tag,
-                Message::Value {
-                    tag: tag,
-                    writer: writer,
-                    report: report,
-                },
-            ),
+            sent_where(tag_of(c.last, writer) < tag, m),
         ),
         Message::Good { tag } => started_step(kept_node(c, tag, v), s, Sent::Nothing),
     }
