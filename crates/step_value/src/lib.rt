@@ -22,6 +22,7 @@ use view::View;
 use wire::Message;
 
 // A message m from node s, with the view of a good message.
+#[tactic(auto, unfolding(step::specs::Move::message_step))]
 pub fn message_step(f: usize, c: Node, s: usize, m: Message, v: View) -> Step
     requires { (usable c ≡ true) × (1 ≤ s) × (s ≤ c.n) × (lawful c.n m v ≡ true) }
     ensures { result ≡ message_step f c s m v }
@@ -30,26 +31,26 @@ pub fn message_step(f: usize, c: Node, s: usize, m: Message, v: View) -> Step
 }
 
 // An operation is begun: its read goes out, with the next request number.
+#[tactic(auto, unfolding(step::specs::Move::begun))]
 fn begun_step(c: Node, o: Operation) -> Step
     requires { c.request ≤ limit }
     ensures { result ≡ begun c o }
 {
-    let read = Message::Read {
-        request: c.request + 1,
-    };
+    let request = c.request + 1;
     let wait = Wait::Reading {
         operation: o,
         answered: 0,
         largest: 0,
     };
     started_step(
-        set_wait(c, c.request + 1, wait, c.atround),
+        set_wait(c, request, wait, c.atround),
         c.own,
-        Sent::One(read),
+        Sent::One(Message::Read { request }),
     )
 }
 
 // The begin of an operation at a node that has none open and request numbers enough.
+#[tactic(auto, unfolding(step::specs::Move::begin_step))]
 pub fn begin_step(f: usize, c: Node, o: Operation) -> Step
     requires { (usable c ≡ true) × (is_open c.wait ≡ false) × (full c ≡ false) }
     ensures { result ≡ begin_step f c o }
@@ -63,16 +64,7 @@ pub fn is_stale_message(c: Node, s: usize, m: Message) -> bool
     ensures { result ≡ stale_message c s m }
 {
     match m {
-        Message::Read { request: _ } => false,
-        Message::ReadAnswer { request: _, tag: _ } => false,
-        Message::Write { request: _, tag: _ } => false,
-        Message::WriteAnswer { request: _, tag: _ } => false,
-        Message::Echo { tag: _ } => false,
-        Message::Value {
-            tag,
-            writer,
-            report: _,
-        } => is_stale(c, s, writer, tag),
-        Message::Good { tag: _ } => false,
+        Message::Value { tag, writer, .. } => is_stale(c, s, writer, tag),
+        _ => false,
     }
 }

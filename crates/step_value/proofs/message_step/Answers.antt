@@ -1,10 +1,8 @@
 -- `step_value::message_step` meets its contract. Assumes nothing.
 use borrow.Author.Rules.{rules}
-use mathlib.Core.Path.{ap, ◌∙◌}
 use Rattle.table.proofs.Laws.{length-mapped}
 use Rattle.record.proofs.Parts.{parts, usable-of}
 use Rattle.step.specs.Claims.{Long}
-use Rattle.step.specs.Move.{move_on, message_step}
 use Rattle.step.proofs.Handled.{react-parts}
 use Rattle.step_value.proofs.message_step.Goals as goal
 
@@ -22,7 +20,3 @@ move_on-requires c = let a = c.args in
     } in
     rw c.react_to.ensures (usable-of _ (react-parts a.c a.s a.m a.v (parts _ p.0) long
     p.1 p.2 p.3))
-
-pub returns : goal.returns
-unfolding message_step
-returns c = c.move_on.ensures ∙ ap (move_on c.args.f) c.react_to.ensures
