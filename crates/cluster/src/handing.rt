@@ -38,8 +38,7 @@ fn handle_first(b: &[u8], n: usize, a: usize, c: usize, m: Message, r: &mut [u8]
         × (r.new ≡ record_bytes (react_first n a c m r.old b.now).node) }
 {
     let s = first_at(b, a, c);
-    let end = GOOD_HEAD + ENTRY * n;
-    react_in(r, n, a, m, &s[GOOD_HEAD..end])
+    react_in(r, n, a, m, &s[GOOD_HEAD..GOOD_HEAD + ENTRY * n])
 }
 
 // Hands the oldest message from a, which is m, to node c, or refuses with 9, 10, 11. `r` is the room for a copy of the
@@ -69,8 +68,7 @@ fn hand_on<'a>(
     let p = plan_in(r, n, faults_in(b));
     let e = follow_in(r, n, a, sent, p);
     let room = settle_delivery(b, n, a, c, r, e.outbox, x);
-    let ending = e.ending;
-    answered(room, is_cut(x), ending, e.view)
+    answered(room, is_cut(x), e.ending, e.view)
 }
 
 // Node c handles the oldest message from a, which is m, where its record lies, and lets out what it sends.
@@ -92,8 +90,7 @@ fn step_here(b: &mut [u8], n: usize, a: usize, c: usize, m: Message, x: Extent) 
     }
     let e = follow_at(b, n, a, c, sent, p);
     release(b, n, a, c, e.outbox, from, x);
-    let ending = e.ending;
-    given(is_cut(x), ending, e.view)
+    given(is_cut(x), e.ending, e.view)
 }
 
 // Hands it on a copy of the record, which is made here.
@@ -134,7 +131,8 @@ pub(crate) fn hand_over(b: &mut [u8], n: usize, a: usize, c: usize, m: Message, 
         (hand_over n a c x b.old (first (channel b.old a c)) m) }
 {
     if has_spare(b, n, c) {
-        return hand_here(b, n, a, c, m, x);
+        hand_here(b, n, a, c, m, x)
+    } else {
+        hand_apart(b, n, a, c, m, x)
     }
-    hand_apart(b, n, a, c, m, x)
 }

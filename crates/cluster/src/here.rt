@@ -13,7 +13,7 @@ ghost use Rattle.step.specs.Stale.{stale_message, writer_within};
 ghost use Rattle.step.specs.Step.{started};
 ghost use Rattle.step.specs.declared.Sent.TheVariants.{One};
 ghost use Rattle.region.specs.Channel.{first};
-ghost use Rattle.region.specs.Record.{record_bytes};
+ghost use Rattle.region.specs.Record.{record_size, record_bytes};
 ghost use Rattle.block.specs.Block.{record_in, take_off};
 ghost use Rattle.layout.specs.Layout.{cluster_size, block, node, channel, on_block};
 ghost use Rattle.react_bytes.specs.Handled.{view_there};
@@ -40,14 +40,21 @@ fn record_at(c: usize) -> usize
     BLOCKS_PLACE + BLOCK * (c - 1) + RECORD_PLACE
 }
 
+// The record of node c.
+fn record_here(b: &[u8], c: usize) -> &[u8]
+    requires { (1 ≤ c) × (c ≤ nodes) × (cluster_size c ≤ length b.now) }
+    ensures { (length result.now ≡ record_size) × (result.now ≡ record_in (block b.now c)) }
+{
+    let at = record_at(c);
+    &b[at..at + RECORD]
+}
+
 // Whether an operation is open at node c (refusal 5).
 pub(crate) fn is_open_at(b: &[u8], c: usize) -> bool
     requires { (1 ≤ c) × (c ≤ nodes) × (cluster_size c ≤ length b.now) }
     ensures { result ≡ is_open (node b.now c).wait }
 {
-    let at = record_at(c);
-    let end = at + RECORD;
-    is_open_in(&b[at..end])
+    is_open_in(record_here(b, c))
 }
 
 // Whether fewer than five request numbers are left at node c (refusal 6).
@@ -55,9 +62,7 @@ pub(crate) fn is_full_at(b: &[u8], c: usize) -> bool
     requires { (1 ≤ c) × (c ≤ nodes) × (cluster_size c ≤ length b.now) }
     ensures { result ≡ full (node b.now c) }
 {
-    let at = record_at(c);
-    let end = at + RECORD;
-    is_full_in(&b[at..end])
+    is_full_in(record_here(b, c))
 }
 
 // What node c will send when it begins an operation.
@@ -65,9 +70,7 @@ pub(crate) fn asked_at(b: &[u8], c: usize) -> Sent
     requires { (1 ≤ c) × (c ≤ nodes) × (cluster_size c ≤ length b.now) × ((node b.now c).request ≤ limit) }
     ensures { result ≡ One (Read ((node b.now c).request + 1)) }
 {
-    let at = record_at(c);
-    let end = at + RECORD;
-    asked_in(&b[at..end])
+    asked_in(record_here(b, c))
 }
 
 // Node c begins an operation.
@@ -77,8 +80,7 @@ pub(crate) fn ask_at(b: &mut [u8], c: usize, o: Operation)
         ≡ put b.old (record_at c) (record_bytes (begun (node b.old c) o).node) }
 {
     let at = record_at(c);
-    let end = at + RECORD;
-    ask_in(&mut b[at..end], o);
+    ask_in(&mut b[at..at + RECORD], o);
 }
 
 // Whether a message from a is refused with 9 by node c.
@@ -87,9 +89,7 @@ pub(crate) fn is_stale_at(b: &[u8], a: usize, c: usize, m: Message) -> bool
         × (writer_within nodes m ≡ true) }
     ensures { result ≡ stale_message (node b.now c) a m }
 {
-    let at = record_at(c);
-    let end = at + RECORD;
-    is_stale_in(&b[at..end], a, m)
+    is_stale_in(record_here(b, c), a, m)
 }
 
 // Node c handles a message from a; `v` has the view of a good one. What is sent is the answer.
@@ -101,8 +101,7 @@ fn react_at(b: &mut [u8], n: usize, a: usize, c: usize, m: Message, v: &[u8]) ->
         (record_bytes (react (node b.old c) a m (view_of n v.now)).node)) }
 {
     let at = record_at(c);
-    let end = at + RECORD;
-    react_in(&mut b[at..end], n, a, m, v)
+    react_in(&mut b[at..at + RECORD], n, a, m, v)
 }
 
 // The bytes of the view in the oldest message from a to c: the first n entries of the answer.
@@ -113,8 +112,7 @@ fn first_view(b: &[u8], n: usize, a: usize, c: usize) -> [u8; VIEW]
 {
     let mut v = [0u8; VIEW];
     let s = first_at(b, a, c);
-    let end = GOOD_HEAD + ENTRY * n;
-    put_bytes(&mut v, 0, &s[GOOD_HEAD..end]);
+    put_bytes(&mut v, 0, &s[GOOD_HEAD..GOOD_HEAD + ENTRY * n]);
     v
 }
 
@@ -126,15 +124,14 @@ pub(crate) fn take_first(b: &mut [u8], n: usize, a: usize, c: usize, m: Message)
         × (b.new ≡ put (on_block c (take_off a) b.old) (record_at c)
         (record_bytes (react_to n a c m b.old).node)) }
 {
-    let size = ENTRY * n;
     if is_good(m) {
         let v = first_view(b, n, a, c);
         take_off_at(b, a, c);
-        return react_at(b, n, a, c, m, &v[..size]);
+        react_at(b, n, a, c, m, &v[..ENTRY * n])
+    } else {
+        take_off_at(b, a, c);
+        react_at(b, n, a, c, m, &[])
     }
-    let none = [0u8; 1];
-    take_off_at(b, a, c);
-    react_at(b, n, a, c, m, &none[..0])
 }
 
 // What comes next at node c.
@@ -143,9 +140,7 @@ pub(crate) fn plan_at(b: &[u8], n: usize, f: usize, c: usize) -> Plan
         × (f < n) × (usable (node b.now c) ≡ true) }
     ensures { Leads f result (node b.now c) }
 {
-    let at = record_at(c);
-    let end = at + RECORD;
-    plan_in(&b[at..end], n, f)
+    plan_in(record_here(b, c), n, f)
 }
 
 // A plan is followed at node c, after `sent` went to node a.
@@ -158,6 +153,5 @@ pub(crate) fn follow_at(b: &mut [u8], n: usize, a: usize, c: usize, sent: Sent, 
         (record_bytes (followed p (started (node b.old c) a sent)).node)) }
 {
     let at = record_at(c);
-    let end = at + RECORD;
-    follow_in(&mut b[at..end], n, a, sent, p)
+    follow_in(&mut b[at..at + RECORD], n, a, sent, p)
 }

@@ -26,7 +26,6 @@ use layout::{
     BLOCKS_PLACE, FAULTS_PLACE, STATED_PLACE, first_at, halt_at, is_fit, is_node, is_sound,
     keep_at, stopped_at, waiting_at,
 };
-use octets::and;
 use outgoing::{Extent, is_cut};
 use record::{Operation, blank_node};
 use region::channel::index;
@@ -41,10 +40,8 @@ fn blank_blocks(b: &mut [u8], n: usize, f: usize)
     requires { (n ≤ nodes) × (length b.old ≡ cluster_size n) }
     ensures { b.new ≡ up_to n (λ i. on_block (i + 1) (keep_record (blank n f (i + 1)))) b.old }
 {
-    let mut i = 0;
-    while i < n {
-        i += 1;
-        keep_at(b, i, blank_node(n, f, i));
+    for i in 0..n {
+        keep_at(b, i + 1, blank_node(n, f, i + 1));
     }
 }
 
@@ -58,7 +55,7 @@ pub fn fresh(n: usize, f: usize, b: &mut [u8]) -> Reply
     if b.len() != BLOCKS_PLACE + BLOCK * n {
         return refused(12);
     }
-    octets::fill(b, 0);
+    b.fill(0);
     b[STATED_PLACE] = n as u8;
     b[FAULTS_PLACE] = f as u8;
     blank_blocks(b, n, f);
@@ -100,7 +97,7 @@ fn admission(b: &[u8], a: usize, c: usize) -> u8
         return 2;
     }
     let n = index(b[STATED_PLACE]);
-    if !and(is_node(n, a), is_node(n, c)) {
+    if !(is_node(n, a) && is_node(n, c)) {
         return 3;
     }
     if stopped_at(b, c) {

@@ -1,7 +1,8 @@
 -- `cluster::admission` meets its contract.
 use borrow.Author.Rules.{rules}
-use mathlib.Core.Path.{sym, ap₂, ◌∙◌}
+use mathlib.Core.Path.{◌≡◌, sym, ◌∙◌}
 use Rattle.octets.specs.Test.{both}
+use Rattle.layout.specs.Layout.{is_node}
 use Rattle.layout.proofs.Check.{fits-some}
 use Rattle.events.proofs.Admitted.{is-unfit, is-unsound, is-nowhere, has_block, is-stopped, is-admitted}
 use Rattle.cluster.proofs.admission.Goals as goal
@@ -24,34 +25,34 @@ pub bounds-b-0 : goal.bounds-b-0
 bounds-b-0 c =
     let h = fits-some c.args.b.now (sym c.is_fit.ensures ∙ c.if-not-is_fit.false) in search rules
 
-pub returns-then-not-and : goal.returns-then-not-and
-returns-then-not-and c =
+pub returns-then-not-is_node : goal.returns-then-not-is_node
+returns-then-not-is_node c =
     let a = c.args in
-    let test = c.and.ensures ∙ ap₂ both c.is_node.ensures c.is_node-2.ensures in
+    let test : c.if-is_node.value ≡ both (is_node c.index-n.result a.a) (is_node c.index-n.result a.c) = search rules in
     is-nowhere a.a a.c a.b.now c.index-n.result c.index-n.ensures.0
     (sym c.is_fit.ensures ∙ c.if-not-is_fit.false) (sym c.is_sound.ensures ∙ c.if-not-is_sound.false)
-    (sym test ∙ c.if-not-and.true)
+    (sym test ∙ c.if-not-is_node.true)
 
 pub stopped_at-requires : goal.stopped_at-requires
 stopped_at-requires c =
     let a = c.args in
-    let test = c.and.ensures ∙ ap₂ both c.is_node.ensures c.is_node-2.ensures in
+    let test : c.if-is_node.value ≡ both (is_node c.index-n.result a.a) (is_node c.index-n.result a.c) = search rules in
     has_block a.a a.c a.b.now c.index-n.result c.index-n.ensures.0
     (sym c.is_fit.ensures ∙ c.if-not-is_fit.false) (sym c.is_sound.ensures ∙ c.if-not-is_sound.false)
-    (sym test ∙ c.if-not-and.false)
+    (sym test ∙ c.if-not-is_node.false)
 
 pub returns-then-stopped_at : goal.returns-then-stopped_at
 returns-then-stopped_at c =
     let a = c.args in
-    let test = c.and.ensures ∙ ap₂ both c.is_node.ensures c.is_node-2.ensures in
+    let test : c.if-is_node.value ≡ both (is_node c.index-n.result a.a) (is_node c.index-n.result a.c) = search rules in
     is-stopped a.a a.c a.b.now c.index-n.result c.index-n.ensures.0
     (sym c.is_fit.ensures ∙ c.if-not-is_fit.false) (sym c.is_sound.ensures ∙ c.if-not-is_sound.false)
-    (sym test ∙ c.if-not-and.false) (sym c.stopped_at.ensures ∙ c.if-stopped_at.true)
+    (sym test ∙ c.if-not-is_node.false) (sym c.stopped_at.ensures ∙ c.if-stopped_at.true)
 
 pub returns : goal.returns
 returns c =
     let a = c.args in
-    let test = c.and.ensures ∙ ap₂ both c.is_node.ensures c.is_node-2.ensures in
+    let test : c.if-is_node.value ≡ both (is_node c.index-n.result a.a) (is_node c.index-n.result a.c) = search rules in
     is-admitted a.a a.c a.b.now c.index-n.result c.index-n.ensures.0
     (sym c.is_fit.ensures ∙ c.if-not-is_fit.false) (sym c.is_sound.ensures ∙ c.if-not-is_sound.false)
-    (sym test ∙ c.if-not-and.false) (sym c.stopped_at.ensures ∙ c.if-stopped_at.false)
+    (sym test ∙ c.if-not-is_node.false) (sym c.stopped_at.ensures ∙ c.if-stopped_at.false)

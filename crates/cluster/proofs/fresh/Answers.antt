@@ -44,22 +44,22 @@ overflow_cast-b-2 c =
 
 pub bounds-b-1 : goal.bounds-b-1
 bounds-b-1 c =
-    let long = length-set c.fill.new.b stated_place
-    c.args.n ∙ c.fill.auto.b
+    let long = length-set c.fill.new.self stated_place
+    c.args.n ∙ c.fill.auto.self
     ∙ c.if-b-n.false in search rules
 
 pub blank_blocks-requires : goal.blank_blocks-requires
 blank_blocks-requires c =
     let h = can-be c.args.n c.args.f (sym c.can_be.ensures ∙ c.if-not-can_be.false) in (
       h.1,
-      started-length c.args.n c.args.f c.args.b.now c.fill.new.b ∙ c.fill.auto.b
+      started-length c.args.n c.args.f c.args.b.now c.fill.new.self ∙ c.fill.auto.self
           ∙ c.if-b-n.false,
     )
 
 pub shape_of-b : goal.shape_of-b
 shape_of-b c =
     c.blank_blocks.auto.b ∙ started-length c.args.n c.args.f
-    c.args.b.now c.fill.new.b ∙ c.fill.auto.b
+    c.args.b.now c.fill.new.self ∙ c.fill.auto.self
 
 pub returns : goal.returns
 returns c =
@@ -68,4 +68,4 @@ returns c =
     gives c.given.result c.blank_blocks.new.b (fresh-is a.n a.f a.b.now s
     c.if-b-n.false)
     c.given.ensures.0 (c.given.ensures.1 ∙ c.absent.ensures)
-    (fresh-bytes a.n a.f a.b.now c.fill.ensures c.blank_blocks.ensures)
+    (fresh-bytes a.n a.f a.b.now (search rules) c.blank_blocks.ensures)

@@ -15,5 +15,5 @@ hand_apart-requires c = let p = c.requires in (p.0, p.1, p.2)
 pub returns-then-has_spare : goal.returns-then-has_spare
 returns-then-has_spare c = c.hand_here.ensures
 
-pub returns : goal.returns
-returns c = c.hand_apart.ensures
+pub returns-else-has_spare : goal.returns-else-has_spare
+returns-else-has_spare c = c.hand_apart.ensures

@@ -50,8 +50,8 @@ returns-then-is_good c =
           c.take_off_at.ensures does,
     )
 
-pub react_at-requires-2 : goal.react_at-requires-2
-react_at-requires-2 c =
+pub react_at-requires-else-is_good : goal.react_at-requires-else-is_good
+react_at-requires-else-is_good c =
     let a = c.args in
     let p = c.requires in (
       p.0,
@@ -59,27 +59,27 @@ react_at-requires-2 c =
       p.2,
       p.3,
       p.4,
-      omega (arith, c.take_off_at-2.auto.b, p.5),
+      omega (arith, c.take_off_at-else-is_good.auto.b, p.5),
       no-view a.n a.m [] (sym c.is_good.ensures ∙ c.if-is_good.false),
       p.6,
     )
 
-pub returns : goal.returns
-returns c =
+pub returns-else-is_good : goal.returns-else-is_good
+returns-else-is_good c =
     let a = c.args in
     let p = c.requires in
     let b = a.b.now in
-    let b' = c.take_off_at-2.new.b in
+    let b' = c.take_off_at-else-is_good.new.b in
     let same : record_of (record_in (block b' a.c)) ≡ record_of (record_in (block b a.c))
-    = ap record_of (ap (λ (t : List ℕ). record_in (block t a.c)) c.take_off_at-2.ensures
+    = ap record_of (ap (λ (t : List ℕ). record_in (block t a.c)) c.take_off_at-else-is_good.ensures
     ∙ record-taken b a.a a.c p.1 p.2 p.3 p.5) in
     let does : react (record_of (record_in (block b' a.c))) a.a a.m (view_of a.n [])
     ≡ react_to a.n a.a a.c a.m b
     = ap (λ (d : Node). react d a.a a.m (view_of a.n [])) same
     ∙ react-blind (record_of (record_in (block b a.c))) a.a a.m (view_of a.n [])
     (view_of a.n (view_at a.n (first (channel b a.a a.c)))) (sym c.is_good.ensures ∙ c.if-is_good.false) in (
-      c.react_at-2.ensures.0 ∙ ap (λ (s : Step). s.outbox.handler) does,
-      c.react_at-2.ensures.1 ∙ ap₂ (λ (t : List ℕ) (s : Step). put t (record_at a.c) (record_bytes
+      c.react_at-else-is_good.ensures.0 ∙ ap (λ (s : Step). s.outbox.handler) does,
+      c.react_at-else-is_good.ensures.1 ∙ ap₂ (λ (t : List ℕ) (s : Step). put t (record_at a.c) (record_bytes
           s.node))
-          c.take_off_at-2.ensures does,
+          c.take_off_at-else-is_good.ensures does,
     )
