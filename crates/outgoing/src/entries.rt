@@ -10,7 +10,6 @@ ghost use Rattle.wire.specs.declared.Message.TheVariants.{Good};
 ghost use Rattle.region.specs.Channel.{slot_size};
 ghost use Rattle.outgoing.specs.Entries.{is_answer, addressed, entries_of, entries, go_to, slot};
 
-use octets::least;
 use region::places::SLOT;
 use step::{Outbox, Sent};
 use view::{ENTRY, VIEW, View};
@@ -23,8 +22,7 @@ fn write_held(n: usize, tag: u64, v: View, s: &mut [u8])
 {
     let mut w = [0u8; VIEW];
     view::write_view(n, v, &mut w);
-    let end = ENTRY * n;
-    wire_put::good(s, tag, &w[..end]);
+    wire_put::good(s, tag, &w[..ENTRY * n]);
 }
 
 // Writes a message that is known to be allowed, with the view that a good message carries, at the front of s. No other
@@ -55,26 +53,14 @@ pub fn slot_of(n: usize, m: Message, v: View) -> [u8; SLOT]
 pub fn is_answer(m: Message) -> bool
     ensures { result ≡ is_answer m }
 {
-    match m {
-        Message::Read { request: _ } => false,
-        Message::ReadAnswer { request: _, tag: _ } => true,
-        Message::Write { request: _, tag: _ } => false,
-        Message::WriteAnswer { request: _, tag: _ } => true,
-        Message::Echo { tag: _ } => false,
-        Message::Value {
-            tag: _,
-            writer: _,
-            report: _,
-        } => false,
-        Message::Good { tag: _ } => false,
-    }
+    matches!(m, Message::ReadAnswer { .. } | Message::WriteAnswer { .. })
 }
 
 // The difference, and 0 where it would be below 0.
 pub fn less(x: usize, y: usize) -> usize
     ensures { result ≡ x - y }
 {
-    if y <= x { x - y } else { 0 }
+    x.saturating_sub(y)
 }
 
 // How many of `left` entries are left after those of a message.
@@ -82,9 +68,9 @@ pub fn left_after(n: usize, m: Message, left: usize) -> usize
     ensures { (a : ℕ) (v : View) → result ≡ left - length (addressed n a v m) }
 {
     if is_answer(m) {
-        less(left, 1)
+        left.saturating_sub(1)
     } else {
-        less(left, n)
+        left.saturating_sub(n)
     }
 }
 
@@ -103,13 +89,13 @@ fn message_to(b: usize, n: usize, a: usize, m: Message, left: usize) -> usize
     requires { (1 ≤ b) × (b ≤ n) }
     ensures { (result ≤ 1) × ((v : View) → result ≡ go_to b (take left (addressed n a v m))) }
 {
-    if is_answer(m) {
-        if a == b {
-            return least(left, 1);
-        }
-        return 0;
+    if !is_answer(m) {
+        usize::from(b <= left)
+    } else if a == b {
+        left.min(1)
+    } else {
+        0
     }
-    if b <= left { 1 } else { 0 }
 }
 
 fn sent_to(b: usize, n: usize, a: usize, s: Sent, left: usize) -> usize
@@ -129,12 +115,9 @@ pub fn entries_to(b: usize, n: usize, a: usize, o: Outbox, left: usize) -> usize
     requires { (1 ≤ b) × (b ≤ n) }
     ensures { (result ≤ 6) × (result ≡ go_to b (take left (entries n a o))) }
 {
-    let handler = o.handler;
-    let reading = o.reading;
-    let comparing = o.comparing;
-    let second = left_past(n, handler, left);
-    let third = left_past(n, reading, second);
-    sent_to(b, n, a, handler, left)
-        + sent_to(b, n, a, reading, second)
-        + sent_to(b, n, a, comparing, third)
+    let second = left_past(n, o.handler, left);
+    let third = left_past(n, o.reading, second);
+    sent_to(b, n, a, o.handler, left)
+        + sent_to(b, n, a, o.reading, second)
+        + sent_to(b, n, a, o.comparing, third)
 }

@@ -19,10 +19,7 @@ pub enum Extent {
 pub fn is_cut(x: Extent) -> bool
     ensures { result ≡ is_cut x }
 {
-    match x {
-        Extent::Whole => false,
-        Extent::Cut(_) => true,
-    }
+    matches!(x, Extent::Cut(_))
 }
 
 // No step sends one node more messages than this: it has three parts of at most two.

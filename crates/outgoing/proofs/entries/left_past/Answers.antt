@@ -1,14 +1,7 @@
 -- `outgoing::entries::left_past` meets its contract.
-use Prim.Native.Nat.{◌-◌}
-use mathlib.Core.List.{List}
+use Rattle.std.proofs.Common.{◌-◌, sym, ap, ◌∙◌, List, length}
 use Rattle.outgoing.specs.Entries.{Entry}
 use Rattle.outgoing.proofs.Laws.{nothing_left, entries-one, past_two}
-use Prim.Native.Nat.{◌-◌}
-use mathlib.Core.Path.{sym, ap, ◌∙◌}
-use mathlib.Core.List.{List}
-use lib.ListN.{length}
-use Rattle.outgoing.specs.Entries.{Entry}
-use Rattle.outgoing.proofs.Laws.{nothing_left, entries-one}
 use Rattle.outgoing.proofs.entries.left_past.Goals as goal
 
 pub returns-in-Nothing : goal.returns-in-Nothing

@@ -1,10 +1,5 @@
 -- `outgoing::entries::sent_to` meets its contract.
-use mathlib.Core.Path.{sym, ap, ◌∙◌}
-use Rattle.outgoing.specs.Entries.{Entry, go_to}
-use native.Mathlib.Omega.{arith}
-use mathlib.Core.Path.{sym, ap, ◌∙◌}
-use mathlib.Core.List.{List}
-use lib.ListN.{take}
+use Rattle.std.proofs.Common.{sym, ap, ◌∙◌, List, take, arith}
 use Rattle.outgoing.specs.Entries.{Entry, go_to}
 use Rattle.outgoing.proofs.Laws.{nothing-to, entries-one, two_to}
 use Rattle.outgoing.proofs.entries.sent_to.Goals as goal

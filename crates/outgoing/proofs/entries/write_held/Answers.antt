@@ -1,26 +1,10 @@
 -- `outgoing::entries::write_held` meets its contract.
-use Prim.Native.Nat.{◌≤◌}
 use native.Mathlib.Omega.{arith}
-use mathlib.Core.Path.{sym}
-use lib.ListN.{length}
-use lib.Seq.{length-take-le}
 use Rattle.view.specs.Size.{view_size}
 use Rattle.view.specs.View.{view_bytes}
 use Rattle.view.proofs.ViewBytes.{length-view_bytes}
 use Rattle.outgoing.proofs.Slot.{front-put, good-put}
 use Rattle.outgoing.proofs.entries.write_held.Goals as goal
-
-pub slice_bounds-good-end : goal.slice_bounds-good-end
-slice_bounds-good-end c =
-    let n = c.args.n in
-    let l : view_size n ≤ length c.write_view.new.out = omega (arith, c.write_view.auto.out) in
-    sym (length-take-le (view_size n) c.write_view.new.out l)
-
-pub good-requires : goal.good-requires
-good-requires c =
-    let n = c.args.n in
-    let l : view_size n ≤ length c.write_view.new.out = omega (arith, c.write_view.auto.out) in
-    omega (arith, length-take-le (view_size n) c.write_view.new.out l)
 
 pub returns : goal.returns
 returns c =

@@ -5,17 +5,10 @@ use mathlib.Core.Path.{ap, ◌∙◌}
 use mathlib.Core.List.{List, []}
 use Rattle.octets.specs.Bytes.{put}
 use Rattle.view.specs.View.{view_bytes}
-use Rattle.wire.proofs.Numbers.{size-most}
 use Rattle.wire.proofs.Short.{not_good}
 use Rattle.wire_put.proofs.Allowed.{any-view, allowed-short}
 use Rattle.outgoing.proofs.Slot.{slot-fits}
 use Rattle.outgoing.proofs.entries.write_slot.Goals as goal
-
-pub write_held-requires : goal.write_held-requires
-write_held-requires c =
-    let x = c.args in
-    let p = c.requires in
-    (size-most x.n p.0, p.1)
 
 pub short-requires : goal.short-requires
 short-requires c =
@@ -24,9 +17,6 @@ short-requires c =
     let same = any-view x.n x.m [] (view_bytes x.n x.v) (not_good x.m c.in_default.not-Good) in
     let ok = same.1 ∙ p.2 in
     (allowed-short x.n x.m p.0 ok, omega (arith, slot-fits x.n x.m [] p.0 ok, p.1))
-
-pub returns-in-Good : goal.returns-in-Good
-returns-in-Good c = rw c.in-Good.is c.write_held.ensures
 
 pub returns-in_default : goal.returns-in_default
 returns-in_default c =
