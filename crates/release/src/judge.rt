@@ -7,13 +7,13 @@ ghost use Rattle.outgoing.specs.Entries.{entries};
 ghost use Rattle.outgoing.specs.Room.{room_before, spare};
 
 use layout::{stopped_at, waiting_at};
-use octets::and;
 use outgoing::SENT_MOST;
-use outgoing::entries::{entries_to, less};
+use outgoing::entries::entries_to;
 use region::places::CAPACITY;
 use step::Outbox;
 
 // Whether node k can hold what c lets out to it.
+#[tactic(auto, unfolding(outgoing::specs::Room::room_before))]
 fn room_at(
     b: &[u8],
     n: usize,
@@ -34,12 +34,10 @@ fn room_at(
     let waiting = waiting_at(b, c, k);
     let more = entries_to(k, n, a, o, left);
     if k == c {
-        if cut {
-            return true;
-        }
-        return less(waiting, gone) + more <= CAPACITY;
+        cut || waiting.saturating_sub(gone) + more <= CAPACITY
+    } else {
+        waiting + more <= CAPACITY
     }
-    waiting + more <= CAPACITY
 }
 
 // Whether every node can hold what c lets out to it.
@@ -56,13 +54,7 @@ pub(crate) fn has_room(
     requires { (n ≤ nodes) × (1 ≤ c) × (c ≤ n) × (length b.now ≡ cluster_size n) }
     ensures { result ≡ all n (room_before cut gone c (take left (entries n a o)) b.now) }
 {
-    let mut ok = true;
-    let mut k = 0;
-    while k < n {
-        k += 1;
-        ok = and(room_at(b, n, a, c, cut, gone, o, left, k), ok);
-    }
-    ok
+    (1..=n).all(|k| room_at(b, n, a, c, cut, gone, o, left, k))
 }
 
 // Whether every channel from c can hold whatever a step of c sends, so that 11 does not come up.
@@ -70,11 +62,10 @@ pub fn has_spare(b: &[u8], n: usize, c: usize) -> bool
     requires { (n ≤ nodes) × (1 ≤ c) × (c ≤ n) × (length b.now ≡ cluster_size n) }
     ensures { result ≡ spare n c b.now }
 {
+    // A test without branches: the blocks lie far apart, and no count waits for the one before it.
     let mut ok = true;
-    let mut k = 0;
-    while k < n {
-        k += 1;
-        ok = and(waiting_at(b, c, k) + SENT_MOST <= CAPACITY, ok);
+    for k in 0..n {
+        ok &= waiting_at(b, c, k + 1) + SENT_MOST <= CAPACITY;
     }
     ok
 }

@@ -36,18 +36,14 @@ pub fn may_cut(b: &[u8], n: usize, cut: bool) -> bool
     requires { (n ≤ nodes) × (length b.now ≡ cluster_size n) }
     ensures { result ≡ pick cut (may_stop n b.now) true }
 {
-    if cut {
-        let f = faults_in(b);
-        return stopped_nodes(b, n) < f;
-    }
-    true
+    !cut || stopped_nodes(b, n) < faults_in(b)
 }
 
 // How many messages leave the channel from c to itself, where one from a is taken off.
 fn gone(a: usize, c: usize) -> usize
     ensures { result ≡ gone_in true a c }
 {
-    if a == c { 1 } else { 0 }
+    usize::from(a == c)
 }
 
 fn halt_if(b: &mut [u8], n: usize, c: usize, cut: bool)

@@ -16,7 +16,6 @@ ghost use Rattle.outgoing.specs.Forward.{ReceivedAt};
 use decide::is_forward;
 use layout::forward::forward_at;
 use layout::receive_at;
-use octets::least;
 use outgoing::entries::{is_answer, left_after, left_past, slot_of};
 use step::{Outbox, Sent};
 use view::View;
@@ -29,18 +28,12 @@ fn let_message(b: &mut [u8], n: usize, a: usize, c: usize, m: Message, v: View, 
     ensures { b.new ≡ let_out n c (take left (addressed n a v m)) b.old }
 {
     let s = slot_of(n, m, v);
-    if is_answer(m) {
-        if left < 1 {
-            return;
+    if !is_answer(m) {
+        for k in 0..left.min(n) {
+            receive_at(b, c, k + 1, &s);
         }
+    } else if 0 < left {
         receive_at(b, c, a, &s);
-        return;
-    }
-    let upto = least(left, n);
-    let mut k = 0;
-    while k < upto {
-        k += 1;
-        receive_at(b, c, k, &s);
     }
 }
 
@@ -68,11 +61,8 @@ fn let_forward(b: &mut [u8], n: usize, c: usize, from: usize, left: usize)
     ensures { b.new ≡ up_to (min left n)
         (λ i. on_block (i + 1) (receive c (slot_from b.old from value_size))) b.old }
 {
-    let upto = least(left, n);
-    let mut k = 0;
-    while k < upto {
-        k += 1;
-        forward_at(b, from, VALUE, c, k);
+    for k in 0..left.min(n) {
+        forward_at(b, from, VALUE, c, k + 1);
     }
 }
 
@@ -93,9 +83,9 @@ pub(crate) fn let_handled(
 {
     if is_forward(s) {
         let_forward(b, n, c, from, left);
-        return;
+    } else {
+        let_sent(b, n, a, c, s, v, left);
     }
-    let_sent(b, n, a, c, s, v, left);
 }
 
 // The first `left` entries of a step.
@@ -112,12 +102,9 @@ pub(crate) fn let_out(
         × ReceivedAt n a c o.view o.handler b.old from × AllLawful n o.view (messages o) }
     ensures { b.new ≡ let_out n c (take left (entries n a o)) b.old }
 {
-    let handler = o.handler;
-    let reading = o.reading;
-    let comparing = o.comparing;
-    let second = left_past(n, handler, left);
-    let third = left_past(n, reading, second);
-    let_handled(b, n, a, c, handler, o.view, from, left);
-    let_sent(b, n, a, c, reading, o.view, second);
-    let_sent(b, n, a, c, comparing, o.view, third);
+    let second = left_past(n, o.handler, left);
+    let third = left_past(n, o.reading, second);
+    let_handled(b, n, a, c, o.handler, o.view, from, left);
+    let_sent(b, n, a, c, o.reading, o.view, second);
+    let_sent(b, n, a, c, o.comparing, o.view, third);
 }

@@ -25,10 +25,6 @@ returns-then-not-has_room c =
     c.has_room.ensures (record_of a.r.now) (heard-read a.r.now) in
     (sym c.if-not-has_room.true ∙ j, refl)
 
-pub keep_record_at-requires : goal.keep_record_at-requires
-keep_record_at-requires c =
-    let p = c.requires in (p.3, search rules, p.6, p.7)
-
 pub release-requires : goal.release-requires
 release-requires c =
     let a = c.args in

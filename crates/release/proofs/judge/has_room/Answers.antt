@@ -1,24 +1,16 @@
--- `release::judge::has_room` meets its contract: after i turns its loop has what the definition has after i.
-use borrow.Author.Rules.{rules}
-use native.Mathlib.Omega.{arith}
-use mathlib.Core.Path.{◌≡◌, sym}
-use Rattle.table.proofs.Laws.{all_none, all_more}
+-- `release::judge::has_room` meets its contract.
+use Rattle.std.proofs.Common.{rules, take, ◌∙◌}
+use Rattle.std.proofs.lemmas.Iterator.Search.{all_from_yields_List}
+use Rattle.table.proofs.Ranges.{yields-up_to, tested}
+use Rattle.outgoing.specs.Entries.{entries}
+use Rattle.outgoing.specs.Room.{room_before}
 use Rattle.release.proofs.judge.has_room.Goals as goal
 
-pub loop-k-init : goal.loop-k-init
-loop-k-init c = (search rules, sym (all_none _))
-
-pub loop-k-preserved : goal.loop-k-preserved
-loop-k-preserved c = (
-  search rules,
-  simp (
-    all_more,
-    c.and-ok.ensures,
-    c.room_at.ensures,
-    c.loop-k.invariant.1,
-  ),
-)
-
 pub returns : goal.returns
-returns c = let e : c.loop-k.k ≡ c.args.n = omega arith in rw e
-    at c.loop-k.invariant.1
+returns c =
+    let a = c.args in
+    let p = room_before a.cut a.gone a.c (take a.left (entries a.n a.a a.o)) a.b.now in
+    let e = c.new.ensures in
+    all_from_yields_List p _ _ _ c.all.ensures.ran (yields-up_to a.n e.start e.end e.exhausted)
+    (λ x b q k. search rules)
+    ∙ tested a.n p

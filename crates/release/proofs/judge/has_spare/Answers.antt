@@ -1,21 +1,15 @@
--- `release::judge::has_spare` meets its contract: after i turns its loop has what the definition has after i.
-use borrow.Author.Rules.{rules}
-use native.Mathlib.Omega.{arith}
-use mathlib.Core.Path.{◌≡◌, sym}
-use Rattle.table.proofs.Laws.{all_none, all_more}
+-- `release::judge::has_spare` meets its contract: the invariant: the channels to the first k nodes were judged.
+use Rattle.std.proofs.Common.{◌≡◌, sym, arith}
+use Rattle.table.proofs.Laws.{all_none, all-next}
 use Rattle.outgoing.specs.Room.{spare}
 use Rattle.release.proofs.judge.has_spare.Goals as goal
 
 pub loop-k-init : goal.loop-k-init
-loop-k-init c = (search rules, sym (all_none _))
+loop-k-init c = sym (all_none _)
 
 pub loop-k-preserved : goal.loop-k-preserved
-loop-k-preserved c = (
-  search rules,
-  simp (all_more, c.and-ok.ensures, c.waiting_at.ensures.0, c.loop-k.invariant.1),
-)
+loop-k-preserved c = all-next c.loop-k.k _ _ _ c.loop-k.invariant (simp c.waiting_at.ensures.0)
 
 pub returns : goal.returns
 unfolding spare
-returns c = let e : c.loop-k.k ≡ c.args.n = omega arith in rw e
-    at c.loop-k.invariant.1
+returns c = let e : c.loop-k.k ≡ c.args.n = omega arith in rw e at c.loop-k.invariant
