@@ -19,10 +19,7 @@ pub const FRAME_OUTPUT: usize = 8192;
 pub fn show_view(ending: Ending, v: View, out: &mut [u8; VIEW])
     ensures { out.new ≡ event_view (told (returned ending) v) out.old }
 {
-    match ending {
-        Ending::None => {}
-        Ending::Done(_) => {}
-        Ending::Scan(_) => write_view(NODES, v, out),
-        Ending::Spent => {}
+    if let Ending::Scan(_) = ending {
+        write_view(NODES, v, out);
     }
 }

@@ -1,4 +1,3 @@
-pub mod Accepted
 pub mod Apart
 pub mod Fitting
 pub mod Range

@@ -41,7 +41,7 @@ fn rule_code(r: Rule) -> u8
     ensures { (result ≡ rule_code r) × (result ≤ 3) }
 {
     match r {
-        Rule::Direct(i) => { if i <= 3 { i as u8 } else { 3 } }
+        Rule::Direct(i) => i.min(3) as u8,
         Rule::Borrowed => 0,
     }
 }
@@ -71,28 +71,22 @@ pub fn outcome_code(outcome: Outcome) -> u8
 pub fn event_code(r: Reply) -> u8
     ensures { result ≡ event_code (told_by r) (rule_in (answer_of r.outcome)) }
 {
-    let outcome = r.outcome;
-    outcome_code(outcome)
+    outcome_code(r.outcome)
 }
 
 // Whether an answer is no refusal.
 pub fn is_accepted(outcome: Outcome) -> bool
     ensures { result ≡ accepted (answer_of outcome) }
 {
-    match outcome {
-        Outcome::Refused(_) => false,
-        Outcome::Accepted(_) => true,
-    }
+    matches!(outcome, Outcome::Accepted(_))
 }
 
 // Writes the view of a scan that ended.
 pub fn show(r: Reply, out: &mut [u8; VIEW])
     ensures { out.new ≡ event_view (told_by r) out.old }
 {
-    let outcome = r.outcome;
-    match outcome {
-        Outcome::Refused(_) => {}
-        Outcome::Accepted(e) => show_view(e, r.view, out),
+    if let Outcome::Accepted(e) = r.outcome {
+        show_view(e, r.view, out);
     }
 }
 
@@ -103,6 +97,7 @@ pub fn route_of(m: Message) -> u8
     if is_answer(m) { TO_SENDER } else { TO_ALL }
 }
 
+// Its kind, request number, writer and tag, 0 where the kind has none.
 pub fn message_numbers(m: Message) -> [u64; 4]
     ensures { result ≡ numbers m }
 {
@@ -112,52 +107,37 @@ pub fn message_numbers(m: Message) -> [u64; 4]
         Message::Write { request, tag } => [3, request, 0, tag],
         Message::WriteAnswer { request, tag } => [4, request, 0, tag],
         Message::Echo { tag } => [5, 0, 0, tag],
-        Message::Value {
-            tag,
-            writer,
-            report: _,
-        } => [6, 0, writer as u64, tag],
+        Message::Value { tag, writer, .. } => [6, 0, writer as u64, tag],
         Message::Good { tag } => [7, 0, 0, tag],
     }
 }
 
+// The bytes of its report, zeros where the kind has none.
 pub fn message_report(m: Message) -> [u8; REPORT]
     ensures { result ≡ report_in m }
 {
     match m {
-        Message::Value {
-            tag: _,
-            writer: _,
-            report,
-        } => view::report_bytes(report),
+        Message::Value { report, .. } => view::report_bytes(report),
         _ => [0; REPORT],
     }
 }
 
+// The message of a kind's number, as C gives it, which may be any.
 pub fn message_of(kind: u64, request: u64, writer: usize, tag: u64, report: Report) -> Message
     ensures { result ≡ message_of kind request writer tag report }
 {
     match kind {
-        1 => Message::Read { request: request },
-        2 => Message::ReadAnswer {
-            request: request,
-            tag: tag,
-        },
-        3 => Message::Write {
-            request: request,
-            tag: tag,
-        },
-        4 => Message::WriteAnswer {
-            request: request,
-            tag: tag,
-        },
-        5 => Message::Echo { tag: tag },
+        1 => Message::Read { request },
+        2 => Message::ReadAnswer { request, tag },
+        3 => Message::Write { request, tag },
+        4 => Message::WriteAnswer { request, tag },
+        5 => Message::Echo { tag },
         6 => Message::Value {
-            tag: tag,
-            writer: writer,
-            report: report,
+            tag,
+            writer,
+            report,
         },
-        7 => Message::Good { tag: tag },
+        7 => Message::Good { tag },
         _ => Message::Read { request: 0 },
     }
 }

@@ -41,14 +41,15 @@ pub fn given(cut: bool, ending: Ending, view: View) -> Reply
     ensures { (answer_of result.outcome ≡ returned (pick cut None ending)) × (result.view ≡ pick cut no_view view) }
 {
     if cut {
-        return Reply {
+        Reply {
             outcome: Outcome::Accepted(Ending::None),
             view: view::absent(),
-        };
-    }
-    Reply {
-        outcome: Outcome::Accepted(ending),
-        view: view,
+        }
+    } else {
+        Reply {
+            outcome: Outcome::Accepted(ending),
+            view,
+        }
     }
 }
 

@@ -1,7 +1,7 @@
 -- House figures: over a view for n nodes, each count of the reports put together; no report counts as four zeros. Three
 -- are sums, as in document 01. Of calls waiting it is the largest, by document 02, since all nodes watch one queue; it
 -- is called a total all the same.
-use Rattle.std.specs.Prelude.{ℕ, ◌+◌, ◌*◌, max, ◌≡◌, List, length, eqb}
+use Rattle.std.specs.Prelude.{ℕ, ◌+◌, ◌*◌, max, List, length, eqb, Result, Ok, Err}
 use Rattle.octets.specs.Answer.{Answer, returned, refused}
 use Rattle.octets.specs.Test.{pick}
 use Rattle.octets.specs.Loop.{fold_to}
@@ -9,9 +9,10 @@ use Rattle.view.specs.Size.{nodes, is_size, limit, entry_size}
 use Rattle.view.specs.Report.{no_report}
 use Rattle.view.specs.View.{tag_at, report_at, view_ok}
 use Rattle.view.specs.declared.Report.{Report}
+use Rattle.refusal.specs.Refusal.{number}
+use Rattle.refusal.specs.declared.Refusal.{Refusal}
 use Rattle.figures.specs.declared.Totals.{Totals}
 use Rattle.figures.specs.declared.Counted.{Counted}
-use Rattle.figures.specs.declared.Counted.TheVariants.{Figures, Refused}
 
 -- the report that entry i counts with: no report, four zeros, beside tag 0
 abbrev pub counted_report : List ℕ → ℕ → Report
@@ -57,14 +58,10 @@ figures_of n v =
     (pick (is_size n) (pick (view_ok n limit v) (returned (totals n v)) (refused 7)) (refused 1)) (refused 12)
 
 -- what the answer says in document 01's terms
-abbrev pub counted : Counted → Answer Totals
-counted (Figures t s) = returned t
-counted (Refused c) = refused c
+abbrev pub counted : Result Counted Refusal → Answer Totals
+counted (Ok c) = returned c.totals
+counted (Err k) = refused (number k)
 
 -- what stands beside figures: the plain sum of calls waiting
 abbrev pub waiting_sum : ℕ → List ℕ → ℕ
 waiting_sum n v = total ◌+◌ (λ p. p.waiting) n v
-
-abbrev pub SumBeside : ℕ → List ℕ → Counted → Type 0
-SumBeside n v (Figures t s) = s ≡ waiting_sum n v
-SumBeside n v (Refused c) = Unit {0}

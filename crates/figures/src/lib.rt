@@ -1,15 +1,16 @@
 // House figures over the bytes of a view: three sums, and the largest of calls waiting.
 #![tactic(auto)]
 
-ghost use Rattle.std.specs.Prelude.{◌≡◌, ◌+◌, ◌≤◌, length, eqb};
+ghost use Rattle.std.specs.Prelude.{◌≡◌, ◌+◌, ◌≤◌, length, eqb, IfOk};
 ghost use Rattle.octets.specs.Answer.{returned, refused};
 ghost use Rattle.octets.specs.Test.{pick};
 ghost use Rattle.octets.specs.Word.{word};
 ghost use Rattle.view.specs.Size.{nodes, limit, tag_size, entry_size, view_size};
 ghost use Rattle.view.specs.View.{entry_ok, view_ok};
-ghost use Rattle.figures.specs.Figures.{no_totals, with_report, totals, figures_of, counted, SumBeside};
+ghost use Rattle.figures.specs.Figures.{no_totals, with_report, totals, figures_of, counted, waiting_sum};
 ghost use Rattle.figures.specs.Room.{Roomy};
 
+use refusal::Refusal;
 use view::{ENTRY, LIMIT, NODES, Report, TAG};
 
 // The four figures: sums, and of calls waiting the largest.
@@ -21,11 +22,11 @@ pub struct Totals {
     pub wakeups: u32,
 }
 
-// The figures, and beside them the plain sum of calls waiting; or the number of a refusal.
+// The figures, and beside them the plain sum of calls waiting.
 #[derive(Clone, Copy)]
-pub enum Counted {
-    Figures(Totals, u32),
-    Refused(u8),
+pub struct Counted {
+    pub totals: Totals,
+    pub waiting_sum: u32,
 }
 
 // Whether `len` bytes are n entries. The product is not computed, since n may be any number.
@@ -71,37 +72,40 @@ fn is_entry(v: &[u8], at: usize) -> bool
     }
 }
 
-// The figures over n entries, or 7 where one of them cannot stand in a view. Calls waiting are added up too: then the
-// four additions of an entry are one instruction.
-fn count_entries(n: usize, v: &[u8]) -> Counted
+// The figures over n entries, if each of them may stand in a view. Calls waiting are added up too: then the four
+// additions of an entry are one instruction.
+fn count_entries(n: usize, v: &[u8]) -> Result<Counted, Refusal>
     requires { (n ≤ nodes) × (view_size n ≤ length v.now) }
     ensures { (counted result
         ≡ pick (view_ok n limit v.now) (returned (totals n v.now)) (refused 7))
-        × SumBeside n v.now result }
+        × IfOk result (λ c. c.waiting_sum ≡ waiting_sum n v.now) }
 {
-    let mut t = no_totals();
-    let mut sum = 0;
+    let mut totals = no_totals();
+    let mut waiting_sum = 0;
     for i in 0..n {
         let at = ENTRY * i;
         if !is_entry(v, at) {
-            return Counted::Refused(7);
+            return Err(Refusal::Layout);
         }
         let p = view::read_report(&v[at + TAG..at + ENTRY]);
-        sum += u32::from(p.waiting);
-        t = with_report(t, p);
+        waiting_sum += u32::from(p.waiting);
+        totals = with_report(totals, p);
     }
-    Counted::Figures(t, sum)
+    Ok(Counted {
+        totals,
+        waiting_sum,
+    })
 }
 
-// The figures over a view of n nodes, or 12, 1, 7.
-pub fn figures(n: usize, v: &[u8]) -> Counted
-    ensures { (counted result ≡ figures_of n v.now) × SumBeside n v.now result }
+// The figures over a view of n nodes, if it is of that length, n is a number of nodes, and the view is of the layout.
+pub fn figures(n: usize, v: &[u8]) -> Result<Counted, Refusal>
+    ensures { (counted result ≡ figures_of n v.now) × IfOk result (λ c. c.waiting_sum ≡ waiting_sum n v.now) }
 {
     if !is_long(n, v.len()) {
-        return Counted::Refused(12);
+        return Err(Refusal::Length);
     }
     if n < 1 || NODES < n {
-        return Counted::Refused(1);
+        return Err(Refusal::Size);
     }
     count_entries(n, v)
 }

@@ -2,12 +2,13 @@
 use Prim.Native.Nat.{ℕ, suc, ◌+◌, ◌-◌, ◌*◌, ◌^◌, ◌<◌, ◌≤◌}
 use mathlib.Core.Path.{◌≡◌, refl, sym, ap, ◌∙◌}
 use mathlib.Core.Bool.{Bool, true, false}
-use mathlib.Core.List.{List, ◌++◌}
+use mathlib.Core.List.{List, [], ◌∷◌, ◌++◌, append_assoc}
 use mathlib.Core.Option.{none, some}
 use native.Mathlib.Omega.{arith}
 use lib.ListN.{length, replicate, length-append, length-replicate, replicate-append-replicate}
 use lib.Dec.{eqb}
 use Rattle.octets.specs.Bytes.{Bytes, part, put}
+use Rattle.octets.specs.Loop.{join}
 use Rattle.octets.specs.Test.{pick}
 use Rattle.octets.proofs.Put.{part_bytes, put-cover}
 use Rattle.octets.proofs.Table.{length-join-below}
@@ -20,13 +21,24 @@ use Rattle.digits.proofs.DecimalBack.{fewest-most}
 use Rattle.figures.specs.declared.Totals.{Totals}
 use Rattle.figures.proofs.Bounds.{Fit}
 use Rattle.page.specs.Page.{label_width, count_width, cell_size, line_size, space, right, cell_text, feed, dash}
-use Rattle.page.specs.Page.{equals, page_line, counts_line, node_line, figures_line, shown_at, node_lines}
+use Rattle.page.specs.Page.{equals, cells, page_line, counts_line, node_line, figures_line, shown_at, node_lines}
 
 -- its parts, one after the other
 pub line-is : (l a b c d : List ℕ) {n p q r s : List ℕ} → n ≡ right label_width l → p ≡ cell_text a → q ≡ cell_text b
     → r ≡ cell_text c → s ≡ cell_text d → n ++ p ++ q ++ r ++ s ++ feed ≡ page_line l a b c d
 unfolding page_line
 line-is l a b c d e f g h i = rw (e, f, g, h, i) refl
+
+-- the same of four counts
+apart : (n p q r s e : List ℕ) → n ++ (p ++ q ++ r ++ s) ++ e ≡ n ++ p ++ q ++ r ++ s ++ e
+apart n p q r s e = simp append_assoc
+
+pub counts-line-is : (l : List ℕ) (a b c d : ℕ) {n : List ℕ} → n ≡ right label_width l
+    → n ++ cells (a ∷ b ∷ c ∷ d ∷ []) ++ feed ≡ counts_line l a b c d
+unfolding page_line join
+counts-line-is l a b c d e =
+    let t : ℕ → List ℕ = λ x. cell_text (decimal x) in
+    rw e (apart (right label_width l) (t a) (t b) (t c) (t d) feed)
 
 -- ---- lengths
 

@@ -16,8 +16,6 @@ use Rattle.view.specs.declared.Report.{Report}
 use Rattle.digits.specs.Decimal.{decimal}
 use Rattle.figures.specs.Figures.{figures_of}
 use Rattle.figures.specs.declared.Totals.{Totals}
-use Rattle.page.specs.declared.Paged.{Paged}
-use Rattle.page.specs.declared.Paged.TheVariants.{Length, Refused}
 
 -- ---- lines and columns
 
@@ -122,16 +120,15 @@ abbrev pub page_left : Answer (List ℕ) → List ℕ → List ℕ
 page_left (returned p) out = put out 0 p
 page_left (refused k) out = out
 
--- what the answer says in document 02's terms
-abbrev pub paged : Paged → Answer ℕ
-paged (Length k) = returned k
-paged (Refused c) = refused c
-
 -- ---- cited by inner contracts only
 
 -- the lines of n nodes
 abbrev pub node_lines : ℕ → List ℕ → List ℕ
 node_lines n v = join n (λ i. node_line (i + 1) (shown_at v i))
+
+-- the counts of a line
+abbrev pub cells : List ℕ → List ℕ
+cells counts = join line_counts (λ j. cell_text (decimal (get_or counts j 0)))
 
 -- a column that has digits after it: y is the number in the columns up to this one
 abbrev pub column_of : ℕ → ℕ

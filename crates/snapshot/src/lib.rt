@@ -45,9 +45,7 @@ use codes::{
     event_code, extent_of, is_accepted, message_numbers, message_of, message_report, outcome_code,
     route_of, show,
 };
-use figures::Counted;
 use node_bytes::Called;
-use page::Paged;
 use record::Operation;
 use table::quorum::most_faults;
 use view::{REPORT, VIEW, read_report};
@@ -157,8 +155,7 @@ pub extern "C" fn snapshot_node_fresh(n: usize, f: usize, own: usize, state: &mu
         × (state.new ≡ (fresh_node n f own state.old).bytes) }
 {
     let a = node_bytes::fresh(n, f, own, state);
-    let outcome = a.outcome;
-    outcome_code(outcome)
+    outcome_code(a.outcome)
 }
 
 // The code of a call at a node. One that was accepted tells the length of its messages.
@@ -166,12 +163,10 @@ fn node_code(a: Called, length: &mut usize) -> u8
     ensures { (state out : List ℕ) (e : LentResult) → Tells a state out e
         → LeavesNode result state out length.new e length.old }
 {
-    let outcome = a.outcome;
-    if is_accepted(outcome) {
+    if is_accepted(a.outcome) {
         *length = a.length;
-        return outcome_code(outcome);
     }
-    outcome_code(outcome)
+    outcome_code(a.outcome)
 }
 
 // Begins an update with this report; the messages to send go to the front of `out`, and their length to `length`.
@@ -329,14 +324,15 @@ pub extern "C" fn snapshot_figures(n: usize, view: &[u8], figures: &mut [u32; 4]
 {
     match figures::figures(n, view) {
         // Four sums are stored at once, and the largest over its sum where it is another number.
-        Counted::Figures(t, sum) => {
-            *figures = [t.extensions, t.lines, sum, t.wakeups];
-            if t.waiting != sum {
+        Ok(c) => {
+            let t = c.totals;
+            *figures = [t.extensions, t.lines, c.waiting_sum, t.wakeups];
+            if t.waiting != c.waiting_sum {
                 figures[WAITING] = t.waiting;
             }
             0
         }
-        Counted::Refused(k) => k,
+        Err(k) => k.number(),
     }
 }
 
@@ -347,10 +343,10 @@ pub extern "C" fn snapshot_page(n: usize, view: &[u8], out: &mut [u8], length: &
         out.old }
 {
     match page::page(n, view, out) {
-        Paged::Length(k) => {
+        Ok(k) => {
             *length = k;
             0
         }
-        Paged::Refused(k) => k,
+        Err(k) => k.number(),
     }
 }

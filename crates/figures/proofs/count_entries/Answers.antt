@@ -23,20 +23,20 @@ unfolding view_ok
 loop-i-init c =
     let v = c.args.v.now in (
       all_to-none (entry_ok_at limit v),
-      c.no_totals-t.ensures ∙ sym (totals-none v),
+      c.no_totals-totals.ensures ∙ sym (totals-none v),
       sym (waiting_sum-none v),
     )
 
-pub overflow_add-sum : goal.overflow_add-sum
-overflow_add-sum c =
+pub overflow_add-waiting_sum : goal.overflow_add-waiting_sum
+overflow_add-waiting_sum c =
     let w : c.read_report-p.result.waiting < 2 ^ 16 = search rules in
     let f = waiting_sum-fits c.loop-i.i c.args.v.now
     (λ k. (c.type_inv.v k).fits)
     (omega arith) in
     omega (arith, w, f, c.loop-i.invariant.2)
 
-pub with_report-t-requires : goal.with_report-t-requires
-with_report-t-requires c =
+pub with_report-totals-requires : goal.with_report-totals-requires
+with_report-totals-requires c =
     more-roomy c.loop-i.i c.args.v.now c.loop-i.invariant.1
     (λ k. (c.type_inv.v k).fits)
     (omega arith)
@@ -55,8 +55,8 @@ loop-i-preserved c =
     ∙ counted_report-is (i + 1) v ok (λ k. (c.type_inv.v k).fits)
     (omega (arith, c.requires.1, below)) i (omega arith) in (
       ok,
-      one_more i v l.invariant.1 c.with_report-t.ensures p,
-      ap₂ (λ (s w : ℕ). s + w) l.invariant.2 (c.from-sum.ensures ∙ ap (λ (q : Report). q.waiting) p)
+      one_more i v l.invariant.1 c.with_report-totals.ensures p,
+      ap₂ (λ (s w : ℕ). s + w) l.invariant.2 (c.from-waiting_sum.ensures ∙ ap (λ (q : Report). q.waiting) p)
           ∙ sym (waiting_sum-more i v),
     )
 

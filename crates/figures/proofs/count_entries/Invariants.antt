@@ -7,5 +7,5 @@ use Rattle.figures.specs.Figures.{totals, waiting_sum}
 use Rattle.figures.proofs.count_entries.Given as goal
 
 abbrev pub invariant-loop-i : goal.invariant-loop-i
-invariant-loop-i l = (view_ok l.i limit l.v ≡ true) × (l.t ≡ totals l.i l.v)
-    × (l.sum ≡ waiting_sum l.i l.v)
+invariant-loop-i l = (view_ok l.i limit l.v ≡ true) × (l.totals ≡ totals l.i l.v)
+    × (l.waiting_sum ≡ waiting_sum l.i l.v)

@@ -15,8 +15,8 @@ use Rattle.view.specs.Report.{no_report, report_of}
 use Rattle.view.specs.View.{tag_at, report_at}
 use Rattle.view.specs.declared.Report.{Report}
 use Rattle.digits.specs.Decimal.{decimal}
-use Rattle.page.specs.Page.{line_size, cell_text, dash, node_line}
-use Rattle.page.proofs.Lines.{line-is}
+use Rattle.page.specs.Page.{line_size, dash, counts_line, node_line}
+use Rattle.page.proofs.Lines.{line-is, counts-line-is}
 use Rattle.page.proofs.put_node.Goals as goal
 
 -- the line of node i + 1 and the report that counts, by whether its tag is 0
@@ -40,9 +40,10 @@ returns-then-get_word-eq0 c =
           ∙ ap (shown v i) (sym z)),
     )
 
--- a count of the report that was read
-cell-of : (count : Report → ℕ) {p q : Report} → p ≡ q → cell_text (decimal (count p)) ≡ cell_text (decimal (count q))
-cell-of count e = ap (λ (r : Report). cell_text (decimal (count r))) e
+-- the line of counts that are those of a report
+same-counts : (l : List ℕ) {a b c d w x y z : ℕ} → a ≡ w → b ≡ x → c ≡ y → d ≡ z
+    → counts_line l a b c d ≡ counts_line l w x y z
+same-counts l e f g h = rw (e, f, g, h) refl
 
 pub returns : goal.returns
 unfolding shown counted
@@ -50,7 +51,6 @@ returns c =
     let a = c.args in
     let i = a.i in
     let v = a.v.now in
-    let p = report_at v i in
     let z : eqb (tag_at v i) 0 ≡ false = ne_eqb _ _ (λ e. c.if-get_word-eq0.false (c.get_word.ensures ∙ e)) in
     let q : entry_size * i + tag_size + report_size ≡ entry_size * i + entry_size = omega arith in
     let e : c.read_report-p.result ≡ report_at v
@@ -60,7 +60,8 @@ returns c =
       e ∙ ap (counted v i) (sym z),
       c.put_counts.ensures
           ∙ ap (λ (s : List ℕ). put a.out.now (line_size * i) s)
-          (line-is (decimal (i + 1)) (decimal p.extensions) (decimal p.lines) (decimal p.waiting)
-          (decimal p.wakeups) c.label-name.ensures (cell-of (λ r. r.extensions) e) (cell-of (λ r. r.lines) e)
-          (cell-of (λ r. r.waiting) e) (cell-of (λ r. r.wakeups) e) ∙ ap (shown v i) (sym z)),
+          (counts-line-is (decimal (i + 1)) _ _ _ _ c.label-name.ensures
+          ∙ same-counts (decimal (i + 1)) (c.from.ensures ∙ ap (λ (r : Report). r.extensions) e)
+          (c.from-2.ensures ∙ ap (λ (r : Report). r.lines) e) (c.from-3.ensures ∙ ap (λ (r : Report). r.waiting) e)
+          (c.from-4.ensures ∙ ap (λ (r : Report). r.wakeups) e) ∙ ap (shown v i) (sym z)),
     )

@@ -1,13 +1,12 @@
 -- `page::put_nodes` meets its contract.
 use borrow.Author.Rules.{rules}
 use Prim.Native.Nat.{ℕ, ◌+◌, ◌*◌}
-use mathlib.Core.Path.{◌≡◌, refl, sym, ap, ◌∙◌}
+use mathlib.Core.Path.{refl, sym, ap, ◌∙◌}
 use mathlib.Core.List.{List}
 use native.Mathlib.Omega.{arith}
 use Rattle.octets.specs.Bytes.{Bytes, put}
 use Rattle.octets.proofs.Put.{put-nil, put_then}
 use Rattle.octets.proofs.Table.{join-none, join_more}
-use Rattle.figures.specs.Figures.{totals}
 use Rattle.figures.proofs.Adding.{totals-none, more-roomy, one_more}
 use Rattle.page.specs.Page.{line_size, node_line, shown_at, node_lines}
 use Rattle.page.proofs.Lines.{nodes-length}
@@ -17,38 +16,15 @@ pub loop-i-init : goal.loop-i-init
 loop-i-init c =
     let a = c.args in
     let f : ℕ → List ℕ = λ i. node_line (i + 1) (shown_at a.v.now i) in (
-      omega arith,
       refl,
       c.no_totals-t.ensures ∙ sym (totals-none a.v.now),
       sym (put-nil a.out.now 0) ∙ ap (λ (s : List ℕ). put a.out.now 0 s) (sym (join-none f)),
     )
 
-pub put_node-p-requires : goal.put_node-p-requires
-put_node-p-requires c =
-    let l = c.loop-i-test.true in (
-      omega (arith, c.requires.0),
-      omega (
-        arith,
-        c.requires.1,
-      ),
-      omega (
-        arith,
-        c.requires.2,
-        c.loop-i.invariant.1,
-      ),
-    )
-
 pub with_report-t-requires : goal.with_report-t-requires
 with_report-t-requires c =
     let a = c.args in
-    more-roomy c.loop-i.i a.v.now
-    c.loop-i.invariant.2
-    (λ k. (c.shared_slice_known-1.given k).fits)
-    (omega (
-      arith,
-      c.requires.0,
-      c.loop-i.invariant.0,
-    ))
+    more-roomy c.loop-i.i a.v.now c.loop-i.invariant.1 (λ k. (c.type_inv.v k).fits) (omega (arith, c.requires.0))
 
 pub loop-i-preserved : goal.loop-i-preserved
 loop-i-preserved c =
@@ -56,31 +32,12 @@ loop-i-preserved c =
     let o = a.out.now in
     let v = a.v.now in
     let i = c.loop-i.i in
-    let b : Bytes v = λ k. (c.shared_slice_known-1.given
-    k).fits in
+    let b : Bytes v = λ k. (c.type_inv.v k).fits in
     let f : ℕ → List ℕ = λ j. node_line (j + 1) (shown_at v j) in
-    let l = nodes-length i v b (omega (
-      arith,
-      c.requires.0,
-      c.loop-i.invariant.0,
-    )) in (
-      omega arith,
+    let l = nodes-length i v b (omega (arith, c.requires.0)) in (
       search rules,
-      one_more i v c.loop-i.invariant.2 c.with_report-t.ensures
-          c.put_node-p.ensures.0,
-      put_then o 0 (node_lines i v) (f i) (line_size * i) (omega arith) (omega (arith, l)) c.loop-i.invariant.3
-          c.put_node-p.ensures.1
+      one_more i v c.loop-i.invariant.1 c.with_report-t.ensures c.put_node.ensures.0,
+      put_then o 0 (node_lines i v) (f i) (line_size * i) (omega arith) (omega (arith, l)) c.loop-i.invariant.2
+          c.put_node.ensures.1
           ∙ ap (λ (s : List ℕ). put o 0 s) (sym (join_more i f)),
-    )
-
-pub shape_of-out : goal.shape_of-out
-shape_of-out c = c.loop-i.invariant.1
-
-pub returns : goal.returns
-returns c =
-    let a = c.args in
-    let v = a.v.now in
-    let e : c.loop-i.i ≡ a.n = omega arith in (
-      c.loop-i.invariant.2 ∙ ap (λ (k : ℕ). totals k v) e,
-      c.loop-i.invariant.3 ∙ ap (λ (k : ℕ). put a.out.now 0 (node_lines k v)) e,
     )

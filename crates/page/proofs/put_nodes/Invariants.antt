@@ -1,5 +1,4 @@
 -- `page::put_nodes` meets its contract.
-use Prim.Native.Nat.{◌-◌, ◌≤◌}
 use mathlib.Core.Path.{◌≡◌}
 use lib.ListN.{length}
 use Rattle.octets.specs.Bytes.{put}
@@ -8,8 +7,5 @@ use Rattle.page.specs.Page.{node_lines}
 use Rattle.page.proofs.put_nodes.Given as goal
 
 abbrev pub invariant-loop-i : goal.invariant-loop-i
-invariant-loop-i l = (l.i ≤ l.n) × (length l.out ≡ length l.initial.out) × (l.t ≡ totals l.i l.v)
+invariant-loop-i l = (length l.out ≡ length l.initial.out) × (l.t ≡ totals l.i l.v)
     × (l.out ≡ put l.initial.out 0 (node_lines l.i l.v))
-
-abbrev pub decreases-loop-i : goal.decreases-loop-i
-decreases-loop-i l = l.n - l.i
