@@ -11,50 +11,52 @@ ghost use Rattle.calls.specs.Entry.{least_output, fresh, begin, beside, taken, m
 ghost use Rattle.reply.specs.Tells.{Tells};
 
 use calls::OUTPUT;
-use octets::and;
 use record::usable::{has_open, is_full, is_usable, sizes_within};
 use record::{Node, Operation, blank_node};
-pub use reply::{Reply, Said};
+use refusal::Refusal;
+pub use reply::Reply;
 use reply::{let_out, refused_reply};
+use step::Ending;
 use step_value::{begin_step, is_stale_message, message_step};
 use view::{View, absent, read_view};
 use wire::{Message, Parsed};
+use wire_parse::parse;
 use wire_parse::views::parsed_view;
 
 // A fresh record of node `own` of n, f of which may stop.
+#[tactic(auto, unfolding(calls::specs::Entry::fresh))]
 pub fn fresh(n: usize, f: usize, own: usize) -> Reply
     ensures { Tells result [] (fresh n f own) }
 {
-    if sizes_within(n, f, own) {
-        return Reply {
-            said: Said::Going,
-            node: blank_node(n, f, own),
-            view: absent(),
-            length: 0,
-        };
+    if !sizes_within(n, f, own) {
+        return refused_reply(Refusal::Size, blank_node(0, 0, 0));
     }
-    refused_reply(1, blank_node(0, 0, 0))
+    Reply {
+        said: Ok(Ending::None),
+        node: blank_node(n, f, own),
+        view: absent(),
+        length: 0,
+    }
 }
 
 // Begins an operation; the messages go to `out`.
+#[tactic(auto, unfolding(calls::specs::Entry::begin))]
 pub fn begin(c: Node, o: Operation, out: &mut [u8]) -> Reply
     ensures { Tells result out.new (begin c o out.old) }
 {
     if out.len() < OUTPUT {
-        return refused_reply(12, c);
+        return refused_reply(Refusal::Length, c);
     }
-    if is_usable(c) {
-        let wait = c.wait;
-        if has_open(wait) {
-            return refused_reply(5, c);
-        }
-        if is_full(c) {
-            return refused_reply(6, c);
-        }
-        let none = [0u8; 1];
-        return let_out(begin_step(c.f, c, o), &none[..0], out);
+    if !is_usable(c) {
+        return refused_reply(Refusal::Unusable, c);
     }
-    refused_reply(2, c)
+    if has_open(c.wait) {
+        return refused_reply(Refusal::Open, c);
+    }
+    if is_full(c) {
+        return refused_reply(Refusal::Requests, c);
+    }
+    let_out(begin_step(c.f, c, o), &[], out)
 }
 
 // The view that a good message carries, out of its bytes v.
@@ -63,49 +65,42 @@ fn view_beside(n: usize, v: &[u8], m: Message) -> View
     ensures { result ≡ beside n v.now m }
 {
     match m {
-        Message::Read { request: _ } => absent(),
-        Message::ReadAnswer { request: _, tag: _ } => absent(),
-        Message::Write { request: _, tag: _ } => absent(),
-        Message::WriteAnswer { request: _, tag: _ } => absent(),
-        Message::Echo { tag: _ } => absent(),
-        Message::Value {
-            tag: _,
-            writer: _,
-            report: _,
-        } => absent(),
-        Message::Good { tag: _ } => read_view(n, v),
+        Message::Good { .. } => read_view(n, v),
+        _ => absent(),
     }
 }
 
 // A message that was read: b is its bytes, v those of its view.
+#[tactic(auto, unfolding(calls::specs::Entry::taken))]
 fn taken_message(c: Node, s: usize, b: &[u8], v: &[u8], m: Message, out: &mut [u8]) -> Reply
     requires { (usable c ≡ true) × (1 ≤ s) × (s ≤ c.n) × (allowed c.n m v.now ≡ true)
         × (least_output ≤ length out.old) × (b.now ≡ encode m v.now) }
     ensures { Tells result out.new (taken c s v.now out.old (returned m)) }
 {
     if is_stale_message(c, s, m) {
-        return refused_reply(9, c);
+        return refused_reply(Refusal::Value, c);
     }
     let view = view_beside(c.n, v, m);
     let_out(message_step(c.f, c, s, m, view), b, out)
 }
 
 // Handles a message from node s; the messages that it gives rise to go to `out`.
+#[tactic(auto, unfolding(calls::specs::Entry::message, calls::specs::Entry::taken))]
 pub fn message(c: Node, s: usize, b: &[u8], out: &mut [u8]) -> Reply
     ensures { Tells result out.new (message c s b.now out.old) }
 {
     if out.len() < OUTPUT {
-        return refused_reply(12, c);
+        return refused_reply(Refusal::Length, c);
     }
-    if is_usable(c) {
-        if and(1 <= s, s <= c.n) {
-            let p = wire_parse::parse(c.n, b);
-            return match p {
-                Parsed::Got(m) => taken_message(c, s, b, parsed_view(b, p), m, out),
-                Parsed::Refused(_) => refused_reply(7, c),
-            };
-        }
-        return refused_reply(3, c);
+    if !is_usable(c) {
+        return refused_reply(Refusal::Unusable, c);
     }
-    refused_reply(2, c)
+    if s < 1 || c.n < s {
+        return refused_reply(Refusal::Node, c);
+    }
+    let p = parse(c.n, b);
+    match p {
+        Parsed::Got(m) => taken_message(c, s, b, parsed_view(b, p), m, out),
+        Parsed::Refused(_) => refused_reply(Refusal::Layout, c),
+    }
 }

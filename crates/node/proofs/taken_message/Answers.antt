@@ -1,17 +1,10 @@
 -- `node::taken_message` meets its contract. Assumes nothing.
 use borrow.Author.Rules.{rules}
-use mathlib.Core.Path.{sym, ap, ◌∙◌, subst}
 use Prim.Native.Nat.{◌≤◌}
 use native.Mathlib.Omega.{arith}
-use Rattle.view.specs.declared.View.{View}
 use Rattle.record.proofs.Parts.{parts}
 use Rattle.table.proofs.Laws.{length-mapped}
 use Rattle.step.specs.Claims.{Long}
-use Rattle.step.specs.Move.{message_step}
-use Rattle.step.specs.declared.Step.{Step}
-use Rattle.calls.specs.Entry.{let_out}
-use Rattle.calls.proofs.Refusals.{taken-9, taken-goes}
-use Rattle.reply.specs.Tells.{Tells}
 use Rattle.reply.proofs.Received.{message-received}
 use Rattle.calls.proofs.Rim.{read-writer, read-lawful}
 use Rattle.calls.proofs.Rooms.{message-fit}
@@ -24,13 +17,6 @@ is_stale_message-requires c =
     let p = c.requires in
     let small : a.c.n ≤ nodes = (parts _ p.0).n-high in
     (p.1, omega (arith, p.2, small), read-writer a.c.n a.v.now a.m p.3 small)
-
-pub returns-then-is_stale_message : goal.returns-then-is_stale_message
-returns-then-is_stale_message c =
-    let a = c.args in
-    let stale = sym c.is_stale_message.ensures ∙ c.if-is_stale_message.true in
-    let e = taken-9 a.c a.s a.v.now a.out.now a.m stale in
-    subst (Tells c.refused_reply.result _) (sym e) (c.refused_reply.ensures _)
 
 pub view_beside-view-requires : goal.view_beside-view-requires
 view_beside-view-requires c =
@@ -61,12 +47,3 @@ let_out-requires c =
       fit.2,
       fit.3,
     )
-
-pub returns : goal.returns
-returns c =
-    let a = c.args in
-    let new = sym c.is_stale_message.ensures ∙ c.if-is_stale_message.false in
-    let e = taken-goes a.c a.s a.v.now a.out.now a.m new in
-    let s = c.message_step.ensures
-    ∙ ap (λ (v : View). message_step a.c.f a.c a.s a.m v) c.view_beside-view.ensures in
-    subst (Tells c.let_out.result _) (ap (λ (x : Step). let_out x a.out.now) s ∙ sym e) c.let_out.ensures
