@@ -19,7 +19,7 @@ use calls::OUTPUT;
 use calls_bytes::show_view;
 use emit::{emit_all, emit_begin, emit_handler};
 use events::Outcome;
-use octets::{and, fill, get_word};
+use octets::get_word;
 use react_bytes::{is_stale_in, react_in};
 use record::usable::sizes_within;
 use record::{Operation, Wait};
@@ -65,7 +65,7 @@ pub fn fresh(n: usize, f: usize, own: usize, r: &mut [u8]) -> Called
     if r.len() != RECORD {
         return turned_away(12);
     }
-    fill(r, 0);
+    r.fill(0);
     save_head(
         r,
         Head {
@@ -92,10 +92,7 @@ fn is_usable_in(r: &[u8]) -> bool
     let n = get_word(r, N_PLACE) as usize;
     let f = get_word(r, F_PLACE) as usize;
     let own = get_word(r, OWN_PLACE) as usize;
-    if sizes_within(n, f, own) {
-        return record_sound(r, n, f, own);
-    }
-    false
+    sizes_within(n, f, own) && record_sound(r, n, f, own)
 }
 
 // The first of 12 and 2 that refuses a call on these bytes with so much room for output, of which it asks for at least
@@ -103,7 +100,7 @@ fn is_usable_in(r: &[u8]) -> bool
 pub fn admission(r: &[u8], least: usize, room: usize) -> u8
     ensures { result ≡ admission_of least r.now room }
 {
-    if !and(r.len() == RECORD, least <= room) {
+    if !(r.len() == RECORD && least <= room) {
         return 12;
     }
     if !is_usable_in(r) {
@@ -167,11 +164,10 @@ pub fn take_message(
         };
     }
     let e = follow_in(r, n, s, sent, p);
-    let ending = e.ending;
-    show_view(ending, e.view, view);
+    show_view(e.ending, e.view, view);
     let written = emit_all(n, e.outbox, b, out);
     Called {
-        outcome: Outcome::Accepted(ending),
+        outcome: Outcome::Accepted(e.ending),
         length: written,
     }
 }
@@ -187,7 +183,7 @@ pub fn message(r: &mut [u8], s: usize, b: &[u8], out: &mut [u8], view: &mut [u8;
         return turned_away(k);
     }
     let n = get_word(r, N_PLACE) as usize;
-    if !and(1 <= s, s <= n) {
+    if !(1 <= s && s <= n) {
         return turned_away(3);
     }
     let p = wire_parse::parse(n, b);

@@ -1,4 +1,5 @@
 -- `node_bytes::fresh` meets its contract.
+use borrow.Author.Rules.{rules}
 use Prim.Native.Nat.{ℕ}
 use mathlib.Core.Path.{refl, sym, ap, ◌∙◌}
 use mathlib.Core.List.{List}
@@ -36,7 +37,7 @@ returns c =
       refl,
       refl,
       c.save_head.ensures
-          ∙ ap (λ (z : List ℕ). put z n_place (head_bytes (head_in (blank a.n a.f a.own)))) c.fill.ensures
+          ∙ ap (λ (z : List ℕ). put z n_place (head_bytes (head_in (blank a.n a.f a.own)))) (search rules)
           ∙ blank-bytes a.n a.f a.own (length a.r.now) c.if-r-ne-RECORD.false,
       refl,
     )

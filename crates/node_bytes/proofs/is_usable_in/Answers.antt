@@ -13,8 +13,9 @@ returns-then-sizes_within c =
     ∙ own-sound c.args.r.now c.get_word-n.ensures c.get_word-f.ensures
     c.get_word-own.ensures
 
-pub returns : goal.returns
-returns c =
-    not_within c.args.r.now c.get_word-n.ensures c.get_word-f.ensures
+pub returns-else-sizes_within : goal.returns-else-sizes_within
+returns-else-sizes_within c =
+    c.if-sizes_within.false
+    ∙ not_within c.args.r.now c.get_word-n.ensures c.get_word-f.ensures
     c.get_word-own.ensures
     (sym c.sizes_within.ensures ∙ c.if-sizes_within.false)

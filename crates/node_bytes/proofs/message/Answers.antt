@@ -1,6 +1,7 @@
 -- `node_bytes::message` meets its contract.
 use borrow.Author.Rules.{rules}
-use mathlib.Core.Path.{refl, sym, ap, ◌∙◌}
+use mathlib.Core.Path.{◌≡◌, refl, sym, ap, ◌∙◌}
+use mathlib.Core.Bool.{true, false}
 use mathlib.Core.List.{List}
 use Prim.Native.Nat.{ℕ}
 use lib.Dec.{leb}
@@ -35,17 +36,18 @@ get_word-n-requires c =
     let long = (admitted N.least_output c.args.r.now c.args.out.now (sym c.admission-k.ensures
     ∙ c.if-k-ne0.false)).long in search rules
 
-pub returns-then-not-and : goal.returns-then-not-and
-returns-then-not-and c =
+pub returns-then-not-s-n : goal.returns-then-not-s-n
+returns-then-not-s-n c =
     let a = c.args in
+    let test : both (leb 1 a.s) (leb a.s c.get_word-n.result) ≡ false = search rules in
     let h = admitted N.least_output a.r.now a.out.now (sym c.admission-k.ensures ∙ c.if-k-ne0.false) in
     let d = record_of a.r.now in
     let e = own-n a.r.now c.get_word-n.ensures in
-    becomes-shown c.turned_away-then-not-and.result _ _ _ _ (refused-at a.r.now a.out.now (λ d. N.message d a.s
+    becomes-shown c.turned_away-then-not-s-n.result _ _ _ _ (refused-at a.r.now a.out.now (λ d. N.message d a.s
     a.b.now a.out.now) h
     (message-3 d a.s a.b.now a.out.now (le-ltb _ _ h.room) h.can-step
-    (sym (c.and.ensures ∙ ap (λ (j : ℕ). both (leb 1 a.s) (leb a.s j)) (sym e)) ∙ c.if-not-and.true)))
-    (c.turned_away-then-not-and.ensures _ _, refl)
+    (ap (λ (j : ℕ). both (leb 1 a.s) (leb a.s j)) e ∙ test)))
+    (c.turned_away-then-not-s-n.ensures _ _, refl)
 
 pub parsed_view-requires : goal.parsed_view-requires
 parsed_view-requires c =
@@ -54,6 +56,7 @@ parsed_view-requires c =
 pub take_message-requires : goal.take_message-requires
 take_message-requires c =
     let a = c.args in
+    let test : both (leb 1 a.s) (leb a.s c.get_word-n.result) ≡ true = search rules in
     let h = admitted N.least_output a.r.now a.out.now (sym c.admission-k.ensures ∙ c.if-k-ne0.false) in
     let d = record_of a.r.now in
     let e = own-n a.r.now c.get_word-n.ensures in
@@ -64,7 +67,7 @@ take_message-requires c =
     let view = c.parsed_view.ensures.0 ∙ read_view n a.b.now _ (sym read) in
     let low = leb 1 a.s in
     let high = leb a.s n in
-    let sender = sym c.and.ensures ∙ c.if-not-and.false in (
+    let sender = test in (
       h.long,
       h.can-step,
       e,
@@ -78,10 +81,11 @@ take_message-requires c =
 pub returns-in-Got : goal.returns-in-Got
 returns-in-Got c =
     let a = c.args in
+    let test : both (leb 1 a.s) (leb a.s c.get_word-n.result) ≡ true = search rules in
     let h = admitted N.least_output a.r.now a.out.now (sym c.admission-k.ensures ∙ c.if-k-ne0.false) in
     let d = record_of a.r.now in
     let e = own-n a.r.now c.get_word-n.ensures in
-    let sender = sym (c.and.ensures ∙ ap (λ (j : ℕ). both (leb 1 a.s) (leb a.s j)) (sym e)) ∙ c.if-not-and.false in
+    let sender = ap (λ (j : ℕ). both (leb 1 a.s) (leb a.s j)) e ∙ test in
     let n = c.get_word-n.result in
     let m = c.in-Got.m in
     let read = sym c.parse-p.ensures ∙ ap parsed c.in-Got.is in
@@ -98,10 +102,11 @@ returns-in-Got c =
 pub returns-in-Refused : goal.returns-in-Refused
 returns-in-Refused c =
     let a = c.args in
+    let test : both (leb 1 a.s) (leb a.s c.get_word-n.result) ≡ true = search rules in
     let h = admitted N.least_output a.r.now a.out.now (sym c.admission-k.ensures ∙ c.if-k-ne0.false) in
     let d = record_of a.r.now in
     let e = own-n a.r.now c.get_word-n.ensures in
-    let sender = sym (c.and.ensures ∙ ap (λ (j : ℕ). both (leb 1 a.s) (leb a.s j)) (sym e)) ∙ c.if-not-and.false in
+    let sender = ap (λ (j : ℕ). both (leb 1 a.s) (leb a.s j)) e ∙ test in
     let read = sym c.parse-p.ensures ∙ ap parsed c.in-Refused.is in
     becomes-shown c.turned_away-in-Refused.result _ _ _ _ (refused-at a.r.now a.out.now (λ d. N.message d a.s
     a.b.now a.out.now) h
