@@ -1,15 +1,17 @@
 -- The numbers that a frame is judged on are those of a record that its handlers have changed. Assumes nothing.
-use Prim.Native.Nat.{ℕ, ◌+◌, ◌-◌, ◌≤◌, ◌<◌, max}
+use Prim.Native.Nat.{ℕ, ◌+◌, ◌-◌, ◌≤◌, max}
 use mathlib.Core.Path.{◌≡◌, refl, sym, ap, ◌∙◌, subst}
-use mathlib.Core.Bool.{true, false}
+use mathlib.Core.Bool.{true}
 use mathlib.Core.List.{List}
 use native.Mathlib.Decide.{ℕ_discrete}
 use native.Mathlib.Omega.{arith}
 use lib.Dec.{leb, ltb}
 use lib.ListN.{length, get_or, set, length-set}
 use lib.Seq.{get_or-set_same, get_or-set_other}
-use borrow.Author.Tests.{leb-true, ltb-true, ltb-false}
+use borrow.Author.Tests.{leb-true, ltb-true, ltb-false, lt-ltb}
 use Rattle.octets.specs.Test.{pick, both}
+use Rattle.octets.specs.Loop.{tab}
+use Rattle.octets.proofs.Table.{length-tab, get_d-tab}
 use Rattle.octets.proofs.Test.{both_left, both_right}
 use Rattle.view.specs.Size.{nodes}
 use Rattle.view.specs.declared.Report.{Report}
@@ -25,27 +27,14 @@ use Rattle.step.proofs.Numbers.{on-pick}
 use Rattle.region.proofs.Back.{SizedNode}
 use Rattle.frame_bytes.specs.Marks.{late_by, heard_after, last_after, top_after}
 
--- ---- the kinds that change nothing
-
-pub other-top : (top : ℕ) (m : Message) → ((q t : ℕ) → m ≡ Write q t → ⊥) → ((t : ℕ) → m ≡ Echo t → ⊥)
-    → top ≡ top_after top m
-other-top top (Read q) k l = refl
-other-top top (ReadAnswer q t) k l = refl
-other-top top (Write q t) k l = absurd (k q t refl)
-other-top top (WriteAnswer q t) k l = refl
-other-top top (Echo t) k l = absurd (l t refl)
-other-top top (Value t w p) k l = refl
-other-top top (Good t) k l = refl
-
-pub other-kind : (heard last : List ℕ) (top : ℕ) (m : Message) → ((t w : ℕ) (p : Report) → m ≡ Value t w p → ⊥)
-    → (false ≡ late_by heard last top m) × (heard ≡ heard_after heard m) × (last ≡ last_after last m)
-other-kind heard last top (Read q) k = (refl, refl, refl)
-other-kind heard last top (ReadAnswer q t) k = (refl, refl, refl)
-other-kind heard last top (Write q t) k = (refl, refl, refl)
-other-kind heard last top (WriteAnswer q t) k = (refl, refl, refl)
-other-kind heard last top (Echo t) k = (refl, refl, refl)
-other-kind heard last top (Value t w p) k = absurd (k t w p refl)
-other-kind heard last top (Good t) k = (refl, refl, refl)
+-- what a table has that was made by a rule: for writers 1 to n theirs, and 0 past them
+pub marked : {t : List ℕ} (n : ℕ) (f : ℕ → ℕ) → t ≡ tab nodes (λ i. pick (ltb i n) (f (i + 1)) 0) → n ≤ nodes
+    → (length t ≡ nodes) × ((w : ℕ) → 1 ≤ w → w ≤ n → at t w ≡ f w)
+marked n f e h = (
+  ap length e ∙ length-tab nodes _,
+  λ w l k. ap (λ t. at t w) e ∙ get_d-tab nodes _ (w - 1) 0 (omega arith)
+      ∙ rw (lt-ltb (w - 1) n (omega arith)) (ap f (omega arith)),
+)
 
 -- the writer of a value
 pub writer-is : (m : Message) {n t w : ℕ} {p : Report} → m ≡ Value t w p → writer_within n m ≡ true → (1 ≤ w) × (w ≤ n)
@@ -188,15 +177,3 @@ last-long l (Write q t) = refl
 last-long l (WriteAnswer q t) = refl
 last-long l (Echo t) = refl
 last-long l (Good t) = refl
-
--- one more place filled
-pub filled : (t : List ℕ) (i x : ℕ) (f : ℕ → ℕ) → i < length t → ((w : ℕ) → 1 ≤ w → w ≤ i → at t w ≡ f w)
-    → x ≡ f (i + 1) → (w : ℕ) → 1 ≤ w → w ≤ i + 1 → at (set t i x) w ≡ f w
-filled t i x f l h e w a b = elim (ℕ_discrete w (i + 1)) [
-  | yes q ↦
-      ap (λ (j : ℕ). get_or (set t i x) j 0) (let z : w - 1 ≡ i = omega (arith, q) in z) ∙ get_or-set_same t i x 0 l
-      ∙ e ∙ ap f (sym q)
-  | no d ↦
-      get_or-set_other t i (w - 1) x 0 (λ q. d (omega (arith, q, a)))
-      ∙ h w a (let z : w ≤ i = omega (arith, b, d) in z)
-]

@@ -22,10 +22,9 @@ use calls_bytes::{FRAME, FRAME_OUTPUT};
 use events::Outcome;
 use marks::{heard_from, is_late, last_tags, note, top_after};
 use node_bytes::{Called, admission, take_message, turned_away};
-use octets::{and, get_word};
+use octets::get_word;
 use region::places::{MAXTAG_PLACE, N_PLACE};
 use step::Ending;
-use table::or;
 use view::VIEW;
 use wire::Found;
 use wire_parse::parse_prefix;
@@ -44,17 +43,13 @@ fn judge(r: &[u8], n: usize, s: usize, b: &[u8], first: Found) -> u8
     let mut t = b;
     let mut f = first;
     let mut stale = false;
-    while 0 < t.len() {
-        match f {
-            Found::At(m, k) => {
-                stale = or(stale, is_late(&heard, &last, top, m));
-                note(&mut heard, &mut last, m);
-                top = top_after(top, m);
-                t = &t[k..];
-                f = parse_prefix(n, t);
-            }
-            Found::Refused(_) => return 7,
-        }
+    while !t.is_empty() {
+        let Found::At(m, k) = f else { return 7 };
+        stale |= is_late(&heard, &last, top, m);
+        note(&mut heard, &mut last, m);
+        top = top_after(top, m);
+        t = &t[k..];
+        f = parse_prefix(n, t);
     }
     if stale { 9 } else { 0 }
 }
@@ -63,14 +58,9 @@ fn judge(r: &[u8], n: usize, s: usize, b: &[u8], first: Found) -> u8
 fn first_ending(x: Ending, later: Outcome) -> Ending
     ensures { ((y : Ending) → answer_of later ≡ returned y → result ≡ pick (is_ending x) x y) }
 {
-    match x {
-        Ending::None => match later {
-            Outcome::Accepted(y) => y,
-            Outcome::Refused(_) => Ending::None,
-        },
-        Ending::Done(_) => x,
-        Ending::Scan(_) => x,
-        Ending::Spent => x,
+    match later {
+        Outcome::Accepted(y) if matches!(x, Ending::None) => y,
+        _ => x,
     }
 }
 
@@ -93,18 +83,15 @@ fn take_all(
     let mut f = first;
     let mut at = 0;
     let mut ending = Ending::None;
-    while 0 < t.len() {
-        match f {
-            Found::At(m, k) => {
-                let a = take_message(r, n, s, &t[..k], found_view(t, f), m, &mut out[at..], view);
-                at += a.length;
-                let later = a.outcome;
-                ending = first_ending(ending, later);
-                t = &t[k..];
-                f = parse_prefix(n, t);
-            }
-            Found::Refused(_) => return turned_away(7),
-        }
+    while !t.is_empty() {
+        let Found::At(m, k) = f else {
+            return turned_away(7)
+        };
+        let a = take_message(r, n, s, &t[..k], found_view(t, f), m, &mut out[at..], view);
+        at += a.length;
+        ending = first_ending(ending, a.outcome);
+        t = &t[k..];
+        f = parse_prefix(n, t);
     }
     Called {
         outcome: Outcome::Accepted(ending),
@@ -124,10 +111,10 @@ pub fn frame(r: &mut [u8], s: usize, b: &[u8], out: &mut [u8], view: &mut [u8; V
         return turned_away(k);
     }
     let n = get_word(r, N_PLACE) as usize;
-    if !and(1 <= s, s <= n) {
+    if !(1 <= s && s <= n) {
         return turned_away(3);
     }
-    if !and(1 <= b.len(), b.len() <= FRAME) {
+    if !(1 <= b.len() && b.len() <= FRAME) {
         return turned_away(14);
     }
     let f = parse_prefix(n, b);

@@ -11,7 +11,7 @@ ghost use Rattle.frame_bytes.specs.Marks.{late_by, heard_after, last_after, top_
 use react_bytes::tables::{heard_in, tag_in};
 use record::usable::is_stale_tag;
 use region::places::LAST_IN;
-use table::larger;
+use std::array::from_fn;
 use view::NODES;
 use wire::Message;
 
@@ -21,13 +21,7 @@ pub fn heard_from(r: &[u8], n: usize, s: usize) -> [u64; NODES]
     ensures { (length result ≡ nodes)
         × ((w : ℕ) → 1 ≤ w → w ≤ n → at result w ≡ heard_of (words cells r.now heard_place) s w) }
 {
-    let mut t = [0u64; NODES];
-    let mut i = 0;
-    while i < n {
-        t[i] = heard_in(r, s, i + 1);
-        i += 1;
-    }
-    t
+    from_fn(|i| if i < n { heard_in(r, s, i + 1) } else { 0 })
 }
 
 // The last tags of writers 1 to n.
@@ -36,13 +30,7 @@ pub fn last_tags(r: &[u8], n: usize) -> [u64; NODES]
     ensures { (length result ≡ nodes)
         × ((w : ℕ) → 1 ≤ w → w ≤ n → at result w ≡ tag_of (view_in r.now last_in) w) }
 {
-    let mut t = [0u64; NODES];
-    let mut i = 0;
-    while i < n {
-        t[i] = tag_in(r, LAST_IN, i + 1);
-        i += 1;
-    }
-    t
+    from_fn(|i| if i < n { tag_in(r, LAST_IN, i + 1) } else { 0 })
 }
 
 // Whether a message is refused with 9.
@@ -51,11 +39,12 @@ pub fn is_late(heard: &[u64; NODES], last: &[u64; NODES], top: u64, m: Message) 
     ensures { result ≡ late_by heard.now last.now top m }
 {
     match m {
-        Message::Value {
+        Message::Value { tag, writer, .. } => is_stale_tag(
+            heard[writer - 1],
+            last[writer - 1],
+            top,
             tag,
-            writer,
-            report: _,
-        } => is_stale_tag(heard[writer - 1], last[writer - 1], top, tag),
+        ),
         _ => false,
     }
 }
@@ -66,16 +55,9 @@ pub fn note(heard: &mut [u64; NODES], last: &mut [u64; NODES], m: Message)
     ensures { (heard.new ≡ heard_after heard.old m)
         × (last.new ≡ last_after last.old m) }
 {
-    match m {
-        Message::Value {
-            tag,
-            writer,
-            report: _,
-        } => {
-            heard[writer - 1] = tag;
-            last[writer - 1] = larger(last[writer - 1], tag);
-        }
-        _ => {}
+    if let Message::Value { tag, writer, .. } = m {
+        heard[writer - 1] = tag;
+        last[writer - 1] = last[writer - 1].max(tag);
     }
 }
 
@@ -84,8 +66,7 @@ pub fn top_after(top: u64, m: Message) -> u64
     ensures { result ≡ top_after top m }
 {
     match m {
-        Message::Write { request: _, tag } => larger(top, tag),
-        Message::Echo { tag } => larger(top, tag),
+        Message::Write { tag, .. } | Message::Echo { tag } => top.max(tag),
         _ => top,
     }
 }

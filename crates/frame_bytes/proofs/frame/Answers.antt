@@ -1,7 +1,8 @@
 -- `frame_bytes::frame` meets its contract.
 use borrow.Author.Rules.{rules}
 use Prim.Native.Nat.{ℕ, ◌≤◌}
-use mathlib.Core.Path.{refl, sym, ap, ◌∙◌, subst}
+use mathlib.Core.Path.{◌≡◌, refl, sym, ap, ◌∙◌, subst}
+use mathlib.Core.Bool.{true, false}
 use native.Mathlib.Omega.{arith}
 use lib.Dec.{leb}
 use lib.ListN.{length, take}
@@ -38,25 +39,28 @@ get_word-n-requires c =
     ).long in
     search rules
 
-pub returns-then-not-and : goal.returns-then-not-and
-returns-then-not-and c =
+pub returns-then-not-s-n : goal.returns-then-not-s-n
+returns-then-not-s-n c =
     let a = c.args in
+    let test : both (leb 1 a.s) (leb a.s c.get_word-n.result) ≡ false = search rules in
     let h = admitted frame_output a.r.now a.out.now (sym c.admission-k.ensures ∙ c.if-k-ne0.false) in
     let e = own-n a.r.now c.get_word-n.ensures in
-    becomes-shown c.turned_away-then-not-and.result _ _ _ _
+    becomes-shown c.turned_away-then-not-s-n.result _ _ _ _
     (is-3 a.r.now a.s a.b.now a.out.now h
-    (sym (c.and.ensures ∙ ap (λ (j : ℕ). both (leb 1 a.s) (leb a.s j)) (sym e)) ∙ c.if-not-and.true))
-    (c.turned_away-then-not-and.ensures _ _, refl)
+    (ap (λ (j : ℕ). both (leb 1 a.s) (leb a.s j)) e ∙ test))
+    (c.turned_away-then-not-s-n.ensures _ _, refl)
 
-pub returns-then-not-and-2 : goal.returns-then-not-and-2
-returns-then-not-and-2 c =
+pub returns-then-not-b : goal.returns-then-not-b
+returns-then-not-b c =
     let a = c.args in
+    let test : both (leb 1 a.s) (leb a.s c.get_word-n.result) ≡ true = search rules in
+    let sized : both (leb 1 (length a.b.now)) (leb (length a.b.now) frame_most) ≡ false = search rules in
     let h = admitted frame_output a.r.now a.out.now (sym c.admission-k.ensures ∙ c.if-k-ne0.false) in
     let e = own-n a.r.now c.get_word-n.ensures in
-    let sender = sym (c.and.ensures ∙ ap (λ (j : ℕ). both (leb 1 a.s) (leb a.s j)) (sym e)) ∙ c.if-not-and.false in
-    becomes-shown c.turned_away-then-not-and-2.result _ _ _ _
-    (is-14 a.r.now a.s a.b.now a.out.now h sender (sym c.and-2.ensures ∙ c.if-not-and-2.true))
-    (c.turned_away-then-not-and-2.ensures _ _, refl)
+    let sender = ap (λ (j : ℕ). both (leb 1 a.s) (leb a.s j)) e ∙ test in
+    becomes-shown c.turned_away-then-not-b.result _ _ _ _
+    (is-14 a.r.now a.s a.b.now a.out.now h sender sized)
+    (c.turned_away-then-not-b.ensures _ _, refl)
 
 pub found_view-requires : goal.found_view-requires
 found_view-requires c =
@@ -65,6 +69,7 @@ found_view-requires c =
 pub take_message-requires : goal.take_message-requires
 take_message-requires c =
     let a = c.args in
+    let test : both (leb 1 a.s) (leb a.s c.get_word-n.result) ≡ true = search rules in
     let h = admitted frame_output a.r.now a.out.now (sym c.admission-k.ensures ∙ c.if-k-ne0.false) in
     let n = c.get_word-n.result in
     let b = a.b.now in
@@ -72,7 +77,7 @@ take_message-requires c =
     let view = c.found_view.ensures.0 ∙ found-view n b _ (sym read) in
     let low = leb 1 a.s in
     let high = leb a.s n in
-    let sender = sym c.and.ensures ∙ c.if-not-and.false in
+    let sender = test in
     let big = h.room in (
       h.long,
       h.can-step,
@@ -88,12 +93,13 @@ take_message-requires c =
 pub returns-then-end-b : goal.returns-then-end-b
 returns-then-end-b c =
     let a = c.args in
+    let test : both (leb 1 a.s) (leb a.s c.get_word-n.result) ≡ true = search rules in
+    let sized : both (leb 1 (length a.b.now)) (leb (length a.b.now) frame_most) ≡ true = search rules in
     let b = a.b.now in
     let h = admitted frame_output a.r.now a.out.now (sym c.admission-k.ensures ∙ c.if-k-ne0.false) in
     let e = own-n a.r.now c.get_word-n.ensures in
     let n = c.get_word-n.result in
-    let sender = sym (c.and.ensures ∙ ap (λ (j : ℕ). both (leb 1 a.s) (leb a.s j)) (sym e)) ∙ c.if-not-and.false in
-    let sized = sym c.and-2.ensures ∙ c.if-not-and-2.false in
+    let sender = ap (λ (j : ℕ). both (leb 1 a.s) (leb a.s j)) e ∙ test in
     let m = c.in-At.m in
     let read = sym c.parse_prefix-f.ensures ∙ ap found c.in-At.is in
     let view = c.found_view.ensures.0 ∙ found-view n b _ (sym read) in
@@ -106,11 +112,12 @@ returns-then-end-b c =
 pub judge-fault-requires : goal.judge-fault-requires
 judge-fault-requires c =
     let a = c.args in
+    let test : both (leb 1 a.s) (leb a.s c.get_word-n.result) ≡ true = search rules in
     let h = admitted frame_output a.r.now a.out.now (sym c.admission-k.ensures ∙ c.if-k-ne0.false) in
     let e = own-n a.r.now c.get_word-n.ensures in
     let low = leb 1 a.s in
     let high = leb a.s c.get_word-n.result in
-    let sender = sym c.and.ensures ∙ c.if-not-and.false in (
+    let sender = test in (
       h.long,
       subst (λ (j : ℕ). 1 ≤ j) e (parts _ h.can-step).n-low,
       small_n a.r.now h.can-step e,
@@ -122,11 +129,12 @@ judge-fault-requires c =
 pub returns-then-fault-ne0 : goal.returns-then-fault-ne0
 returns-then-fault-ne0 c =
     let a = c.args in
+    let test : both (leb 1 a.s) (leb a.s c.get_word-n.result) ≡ true = search rules in
+    let sized : both (leb 1 (length a.b.now)) (leb (length a.b.now) frame_most) ≡ true = search rules in
     let b = a.b.now in
     let h = admitted frame_output a.r.now a.out.now (sym c.admission-k.ensures ∙ c.if-k-ne0.false) in
     let e = own-n a.r.now c.get_word-n.ensures in
-    let sender = sym (c.and.ensures ∙ ap (λ (j : ℕ). both (leb 1 a.s) (leb a.s j)) (sym e)) ∙ c.if-not-and.false in
-    let sized = sym c.and-2.ensures ∙ c.if-not-and-2.false in
+    let sender = ap (λ (j : ℕ). both (leb 1 a.s) (leb a.s j)) e ∙ test in
     becomes-shown c.turned_away-then-fault-ne0.result _ _ _ _
     (is-fault a.r.now a.s b a.out.now h sender sized
     (c.judge-fault.ensures ∙ ap (λ (j : ℕ). verdict j a.s (record_of a.r.now) b) (sym e)) c.if-fault-ne0.true)
@@ -135,11 +143,12 @@ returns-then-fault-ne0 c =
 pub take_all-requires : goal.take_all-requires
 take_all-requires c =
     let a = c.args in
+    let test : both (leb 1 a.s) (leb a.s c.get_word-n.result) ≡ true = search rules in
+    let sized : both (leb 1 (length a.b.now)) (leb (length a.b.now) frame_most) ≡ true = search rules in
     let b = a.b.now in
     let h = admitted frame_output a.r.now a.out.now (sym c.admission-k.ensures ∙ c.if-k-ne0.false) in
     let e = own-n a.r.now c.get_word-n.ensures in
-    let sender = sym (c.and.ensures ∙ ap (λ (j : ℕ). both (leb 1 a.s) (leb a.s j)) (sym e)) ∙ c.if-not-and.false in
-    let sized = sym c.and-2.ensures ∙ c.if-not-and-2.false in (
+    let sender = ap (λ (j : ℕ). both (leb 1 a.s) (leb a.s j)) e ∙ test in (
       subst (λ (j : ℕ). Goes a.r.now j a.s b a.out.now) e
           (no-fault a.r.now a.s b a.out.now h sender sized
           (sym c.if-fault-ne0.false ∙ c.judge-fault.ensures ∙ ap (λ (j : ℕ). verdict j a.s (record_of a.r.now) b)
@@ -151,11 +160,12 @@ take_all-requires c =
 pub returns-else-fault-ne0 : goal.returns-else-fault-ne0
 returns-else-fault-ne0 c =
     let a = c.args in
+    let test : both (leb 1 a.s) (leb a.s c.get_word-n.result) ≡ true = search rules in
+    let sized : both (leb 1 (length a.b.now)) (leb (length a.b.now) frame_most) ≡ true = search rules in
     let b = a.b.now in
     let h = admitted frame_output a.r.now a.out.now (sym c.admission-k.ensures ∙ c.if-k-ne0.false) in
     let e = own-n a.r.now c.get_word-n.ensures in
-    let sender = sym (c.and.ensures ∙ ap (λ (j : ℕ). both (leb 1 a.s) (leb a.s j)) (sym e)) ∙ c.if-not-and.false in
-    let sized = sym c.and-2.ensures ∙ c.if-not-and-2.false in
+    let sender = ap (λ (j : ℕ). both (leb 1 a.s) (leb a.s j)) e ∙ test in
     let free = no-fault a.r.now a.s b a.out.now h sender sized
     (sym c.if-fault-ne0.false ∙ c.judge-fault.ensures ∙ ap (λ (j : ℕ). verdict j a.s (record_of a.r.now) b) (sym e)) in
     becomes-shown c.take_all.result _ _ _ _
@@ -165,11 +175,12 @@ returns-else-fault-ne0 c =
 pub returns-in-Refused : goal.returns-in-Refused
 returns-in-Refused c =
     let a = c.args in
+    let test : both (leb 1 a.s) (leb a.s c.get_word-n.result) ≡ true = search rules in
+    let sized : both (leb 1 (length a.b.now)) (leb (length a.b.now) frame_most) ≡ true = search rules in
     let b = a.b.now in
     let h = admitted frame_output a.r.now a.out.now (sym c.admission-k.ensures ∙ c.if-k-ne0.false) in
     let e = own-n a.r.now c.get_word-n.ensures in
-    let sender = sym (c.and.ensures ∙ ap (λ (j : ℕ). both (leb 1 a.s) (leb a.s j)) (sym e)) ∙ c.if-not-and.false in
-    let sized = sym c.and-2.ensures ∙ c.if-not-and-2.false in
+    let sender = ap (λ (j : ℕ). both (leb 1 a.s) (leb a.s j)) e ∙ test in
     let read = sym c.parse_prefix-f.ensures ∙ ap found c.in-Refused.is in
     let some = leb-true _ _ (both_left (leb 1 (length b)) (leb (length b) frame_most) sized) in
     becomes-shown c.turned_away-in-Refused.result _ _ _ _

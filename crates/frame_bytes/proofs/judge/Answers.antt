@@ -1,6 +1,6 @@
 -- `frame_bytes::judge` meets its contract.
 use borrow.Author.Rules.{rules}
-use Prim.Native.Nat.{ℕ, ◌≤◌}
+use Prim.Native.Nat.{ℕ, ◌≤◌, ◌<◌}
 use mathlib.Core.Path.{refl, sym, ap, ap₂, ◌∙◌}
 use mathlib.Core.Bool.{Bool}
 use mathlib.Core.List.{List}
@@ -43,8 +43,8 @@ loop-t-init c = (
   c.requires.5,
 )
 
-pub is_late-requires : goal.is_late-requires
-is_late-requires c =
+pub is_late-stale-requires : goal.is_late-stale-requires
+is_late-stale-requires c =
     let n = c.args.n in
     let t = c.loop-t.t.now in
     found-any n t _ _ (sym c.loop-t.invariant.6 ∙ ap found c.in-At.is) (front_part n t) refl c.requires.2
@@ -102,7 +102,7 @@ loop-t-preserved c =
           (omega (arith, long-heard))
           (omega (arith, long-last)) p.3 high m (view_of n v) writer),
       ap₂ (λ (x : Bool) (z : List ℕ). verdict_after x n s (react d s m (view_of n v)).node z)
-          (c.or-stale.ensures ∙ ap (either c.loop-t.stale) (c.is_late.ensures
+          (ap (either c.loop-t.stale) (c.is_late-stale.ensures
           ∙ late_is n s c.loop-t.heard c.loop-t.last c.loop-t.top d match m writer)) (part_end k t)
           ∙ judged-more c.loop-t.stale n s d t m k read v refl ∙ c.loop-t.invariant.3,
       ap (λ (z : List ℕ). length z) c.note.ensures.0 ∙ heard-long c.loop-t.heard m ∙ long-heard,
@@ -110,22 +110,23 @@ loop-t-preserved c =
       c.parse_prefix-f.ensures,
     )
 
-pub returns-in-Refused : goal.returns-in-Refused
-returns-in-Refused c =
+pub returns-in_default : goal.returns-in_default
+returns-in_default c =
+    let some : 0 < length c.loop-t.t.now = search rules in
     judged-none c.loop-t.stale c.args.n c.args.s c.loop-t.invariant.0 c.loop-t.t.now _
-    (sym c.loop-t.invariant.6 ∙ ap found c.in-Refused.is) c.loop-t-test.true
+    (sym c.loop-t.invariant.6 ∙ ap found c.in_default.is) some
     ∙ c.loop-t.invariant.3
 
 pub returns-then-stale : goal.returns-then-stale
 returns-then-stale c =
     sym (judged-end c.loop-t.stale c.args.n c.args.s c.loop-t.invariant.0 c.loop-t.t.now
-    (empty c.loop-t.t.now c.loop-t-test.false)
+    (empty c.loop-t.t.now (search rules))
     ∙ ap (λ (z : Bool). pick {A = ℕ} z 9 0) c.if-stale.true)
     ∙ c.loop-t.invariant.3
 
 pub returns-else-stale : goal.returns-else-stale
 returns-else-stale c =
     sym (judged-end c.loop-t.stale c.args.n c.args.s c.loop-t.invariant.0 c.loop-t.t.now
-    (empty c.loop-t.t.now c.loop-t-test.false)
+    (empty c.loop-t.t.now (search rules))
     ∙ ap (λ (z : Bool). pick {A = ℕ} z 9 0) c.if-stale.false)
     ∙ c.loop-t.invariant.3

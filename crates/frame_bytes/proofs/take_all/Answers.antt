@@ -1,6 +1,6 @@
 -- `frame_bytes::take_all` meets its contract.
 use borrow.Author.Rules.{rules}
-use Prim.Native.Nat.{ℕ}
+use Prim.Native.Nat.{ℕ, ◌<◌}
 use mathlib.Core.Path.{refl, sym, ap, ◌∙◌, subst}
 use mathlib.Core.List.{List}
 use native.Mathlib.Omega.{arith}
@@ -44,8 +44,8 @@ pub slice_bounds-take_message-start : goal.slice_bounds-take_message-start
 slice_bounds-take_message-start c =
     let h = c.loop-t.invariant.1.stand.inside in search rules
 
-pub slice_bounds-take_message-end-in-At : goal.slice_bounds-take_message-end-in-At
-slice_bounds-take_message-end-in-At c =
+pub slice_bounds-take_message-end-in-loop-t : goal.slice_bounds-take_message-end-in-loop-t
+slice_bounds-take_message-end-in-loop-t c =
     let h = c.loop-t.invariant.1.stand.inside in search rules
 
 pub take_message-a-requires : goal.take_message-a-requires
@@ -140,19 +140,11 @@ loop-t-preserved c =
       c.parse_prefix-f.ensures,
     )
 
-pub shape_of-r-in-Refused : goal.shape_of-r-in-Refused
-shape_of-r-in-Refused c =
-    c.loop-t.invariant.1.stand.long ∙ sym c.requires.0.long
-
-pub shape_of-out-in-Refused : goal.shape_of-out-in-Refused
-shape_of-out-in-Refused c =
-    c.loop-t.invariant.3
-
-pub returns-in-Refused : goal.returns-in-Refused
-returns-in-Refused c =
-    let read = sym c.loop-t.invariant.4 ∙ ap found c.in-Refused.is in
-    let some = c.loop-t-test.true in
-    true-false _ c.loop-t.invariant.1.whole (whole-none c.args.n c.loop-t.t.now _ read (omega (arith, some)))
+pub returns-in_default : goal.returns-in_default
+returns-in_default c =
+    let read = sym c.loop-t.invariant.4 ∙ ap found c.in_default.is in
+    let some : 0 < length c.loop-t.t.now = search rules in
+    true-false _ c.loop-t.invariant.1.whole (whole-none c.args.n c.loop-t.t.now _ read some)
 
 pub shape_of-r : goal.shape_of-r
 shape_of-r c =
@@ -167,5 +159,5 @@ returns c =
     subst (λ (e : LentResult). Shows (called c.loop-t.ending c.loop-t.at) c.loop-t.r c.loop-t.out c.loop-t.view e
     c.args.view.now)
     (last-along c.args.n c.args.s c.loop-t.t.now _ c.loop-t.ending _ c.loop-t.invariant.1
-    (empty c.loop-t.t.now c.loop-t-test.false))
+    (empty c.loop-t.t.now (search rules)))
     ((st.tells, refl, refl, refl, refl), c.loop-t.invariant.2)

@@ -1,37 +1,14 @@
 -- `frame_bytes::marks::last_tags` meets its contract.
-use borrow.Author.Rules.{rules}
-use mathlib.Core.Path.{◌∙◌}
-use native.Mathlib.Omega.{arith}
-use lib.ListN.{length-set}
+use Rattle.std.proofs.Common.{rules}
+use Rattle.octets.proofs.FromFn.{from_fn-tab}
+use Rattle.view.specs.Size.{nodes}
 use Rattle.table.specs.Table.{tag_of}
 use Rattle.region.specs.Record.{view_in, last_in}
-use Rattle.frame_bytes.proofs.Marked.{filled}
+use Rattle.frame_bytes.proofs.Marked.{marked}
 use Rattle.frame_bytes.proofs.marks.last_tags.Goals as goal
 
-pub loop-i-init : goal.loop-i-init
-loop-i-init c = (search rules, search rules, λ w l k. absurd (omega (arith, l, k)))
-
-pub loop-i-preserved : goal.loop-i-preserved
-loop-i-preserved c =
-    let more = c.loop-i-test.true in
-    let small = c.requires.1 in (
-      search rules,
-      length-set c.loop-i.t c.loop-i.i _ ∙ c.loop-i.invariant.1,
-      filled c.loop-i.t c.loop-i.i _ (tag_of (view_in c.args.r.now last_in)) (let long = c.loop-i.invariant.1 in omega (
-        arith,
-        long,
-        more,
-        small,
-      )) c.loop-i.invariant.2
-          c.tag_in.ensures,
-    )
-
 pub returns : goal.returns
-returns c = (
-  c.loop-i.invariant.1,
-  λ w l k. c.loop-i.invariant.2 w l (let i = c.loop-i-test.false in omega (
-    arith,
-    i,
-    k,
-  )),
-)
+returns c =
+    let a = c.args in
+    marked a.n (tag_of (view_in a.r.now last_in))
+    (from_fn-tab _ _ _ (λ i y q e. search rules) c.from_fn.result nodes 0 c.from_fn.ensures.items) c.requires.1
