@@ -11,7 +11,7 @@ use Rattle.octets.proofs.Test.{both_left, both_right, both_true}
 use Rattle.octets.specs.Test.{both}
 use Rattle.view.specs.Size.{limit, nodes, is_size}
 use Rattle.table.specs.Loop.{either}
-use Rattle.table.specs.Quorum.{only, tolerates, can_be}
+use Rattle.table.specs.Quorum.{only, tolerates}
 use Rattle.table.specs.Table.{view_within, heard_within}
 use Rattle.table.proofs.Sets.{tolerates-half, half-tolerates}
 use Rattle.record.specs.declared.Node.{Node}
@@ -67,12 +67,6 @@ module _ (c : Node) where
 
   abbrev rest_t : Bool
   rest_t = both held_t (view_within c.kept c.keptview)
-
--- n of a record that can be keeps its limit
-pub sizes-most : (n f own : ℕ) → sizes_within n f own ≡ true → n ≤ nodes
-sizes-most n f own h =
-    halves (can_be n f) (both (leb 1 own) (leb own n)) h (λ p q. halves (is_size n) (tolerates n f) p
-    (λ s t. leb-true n nodes (both_right (leb 1 n) (leb n nodes) s)))
 
 pub parts : (c : Node) → usable c ≡ true → Parts c
 unfolding usable numbers_ok tables_ok

@@ -10,9 +10,9 @@ use native.Mathlib.Numerals.{add-one}
 use native.Mathlib.Omega.{arith}
 use lib.ListN.{length, length-map, get_or, set, drop, length-append, get_or-append}
 use lib.Seq.{get_or_at, set_at, drop-cons, drop-length, append_snoc}
-use Rattle.octets.specs.Test.{pick, both}
+use Rattle.octets.specs.Test.{both}
 use Rattle.octets.proofs.Test.{both_left, both_right, both_true}
-use Rattle.table.specs.Loop.{all, count, numbered}
+use Rattle.table.specs.Loop.{all, numbered}
 
 pub all_none : (p : ℕ → Bool) → all 0 p ≡ true
 unfolding all
@@ -37,14 +37,6 @@ pub all-all : (n : ℕ) (p : ℕ → Bool) → ((w : ℕ) → 1 ≤ w → w ≤ 
 unfolding all
 all-all zero p h = refl
 all-all (suc n) p h = both_true (h (suc n) (omega arith) (omega arith)) (all-all n p (λ w l k. h w l (omega arith)))
-
-pub count_none : (p : ℕ → Bool) → count 0 p ≡ 0
-unfolding count
-count_none p = refl
-
-pub count-more : (k : ℕ) (p : ℕ → Bool) → count (k + 1) p ≡ pick (p (k + 1)) (count k p + 1) (count k p)
-unfolding count
-count-more k p = rw (add-one k)
 
 pub numbered-none {ℓ} : {X : Type ℓ} (f : ℕ → X) → numbered 0 f ≡ []
 unfolding numbered
