@@ -2,7 +2,9 @@
 use mathlib.Core.Path.{◌≡◌, refl, sym, ap, ap₂, ◌∙◌}
 use mathlib.Core.Bool.{Bool, true, false}
 use Prim.Native.Nat.{ℕ, zero, suc, ◌+◌, ◌-◌, ◌*◌, ◌/◌, ◌%◌, ◌^◌, ◌≤◌, ◌<◌}
-use native.Mathlib.Nat.{mod-eq_of_lt, one-mul, div-eq_of_lt, mul-mod_left, zero-div, mod-lt}
+use native.Mathlib.Nat.{mod-eq_of_lt, one-mul, div-eq_of_lt, mul-mod_left, zero-div, mod-lt, mod-one}
+use lib.Count.{ones, ones_cat, ones-ones}
+use Rattle.std.proofs.lemmas.Nat.{mod-pow-add, pow_pos}
 use native.Mathlib.Decide.{ℕ_discrete, dec_lt}
 use native.Mathlib.Omega.{arith}
 use lib.Dec.{leb, ltb, eqb}
@@ -127,6 +129,24 @@ pub members_in-with : (n m s : ℕ) → 1 ≤ s → s ≤ n → member m s ≡ f
 unfolding members_in
 members_in-with n m s a b e =
     count-one-more n (member m) (member (with m s)) s a b e (member-same m s) (λ w l d. member-other m s w a l d)
+
+-- the members are the ones among the first n bits
+pub members_in-ones : (n m : ℕ) → ones (m % 2 ^ n) ≡ members_in n m
+unfolding members_in count member
+members_in-ones zero m = rw (mod-one m) (ones-ones 0)
+members_in-ones (suc n) m =
+    let back : suc n - 1 ≡ n = omega arith in
+    let next : suc n ≡ 1 + n = omega arith in
+    let bit : m / 2 ^ n % 2 < 2 = mod-lt (m / 2 ^ n) (omega arith) in
+    ap (λ (k : ℕ). ones (m % 2 ^ k)) next
+    ∙ ap ones (mod-pow-add m 1 n)
+    ∙ ones_cat n (m / 2 ^ n % 2) (m % 2 ^ n) (mod-lt m (pow_pos n))
+    ∙ rw back (step (m / 2 ^ n % 2) bit (members_in-ones n m))
+  where
+    step : (b : ℕ) {r c : ℕ} → b < 2 → r ≡ c → ones b + r ≡ pick (eqb b 1) (c + 1) c
+    step zero h e = omega (arith, ones-ones 0, e)
+    step (suc zero) h e = omega (arith, ones-ones 1, e)
+    step (suc (suc b)) h e = absurd (omega arith)
 
 -- ---- f
 

@@ -39,12 +39,12 @@ pub fn is_only(n: usize, m: u64) -> bool
     m >> n == 0
 }
 
-// How many of the nodes 1 to n are in the set m.
+// How many of the nodes 1 to n are in the set m: the ones among its first n bits.
 pub fn members(n: usize, m: u64) -> usize
     requires { n ≤ nodes }
     ensures { result ≡ members_in n m }
 {
-    (1..=n).filter(|&s| is_member(m, s)).count()
+    (m & ((1 << n) - 1)).count_ones() as usize
 }
 
 // Whether sender s has sent, for each writer, the report held or a later one.
