@@ -9,8 +9,9 @@ use lib.ListN.{length, take, drop, length-append, take-append-drop}
 use lib.Dec.{leb, eqb}
 use borrow.Author.Tests.{eqb-true, leb-true}
 use Rattle.octets.specs.Test.{pick, both}
-use Rattle.octets.specs.Bytes.{same}
-use Rattle.octets.proofs.Test.{both_left, both_right, same_true}
+use Rattle.std.specs.Str.{bytes_eq}
+use Rattle.std.proofs.lemmas.Slice.Eq.{bytes_eq-Decides}
+use Rattle.octets.proofs.Test.{both_left, both_right}
 use Rattle.view.specs.Size.{report_size}
 use Rattle.view.specs.Report.{report_of}
 use Rattle.table.specs.Quorum.{tolerates}
@@ -110,11 +111,11 @@ cut-end t w e q =
     let h : 1 ≤ length (word t) = rw w (omega arith) in
     field-split t h ∙ ap₂ (λ (r s : List ℕ). field r ++ s) w (last-field (after t) e q)
 
-cut-view : (t : List ℕ) (b : Bool) {m : Number} (e : Bool) → same (word t) cut_is ≡ b → NumberView (word (after t)) m
+cut-view : (t : List ℕ) (b : Bool) {m : Number} (e : Bool) → bytes_eq (word t) cut_is ≡ b → NumberView (word (after t)) m
     → eqb (length (after (after t))) 0 ≡ e → EndView t (cut_by b m e)
 cut-view t b e p none q = none
 cut-view t true true p (number n) q =
-    end (subst (λ (s : List ℕ). End s (Cut (value (word (after t))))) (sym (cut-end t (same_true (word t) cut_is p) n
+    end (subst (λ (s : List ℕ). End s (Cut (value (word (after t))))) (sym (cut-end t ((bytes_eq-Decides (word t) cut_is).0 p) n
     q)) (cut (word (after t)) n))
 cut-view t true false p (number n) q = none
 cut-view t false e p (number n) q = none
@@ -124,11 +125,11 @@ unfolding tail_of
 end-view t = cases (eqb (length t) 0) refl
   where
     rest : Tail
-    rest = cut_by (same (word t) cut_is) (number_of (word (after t))) (eqb (length (after (after t))) 0)
+    rest = cut_by (bytes_eq (word t) cut_is) (number_of (word (after t))) (eqb (length (after (after t))) 0)
 
     cases : (b : Bool) → eqb (length t) 0 ≡ b → EndView t (pick b (Is Whole) rest)
     cases true e = rw (empty t e) (end whole)
-    cases false e = cut-view t (same (word t) cut_is) (eqb (length (after (after t))) 0) refl (number-view (word
+    cases false e = cut-view t (bytes_eq (word t) cut_is) (eqb (length (after (after t))) 0) refl (number-view (word
         (after t))) refl
 
 -- ---- events

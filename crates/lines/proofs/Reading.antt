@@ -65,12 +65,11 @@ abbrev Begins : List ℕ → Type 0
 Begins u = get_or u 0 space ≡ space
 
 word-ends : (w u : List ℕ) → NoSpace w → Begins u → place_of space (w ++ u) ≡ length w
-unfolding place_of
 word-ends [] [] h b = refl
 word-ends [] (x ∷ u) h b = simp (eq-eqb x space b)
 word-ends (x ∷ w) u h b =
     let n : eqb x space ≡ false = ne_eqb x space (h 0 (omega arith)) in
-    rw (n, word-ends w u (λ i l. h (suc i) (omega arith)) b)
+    rw (n, word-ends w u (λ i l. h (suc i) (omega arith)) b) (omega arith)
 
 field-ends : (w u : List ℕ) → NoSpace w → Begins u → field_length (field w ++ u) ≡ suc (length w)
 unfolding field_length

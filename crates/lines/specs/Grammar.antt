@@ -3,8 +3,9 @@
 -- `d a b` or `x c`, where u, s and d may end in `cut m`. Spaces are single. A report h has sixteen hexadecimal digits
 -- with small letters, every other number one to four digits. What is not of this form is a bad line.
 use Rattle.std.specs.Prelude.{ℕ, suc, ◌-◌, Bool, List, [], ◌∷◌, length, take, drop, get_or, leb, eqb}
+use Rattle.std.specs.List.{position_or_len}
+use Rattle.std.specs.Str.{bytes_eq}
 use Rattle.octets.specs.Test.{pick, both}
-use Rattle.octets.specs.Bytes.{same}
 use Rattle.view.specs.Size.{report_size}
 use Rattle.view.specs.Report.{report_of}
 use Rattle.table.specs.Quorum.{tolerates}
@@ -43,9 +44,8 @@ abbrev pub space : ℕ
 space = 32
 
 -- the place of the first x, or the end
-unfoldable pub place_of : ℕ → List ℕ → ℕ
-place_of x [] = 0
-place_of x (y ∷ s) = pick (eqb y x) 0 (suc (place_of x s))
+abbrev pub place_of : ℕ → List ℕ → ℕ
+place_of x s = position_or_len (λ y. eqb y x) s
 
 -- 0 where what comes first is no space
 unfoldable pub field_length : List ℕ → ℕ
@@ -71,7 +71,7 @@ cut_is = 99 ∷ 117 ∷ 116 ∷ []
 unfoldable pub tail_of : List ℕ → Tail
 tail_of t =
     pick (eqb (length t) 0) (Is Whole)
-    (cut_by (same (word t) cut_is) (number_of (word (after t))) (eqb (length (after (after t))) 0))
+    (cut_by (bytes_eq (word t) cut_is) (number_of (word (after t))) (eqb (length (after (after t))) 0))
 
 -- ---- events, from what comes after their letter
 

@@ -3,13 +3,12 @@
 #![tactic(auto)]
 
 ghost use Rattle.std.specs.Prelude.{◌≡◌, ◌≤◌, length};
-ghost use Rattle.octets.specs.Bytes.{same};
+ghost use Rattle.std.specs.Str.{bytes_eq};
 ghost use Rattle.lines.specs.Grammar.{number_of, report_in, place_of, field_length, cut_is, cut_by, tail_of, event_of};
 ghost use Rattle.lines.specs.Grammar.{update_by, scan_by, deliver_by, stop_by, opening_by, first_of};
 ghost use Rattle.lines.specs.Grammar.{word as Grammar·word, after as Grammar·after};
 
 use digits::{all_digits, all_hex, hex_bytes};
-use octets::and;
 use table::quorum::tolerates;
 use view::{REPORT, Report};
 
@@ -78,10 +77,11 @@ pub enum Tail {
 const DIGITS: usize = 2 * REPORT;
 
 // The number that a word of one to four digits says.
+#[tactic(auto, unfolding(crate::specs::Grammar::number_of))]
 fn read_number(w: &[u8]) -> Number
     ensures { result ≡ number_of w.now }
 {
-    if and(and(1 <= w.len(), w.len() <= 4), all_digits(w)) {
+    if 1 <= w.len() && w.len() <= 4 && all_digits(w) {
         Number::Value(digits::number(w))
     } else {
         Number::NoNumber
@@ -89,12 +89,12 @@ fn read_number(w: &[u8]) -> Number
 }
 
 // The report that a word of its hexadecimal digits says.
+#[tactic(auto, unfolding(crate::specs::Grammar::report_in))]
 fn read_report(w: &[u8]) -> Reported
     ensures { result ≡ report_in w.now }
 {
-    if and(w.len() == DIGITS, all_hex(w)) {
-        let b = hex_bytes(w);
-        Reported::Shown(view::read_report(&b))
+    if w.len() == DIGITS && all_hex(w) {
+        Reported::Shown(view::read_report(&hex_bytes(w)))
     } else {
         Reported::NoReport
     }
@@ -104,53 +104,40 @@ fn read_report(w: &[u8]) -> Reported
 fn place_of(x: u8, s: &[u8]) -> usize
     ensures { (result ≡ place_of x s.now) × (result ≤ length s.now) }
 {
-    let mut i = 0;
-    while i < s.len() {
-        if s[i] == x {
-            return i;
-        }
-        i += 1;
-    }
-    i
+    s.iter().position(|y| *y == x).unwrap_or(s.len())
 }
 
 // The bytes of the first field: its space and its word.
 fn field_length(t: &[u8]) -> usize
     ensures { (result ≡ field_length t.now) × (result ≤ length t.now) }
 {
-    if t.len() == 0 {
-        return 0;
+    match t {
+        [b' ', word @ ..] => 1 + place_of(b' ', word),
+        _ => 0,
     }
-    if t[0] == 32 {
-        return 1 + place_of(32, &t[1..]);
-    }
-    0
 }
 
 // The first field's word.
+#[tactic(auto, unfolding(crate::specs::Grammar::word))]
 fn word(t: &[u8]) -> &[u8]
     ensures { result.now ≡ Grammar·word t.now }
 {
-    let e = field_length(t);
-    if e == 0 { &t[..0] } else { &t[1..e] }
+    let end = field_length(t);
+    if end == 0 { &t[..0] } else { &t[1..end] }
 }
 
 // What comes after the first field.
+#[tactic(auto, unfolding(crate::specs::Grammar::after))]
 fn after(t: &[u8]) -> &[u8]
     ensures { result.now ≡ Grammar·after t.now }
 {
-    let e = field_length(t);
-    &t[e..]
+    &t[field_length(t)..]
 }
 
 fn is_cut(w: &[u8]) -> bool
-    ensures { result ≡ same w.now cut_is }
+    ensures { result ≡ bytes_eq w.now cut_is }
 {
-    if w.len() == 3 {
-        and(w[0] == 99, and(w[1] == 117, w[2] == 116))
-    } else {
-        false
-    }
+    w == b"cut".as_slice()
 }
 
 fn make_cut(named: bool, m: Number, last: bool) -> Tail
@@ -158,7 +145,7 @@ fn make_cut(named: bool, m: Number, last: bool) -> Tail
 {
     match m {
         Number::Value(x) => {
-            if and(named, last) {
+            if named && last {
                 Tail::Is(Extent::Cut(x))
             } else {
                 Tail::NoTail
@@ -169,15 +156,15 @@ fn make_cut(named: bool, m: Number, last: bool) -> Tail
 }
 
 // What comes after an event's numbers: nothing, or `cut m`.
+#[tactic(auto, unfolding(crate::specs::Grammar::tail_of))]
 fn read_tail(t: &[u8]) -> Tail
     ensures { result ≡ tail_of t.now }
 {
-    if t.len() == 0 {
+    if t.is_empty() {
         return Tail::Is(Extent::Whole);
     }
     let u = after(t);
-    let v = after(u);
-    make_cut(is_cut(word(t)), read_number(word(u)), v.len() == 0)
+    make_cut(is_cut(word(t)), read_number(word(u)), after(u).is_empty())
 }
 
 fn make_update(c: Number, p: Reported, x: Tail) -> Line
@@ -249,36 +236,29 @@ fn make_stop(c: Number, last: bool) -> Line
 }
 
 // The event that a line is.
+#[tactic(auto, unfolding(crate::specs::Grammar::event_of))]
 pub fn event(s: &[u8]) -> Line
     ensures { result ≡ event_of s.now }
 {
-    if s.len() == 0 {
-        return Line::Bad;
-    }
-    let letter = s[0];
-    let t = &s[1..];
+    let [letter, t @ ..] = s else {
+        return Line::Bad
+    };
     let u = after(t);
-    if letter == 117 {
-        return make_update(
+    match letter {
+        b'u' => make_update(
             read_number(word(t)),
             read_report(word(u)),
             read_tail(after(u)),
-        );
-    }
-    if letter == 115 {
-        return make_scan(read_number(word(t)), read_tail(u));
-    }
-    if letter == 100 {
-        return make_deliver(
+        ),
+        b's' => make_scan(read_number(word(t)), read_tail(u)),
+        b'd' => make_deliver(
             read_number(word(t)),
             read_number(word(u)),
             read_tail(after(u)),
-        );
+        ),
+        b'x' => make_stop(read_number(word(t)), u.is_empty()),
+        _ => Line::Bad,
     }
-    if letter == 120 {
-        return make_stop(read_number(word(t)), u.len() == 0);
-    }
-    Line::Bad
 }
 
 fn make_opening(a: Number, b: Number, last: bool) -> Opening
@@ -287,7 +267,7 @@ fn make_opening(a: Number, b: Number, last: bool) -> Opening
     match a {
         Number::Value(n) => match b {
             Number::Value(f) => {
-                if and(last, and(n <= 5, tolerates(n, f))) {
+                if last && n <= 5 && tolerates(n, f) {
                     Opening {
                         nodes: n,
                         faults: f,
@@ -303,11 +283,15 @@ fn make_opening(a: Number, b: Number, last: bool) -> Opening
 }
 
 // What the first line says.
+#[tactic(auto, unfolding(crate::specs::Grammar::first_of))]
 pub fn first(s: &[u8]) -> Opening
     ensures { result ≡ first_of s.now }
 {
-    let e = place_of(32, s);
-    let t = &s[e..];
-    let u = after(t);
-    make_opening(read_number(&s[..e]), read_number(word(t)), u.len() == 0)
+    let end = place_of(b' ', s);
+    let t = &s[end..];
+    make_opening(
+        read_number(&s[..end]),
+        read_number(word(t)),
+        after(t).is_empty(),
+    )
 }
