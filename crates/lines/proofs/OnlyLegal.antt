@@ -3,11 +3,12 @@ use Prim.Native.Nat.{ℕ, suc, ◌-◌, ◌≤◌}
 use mathlib.Core.Path.{◌≡◌, refl, sym, ap, ap₂, subst, ◌∙◌}
 use mathlib.Core.Bool.{Bool, true, false}
 use mathlib.Core.List.{List, [], ◌∷◌, ◌++◌, append-nil}
-use mathlib.Core.Logic.{◌⊎◌, inl, inr, ⊎_elim}
 use native.Mathlib.Omega.{arith}
 use lib.ListN.{length, take, drop, length-append, take-append-drop}
 use lib.Dec.{leb, eqb}
 use borrow.Author.Tests.{eqb-true, leb-true}
+use Rattle.std.specs.Prelude.{Option, Some, None}
+use Rattle.view.specs.declared.Report.{Report}
 use Rattle.octets.specs.Test.{pick, both}
 use Rattle.std.specs.Str.{bytes_eq}
 use Rattle.std.proofs.lemmas.Slice.Eq.{bytes_eq-Decides}
@@ -20,43 +21,36 @@ use Rattle.digits.specs.Decimal.{all_digits, value}
 use Rattle.digits.specs.Hex.{all_hex, hex_bytes, hex_size}
 use Rattle.lines.specs.Grammar.{space, is_number, number_of, is_report, report_in, place_of, field_length, word}
 use Rattle.lines.specs.Grammar.{after, cut_is, cut_by, tail_of, update_by, scan_by, deliver_by, stop_by, event_of}
-use Rattle.lines.specs.Grammar.{no_opening, opening_by, first_by, first_of}
+use Rattle.lines.specs.Grammar.{opening_by, first_by, first_of}
 use Rattle.lines.specs.Legal.{field, Opens, opens, End, whole, cut, Legal, update, scan, deliver, stop}
-use Rattle.lines.specs.declared.Number.{Number}
-use Rattle.lines.specs.declared.Number.TheVariants.{Value, NoNumber}
-use Rattle.lines.specs.declared.Reported.{Reported}
-use Rattle.lines.specs.declared.Reported.TheVariants.{Shown, NoReport}
-use Rattle.lines.specs.declared.Tail.{Tail}
-use Rattle.lines.specs.declared.Tail.TheVariants.{Is, NoTail}
-use Rattle.lines.specs.declared.Extent.{Extent}
-use Rattle.lines.specs.declared.Extent.TheVariants.{Whole, Cut}
+use Rattle.outgoing.specs.declared.Extent.{Extent}
+use Rattle.outgoing.specs.declared.Extent.TheVariants.{Whole, Cut}
 use Rattle.lines.specs.declared.Opening.{Opening}
-use Rattle.lines.specs.declared.Line.{Line}
-use Rattle.lines.specs.declared.Line.TheVariants.{Bad}
+use Rattle.lines.specs.declared.Command.{Command}
 
 -- ---- what a word, a field and an end that were read have been
 
-data NumberView (w : List ℕ) : Number → Type 0 where
-  number : is_number w ≡ true → NumberView w (Value (value w))
-  none : NumberView w NoNumber
+data NumberView (w : List ℕ) : Option ℕ → Type 0 where
+  number : is_number w ≡ true → NumberView w (Some (value w))
+  none : NumberView w None
 
 number-view : (w : List ℕ) → NumberView w (number_of w)
 unfolding number_of
 number-view w = cases (is_number w) refl
   where
-    cases : (t : Bool) → is_number w ≡ t → NumberView w (pick t (Value (value w)) NoNumber)
+    cases : (t : Bool) → is_number w ≡ t → NumberView w (pick t (Some (value w)) None)
     cases true e = number e
     cases false e = none
 
-data ReportView (w : List ℕ) : Reported → Type 0 where
-  report : is_report w ≡ true → ReportView w (Shown (report_of (hex_bytes report_size w)))
-  none : ReportView w NoReport
+data ReportView (w : List ℕ) : Option Report → Type 0 where
+  report : is_report w ≡ true → ReportView w (Some (report_of (hex_bytes report_size w)))
+  none : ReportView w None
 
 report-view : (w : List ℕ) → ReportView w (report_in w)
 unfolding report_in
 report-view w = cases (is_report w) refl
   where
-    cases : (t : Bool) → is_report w ≡ t → ReportView w (pick t (Shown (report_of (hex_bytes report_size w))) NoReport)
+    cases : (t : Bool) → is_report w ≡ t → ReportView w (pick t (Some (report_of (hex_bytes report_size w))) None)
     cases true e = report e
     cases false e = none
 
@@ -101,9 +95,9 @@ last-field : (t : List ℕ) → is_number (word t) ≡ true → eqb (length (aft
 last-field t e q =
     number-field t e ∙ ap (λ (r : List ℕ). field (word t) ++ r) (empty (after t) q) ∙ append-nil (field (word t))
 
-data EndView (t : List ℕ) : Tail → Type 0 where
-  end : {x : Extent} → End t x → EndView t (Is x)
-  none : EndView t NoTail
+data EndView (t : List ℕ) : Option Extent → Type 0 where
+  end : {x : Extent} → End t x → EndView t (Some x)
+  none : EndView t None
 
 cut-end : (t : List ℕ) → word t ≡ cut_is → is_number (word (after t)) ≡ true → eqb (length (after (after t))) 0 ≡ true
     → t ≡ field cut_is ++ field (word (after t))
@@ -111,7 +105,7 @@ cut-end t w e q =
     let h : 1 ≤ length (word t) = rw w (omega arith) in
     field-split t h ∙ ap₂ (λ (r s : List ℕ). field r ++ s) w (last-field (after t) e q)
 
-cut-view : (t : List ℕ) (b : Bool) {m : Number} (e : Bool) → bytes_eq (word t) cut_is ≡ b → NumberView (word (after t)) m
+cut-view : (t : List ℕ) (b : Bool) {m : Option ℕ} (e : Bool) → bytes_eq (word t) cut_is ≡ b → NumberView (word (after t)) m
     → eqb (length (after (after t))) 0 ≡ e → EndView t (cut_by b m e)
 cut-view t b e p none q = none
 cut-view t true true p (number n) q =
@@ -124,65 +118,66 @@ end-view : (t : List ℕ) → EndView t (tail_of t)
 unfolding tail_of
 end-view t = cases (eqb (length t) 0) refl
   where
-    rest : Tail
+    rest : Option Extent
     rest = cut_by (bytes_eq (word t) cut_is) (number_of (word (after t))) (eqb (length (after (after t))) 0)
 
-    cases : (b : Bool) → eqb (length t) 0 ≡ b → EndView t (pick b (Is Whole) rest)
+    cases : (b : Bool) → eqb (length t) 0 ≡ b → EndView t (pick b (Some Whole) rest)
     cases true e = rw (empty t e) (end whole)
     cases false e = cut-view t (bytes_eq (word t) cut_is) (eqb (length (after (after t))) 0) refl (number-view (word
         (after t))) refl
 
 -- ---- events
 
-abbrev pub LegalOrBad : List ℕ → Line → Type 0
-LegalOrBad s l = Legal s l ⊎ (l ≡ Bad)
+pub data LegalOrBad (s : List ℕ) : Option Command → Type 0 where
+  legal : {l : Command} → Legal s l → LegalOrBad s (Some l)
+  bad : LegalOrBad s None
 
-legal-as : {s r : List ℕ} {l : Line} → s ≡ r → Legal r l → LegalOrBad s l
-legal-as {l = l} e h = inl (subst (λ (b : List ℕ). Legal b l) (sym e) h)
+legal-as : {s r : List ℕ} {l : Command} → s ≡ r → Legal r l → LegalOrBad s (Some l)
+legal-as {l = l} e h = legal (subst (λ (b : List ℕ). Legal b l) (sym e) h)
 
-update-view : (t : List ℕ) {c : Number} {p : Reported} {x : Tail} → NumberView (word t) c → ReportView (word
+update-view : (t : List ℕ) {c : Option ℕ} {p : Option Report} {x : Option Extent} → NumberView (word t) c → ReportView (word
     (after t)) p
     → EndView (after (after t)) x → LegalOrBad (117 ∷ t) (update_by c p x)
-update-view t none p x = inr refl
-update-view t (number c) none x = inr refl
-update-view t (number c) (report p) none = inr refl
+update-view t none p x = bad
+update-view t (number c) none x = bad
+update-view t (number c) (report p) none = bad
 update-view t (number c) (report p) (end x) =
     let h : 1 ≤ length (word (after t)) = omega (arith, report-length (word (after t)) p) in
     legal-as (ap (λ (r : List ℕ). 117 ∷ r) (number-field t c
     ∙ ap (λ (r : List ℕ). field (word t) ++ r) (field-split (after t) h)))
     (update (word t) (word (after t)) c p x)
 
-scan-view : (t : List ℕ) {c : Number} {x : Tail} → NumberView (word t) c → EndView (after t) x
+scan-view : (t : List ℕ) {c : Option ℕ} {x : Option Extent} → NumberView (word t) c → EndView (after t) x
     → LegalOrBad (115 ∷ t) (scan_by c x)
-scan-view t none x = inr refl
-scan-view t (number c) none = inr refl
+scan-view t none x = bad
+scan-view t (number c) none = bad
 scan-view t (number c) (end x) = legal-as (ap (λ (r : List ℕ). 115 ∷ r) (number-field t c)) (scan (word t) c x)
 
-deliver-view : (t : List ℕ) {a b : Number} {x : Tail} → NumberView (word t) a → NumberView (word (after t)) b
+deliver-view : (t : List ℕ) {a b : Option ℕ} {x : Option Extent} → NumberView (word t) a → NumberView (word (after t)) b
     → EndView (after (after t)) x → LegalOrBad (100 ∷ t) (deliver_by a b x)
-deliver-view t none b x = inr refl
-deliver-view t (number a) none x = inr refl
-deliver-view t (number a) (number b) none = inr refl
+deliver-view t none b x = bad
+deliver-view t (number a) none x = bad
+deliver-view t (number a) (number b) none = bad
 deliver-view t (number a) (number b) (end x) =
     legal-as (ap (λ (r : List ℕ). 100 ∷ r) (number-field t a
     ∙ ap (λ (r : List ℕ). field (word t) ++ r) (number-field (after t) b)))
     (deliver (word t) (word (after t)) a b x)
 
-stop-view : (t : List ℕ) {c : Number} (e : Bool) → NumberView (word t) c → eqb (length (after t)) 0 ≡ e
+stop-view : (t : List ℕ) {c : Option ℕ} (e : Bool) → NumberView (word t) c → eqb (length (after t)) 0 ≡ e
     → LegalOrBad (120 ∷ t) (stop_by c e)
-stop-view t e none q = inr refl
+stop-view t e none q = bad
 stop-view t true (number c) q = legal-as (ap (λ (r : List ℕ). 120 ∷ r) (last-field t c q)) (stop (word t) c)
-stop-view t false (number c) q = inr refl
+stop-view t false (number c) q = bad
 
 -- by the letter
-lettered : (x k : ℕ) (t : List ℕ) (b : Bool) {l m : Line} → eqb x k ≡ b → LegalOrBad (k ∷ t) l → LegalOrBad (x ∷ t) m
+lettered : (x k : ℕ) (t : List ℕ) (b : Bool) {l m : Option Command} → eqb x k ≡ b → LegalOrBad (k ∷ t) l → LegalOrBad (x ∷ t) m
     → LegalOrBad (x ∷ t) (pick b l m)
 lettered x k t true {l} e p q = subst (λ (y : ℕ). LegalOrBad (y ∷ t) l) (sym (eqb-true x k e)) p
 lettered x k t false e p q = q
 
 pub legal-or-bad : (s : List ℕ) → LegalOrBad s (event_of s)
 unfolding event_of
-legal-or-bad [] = inr refl
+legal-or-bad [] = bad
 legal-or-bad (x ∷ t) =
     let c : NumberView (word t) (number_of (word t)) = number-view (word t) in
     let last : EndView (after (after t)) (tail_of (after (after t))) = end-view (after (after t)) in
@@ -190,19 +185,20 @@ legal-or-bad (x ∷ t) =
     (lettered x 115 t (eqb x 115) refl (scan-view t c (end-view (after t)))
     (lettered x 100 t (eqb x 100) refl (deliver-view t c (number-view (word (after t))) last)
     (lettered x 120 t (eqb x 120) refl (stop-view t (eqb (length (after t)) 0) c refl)
-    (inr refl))))
+    (bad))))
 
 -- ---- the first line
 
-abbrev pub OpensOrBad : List ℕ → Opening → Type 0
-OpensOrBad s o = Opens s o ⊎ (o ≡ no_opening)
+pub data OpensOrBad (s : List ℕ) : Option Opening → Type 0 where
+  opened : {o : Opening} → Opens s o → OpensOrBad s (Some o)
+  bad : OpensOrBad s None
 
 -- the word w, and t after it
-opening-view : (w t : List ℕ) {a b : Number} (e : Bool) → NumberView w a → NumberView (word t) b
+opening-view : (w t : List ℕ) {a b : Option ℕ} (e : Bool) → NumberView w a → NumberView (word t) b
     → eqb (length (after t)) 0 ≡ e → OpensOrBad (w ++ t) (opening_by a b e)
-opening-view w t e none b q = inr refl
-opening-view w t e (number a) none q = inr refl
-opening-view w t false (number a) (number b) q = inr refl
+opening-view w t e none b q = bad
+opening-view w t e (number a) none q = bad
+opening-view w t false (number a) (number b) q = bad
 opening-view w t true (number a) (number b) q = cases (leb n 5) (tolerates n f) refl refl
   where
     n : ℕ
@@ -212,12 +208,12 @@ opening-view w t true (number a) (number b) q = cases (leb n 5) (tolerates n f) 
     f = value (word t)
 
     cases : (x y : Bool) → leb n 5 ≡ x → tolerates n f ≡ y
-        → OpensOrBad (w ++ t) (pick (both x y) (record { nodes = n; faults = f }) no_opening)
+        → OpensOrBad (w ++ t) (pick (both x y) (Some (record { nodes = n; faults = f })) None)
     cases true true h k =
-        inl (subst (λ (r : List ℕ). Opens (w ++ r) (record { nodes = n; faults = f })) (sym (last-field t b q))
+        opened (subst (λ (r : List ℕ). Opens (w ++ r) (record { nodes = n; faults = f })) (sym (last-field t b q))
         (opens w (word t) a b (leb-true n 5 h) k))
-    cases true false h k = inr refl
-    cases false y h k = inr refl
+    cases true false h k = bad
+    cases false y h k = bad
 
 pub opens-or-bad : (s : List ℕ) → OpensOrBad s (first_of s)
 unfolding first_of
@@ -227,9 +223,13 @@ opens-or-bad s =
     subst (λ (r : List ℕ). OpensOrBad r (first_by w t)) (take-append-drop (place_of space s) s)
     (opening-view w t (eqb (length (after t)) 0) (number-view w) (number-view (word t)) refl)
 
--- a first line that says some nodes is legal, and says n from 1 to 5 and an f that n nodes tolerate
-pub opens-only : (s : List ℕ) → ((first_of s).nodes ≡ 0 → ⊥) → Opens s (first_of s)
-opens-only s h = ⊎_elim (λ o. o) (λ e. absurd (h (ap (λ (o : Opening). o.nodes) e))) (opens-or-bad s)
+-- a first line that is not bad is legal, and says n from 1 to 5 and an f that n nodes tolerate
+pub opens-only : (s : List ℕ) (o : Opening) → first_of s ≡ Some o → Opens s o
+opens-only s o e = only (opens-or-bad s) e
+  where
+    only : {k : Option Opening} → OpensOrBad s k → k ≡ Some o → Opens s o
+    only (opened {o = p} h) q = let same : p ≡ o = cc in subst (λ (k : Opening). Opens s k) same h
+    only bad q = cc
 
 pub opens-within : {s : List ℕ} {o : Opening} → Opens s o
     → (1 ≤ o.nodes) × (o.nodes ≤ 5) × (tolerates o.nodes o.faults ≡ true)
@@ -242,7 +242,7 @@ end_short whole = omega arith
 end_short (cut m e) = omega (arith, number-most m e)
 
 -- the longest legal line has 32 bytes, without its line feed
-pub legal-short : {s : List ℕ} {l : Line} → Legal s l → length s ≤ 32
+pub legal-short : {s : List ℕ} {l : Command} → Legal s l → length s ≤ 32
 legal-short (update c h {t} e f g) =
     simp length-append (omega (arith, number-most c e, report-length h f, end_short g))
 legal-short (scan c {t} e g) = simp length-append (omega (arith, number-most c e, end_short g))
@@ -250,12 +250,20 @@ legal-short (deliver a b {t} e f g) =
     simp length-append (omega (arith, number-most a e, number-most b f, end_short g))
 legal-short (stop c e) = omega (arith, number-most c e)
 
-pub long-bad : (s : List ℕ) → 33 ≤ length s → event_of s ≡ Bad
-long-bad s h = ⊎_elim (λ l. absurd (omega (arith, legal-short l))) (λ e. e) (legal-or-bad s)
+pub long-bad : (s : List ℕ) → 33 ≤ length s → event_of s ≡ None
+long-bad s h = only (legal-or-bad s)
+  where
+    only : {k : Option Command} → LegalOrBad s k → k ≡ None
+    only (legal l) = absurd (omega (arith, legal-short l))
+    only bad = refl
 
 -- a first line has at most nine bytes
 pub opening-short : {s : List ℕ} {o : Opening} → Opens s o → length s ≤ 9
 opening-short (opens n f a b h t) = simp length-append (omega (arith, number-most n a, number-most f b))
 
-pub long-no-opening : (s : List ℕ) → 10 ≤ length s → first_of s ≡ no_opening
-long-no-opening s h = ⊎_elim (λ o. absurd (omega (arith, opening-short o))) (λ e. e) (opens-or-bad s)
+pub long-no-opening : (s : List ℕ) → 10 ≤ length s → first_of s ≡ None
+long-no-opening s h = only (opens-or-bad s)
+  where
+    only : {k : Option Opening} → OpensOrBad s k → k ≡ None
+    only (opened o) = absurd (omega (arith, opening-short o))
+    only bad = refl

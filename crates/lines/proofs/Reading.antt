@@ -9,6 +9,7 @@ use lib.Seq.{take-append_seam, drop-append_seam}
 use lib.Dec.{leb, eqb}
 use Rattle.std.proofs.lemmas.List.Sums.{AllPass-from_list_all}
 use borrow.Author.Tests.{eq-eqb, ne_eqb, le-leb, leb-true}
+use Rattle.std.specs.Prelude.{Some}
 use Rattle.octets.specs.Test.{pick, both}
 use Rattle.octets.proofs.Test.{both_left, both_right}
 use Rattle.view.specs.Size.{report_size}
@@ -18,12 +19,9 @@ use Rattle.digits.specs.Hex.{is_letter, is_hex, all_hex, hex_bytes, hex_size}
 use Rattle.lines.specs.Grammar.{space, is_number, number_of, is_report, report_in, place_of, field_length, word}
 use Rattle.lines.specs.Grammar.{after, cut_is, tail_of, event_of, first_of}
 use Rattle.lines.specs.Legal.{field, Opens, opens, End, whole, cut, Legal, update, scan, deliver, stop}
-use Rattle.lines.specs.declared.Number.TheVariants.{Value}
-use Rattle.lines.specs.declared.Reported.TheVariants.{Shown}
-use Rattle.lines.specs.declared.Tail.TheVariants.{Is}
-use Rattle.lines.specs.declared.Extent.{Extent}
+use Rattle.outgoing.specs.declared.Extent.{Extent}
 use Rattle.lines.specs.declared.Opening.{Opening}
-use Rattle.lines.specs.declared.Line.{Line}
+use Rattle.lines.specs.declared.Command.{Command}
 
 -- ---- words have no space
 
@@ -87,27 +85,27 @@ after_next w u h b = ap (λ (k : ℕ). drop k (field w ++ u)) (field-ends w u h 
 
 -- ---- legal words are read
 
-number_read : (w : List ℕ) → is_number w ≡ true → number_of w ≡ Value (value w)
+number_read : (w : List ℕ) → is_number w ≡ true → number_of w ≡ Some (value w)
 unfolding number_of
 number_read w e = rw e
 
-report-read : (w : List ℕ) → is_report w ≡ true → report_in w ≡ Shown (report_of (hex_bytes report_size w))
+report-read : (w : List ℕ) → is_report w ≡ true → report_in w ≡ Some (report_of (hex_bytes report_size w))
 unfolding report_in
 report-read w e = rw e
 
 -- a number's field, with what comes after it
-number-next : (w u : List ℕ) → is_number w ≡ true → Begins u → number_of (word (field w ++ u)) ≡ Value (value w)
+number-next : (w u : List ℕ) → is_number w ≡ true → Begins u → number_of (word (field w ++ u)) ≡ Some (value w)
 number-next w u e b = ap number_of (word_next w u (number-no-space w e) b) ∙ number_read w e
 
 report-next : (w u : List ℕ) → is_report w ≡ true → Begins u
-    → report_in (word (field w ++ u)) ≡ Shown (report_of (hex_bytes report_size w))
+    → report_in (word (field w ++ u)) ≡ Some (report_of (hex_bytes report_size w))
 report-next w u e b = ap report_in (word_next w u (report-no-space w e) b) ∙ report-read w e
 
 number-after : (w u : List ℕ) → is_number w ≡ true → Begins u → after (field w ++ u) ≡ u
 number-after w u e b = after_next w u (number-no-space w e) b
 
 -- a number's field at the end of a line
-last-read : (w : List ℕ) → is_number w ≡ true → number_of (word (field w)) ≡ Value (value w)
+last-read : (w : List ℕ) → is_number w ≡ true → number_of (word (field w)) ≡ Some (value w)
 last-read w e = ap (λ (u : List ℕ). number_of (word u)) (sym (append-nil (field w))) ∙ number-next w [] e refl
 
 last-after : (w : List ℕ) → is_number w ≡ true → after (field w) ≡ []
@@ -125,7 +123,7 @@ cut-no-space (suc zero) l h = absurd (omega arith)
 cut-no-space (suc (suc zero)) l h = absurd (omega arith)
 cut-no-space (suc (suc (suc i))) l h = absurd (omega arith)
 
-end_read : {t : List ℕ} {x : Extent} → End t x → tail_of t ≡ Is x
+end_read : {t : List ℕ} {x : Extent} → End t x → tail_of t ≡ Some x
 unfolding tail_of
 end_read whole = refl
 end_read (cut m e) =
@@ -135,7 +133,7 @@ end_read (cut m e) =
     let z : eqb (length t) 0 ≡ false = ne_eqb (length t) 0 (λ q. omega arith) in
     simp (z, w, a, last-read m e, last-after m e)
 
-pub legal-read : {s : List ℕ} {l : Line} → Legal s l → event_of s ≡ l
+pub legal-read : {s : List ℕ} {l : Command} → Legal s l → event_of s ≡ Some l
 unfolding event_of
 legal-read (update c h {t} e f g) =
     let u : List ℕ = field h ++ t in
@@ -154,7 +152,7 @@ legal-read (deliver c h {t} e f g) =
     )
 legal-read (stop c e) = simp (last-read c e, last-after c e)
 
-pub opening-read : {s : List ℕ} {o : Opening} → Opens s o → first_of s ≡ o
+pub opening-read : {s : List ℕ} {o : Opening} → Opens s o → first_of s ≡ Some o
 unfolding first_of
 opening-read (opens n f a b h t) =
     let u : List ℕ = field f in

@@ -2,6 +2,7 @@
 use Prim.Native.Nat.{ℕ}
 use mathlib.Core.Path.{◌≡◌, refl, sym, ap, ◌∙◌}
 use mathlib.Core.Bool.{true}
+use Rattle.std.specs.Prelude.{Some}
 use native.Mathlib.Omega.{arith}
 use lib.ListN.{length}
 use borrow.Author.Tests.{le-leb, eq-eqb}
@@ -17,10 +18,10 @@ use Rattle.digits.proofs.HexBack.{bytes_back, text-hex, length-text}
 use Rattle.lines.specs.Grammar.{is_number, is_report, event_of}
 use Rattle.lines.specs.Legal.{End, whole, cut, Legal, update, scan, deliver, stop}
 use Rattle.lines.specs.Show.{show_extent, show, Small, SmallCut, HasLine}
-use Rattle.lines.specs.declared.Extent.{Extent}
-use Rattle.lines.specs.declared.Extent.TheVariants.{Whole, Cut}
-use Rattle.lines.specs.declared.Line.{Line}
-use Rattle.lines.specs.declared.Line.TheVariants.{Update, Scan, Deliver, Stop, Bad}
+use Rattle.outgoing.specs.declared.Extent.{Extent}
+use Rattle.outgoing.specs.declared.Extent.TheVariants.{Whole, Cut}
+use Rattle.lines.specs.declared.Command.{Command}
+use Rattle.lines.specs.declared.Command.TheVariants.{Update, Scan, Deliver, Stop}
 use Rattle.lines.proofs.Reading.{legal-read}
 
 number-shown : (x : ℕ) → Small x → is_number (decimal x) ≡ true
@@ -47,7 +48,7 @@ end-shown Whole h = whole
 end-shown (Cut m) h = rw (number_same m h) at (cut (decimal m) (number-shown m h))
 
 -- an event's line is legal and says that event
-pub show-legal : (l : Line) → HasLine l → Legal (show l) l
+pub show-legal : (l : Command) → HasLine l → Legal (show l) l
 show-legal (Update c p x) h =
     rw (number_same c h.0, report-same p h.1) at
     (update (decimal c) (hex_text report_size (report_bytes p)) (number-shown c h.0) (report-shown p h.1)
@@ -58,10 +59,9 @@ show-legal (Deliver a b x) h =
     rw (number_same a h.0, number_same b h.1) at
     (deliver (decimal a) (decimal b) (number-shown a h.0) (number-shown b h.1) (end-shown x h.2))
 show-legal (Stop c) h = rw (number_same c h) at (stop (decimal c) (number-shown c h))
-show-legal Bad h = absurd h
 
-pub show-back : (l : Line) → HasLine l → event_of (show l) ≡ l
+pub show-back : (l : Command) → HasLine l → event_of (show l) ≡ Some l
 show-back l h = legal-read (show-legal l h)
 
-pub show-injective : (k l : Line) → HasLine k → HasLine l → show k ≡ show l → k ≡ l
-show-injective k l h i e = sym (show-back k h) ∙ ap event_of e ∙ show-back l i
+pub show-injective : (k l : Command) → HasLine k → HasLine l → show k ≡ show l → k ≡ l
+show-injective k l h i e = let both : Some k ≡ Some l = sym (show-back k h) ∙ ap event_of e ∙ show-back l i in cc

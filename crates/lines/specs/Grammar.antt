@@ -2,7 +2,7 @@
 -- document 02 have them: `n f` on the first line, n nodes of which f may stop, then one event a line, `u c h`, `s c`,
 -- `d a b` or `x c`, where u, s and d may end in `cut m`. Spaces are single. A report h has sixteen hexadecimal digits
 -- with small letters, every other number one to four digits. What is not of this form is a bad line.
-use Rattle.std.specs.Prelude.{ℕ, suc, ◌-◌, Bool, List, [], ◌∷◌, length, take, drop, get_or, leb, eqb}
+use Rattle.std.specs.Prelude.{ℕ, suc, ◌-◌, Bool, Option, Some, None, List, [], ◌∷◌, length, take, drop, get_or, leb, eqb}
 use Rattle.std.specs.List.{position_or_len}
 use Rattle.std.specs.Str.{bytes_eq}
 use Rattle.octets.specs.Test.{pick, both}
@@ -11,16 +11,12 @@ use Rattle.view.specs.Report.{report_of}
 use Rattle.table.specs.Quorum.{tolerates}
 use Rattle.digits.specs.Decimal.{all_digits, value}
 use Rattle.digits.specs.Hex.{all_hex, hex_bytes, hex_size}
-use Rattle.lines.specs.declared.Number.{Number}
-use Rattle.lines.specs.declared.Number.TheVariants.{Value, NoNumber}
-use Rattle.lines.specs.declared.Reported.{Reported}
-use Rattle.lines.specs.declared.Reported.TheVariants.{Shown, NoReport}
-use Rattle.lines.specs.declared.Extent.TheVariants.{Whole, Cut}
-use Rattle.lines.specs.declared.Tail.{Tail}
-use Rattle.lines.specs.declared.Tail.TheVariants.{Is, NoTail}
+use Rattle.view.specs.declared.Report.{Report}
+use Rattle.outgoing.specs.declared.Extent.{Extent}
+use Rattle.outgoing.specs.declared.Extent.TheVariants.{Whole, Cut}
 use Rattle.lines.specs.declared.Opening.{Opening}
-use Rattle.lines.specs.declared.Line.{Line}
-use Rattle.lines.specs.declared.Line.TheVariants.{Update, Scan, Deliver, Stop, Bad}
+use Rattle.lines.specs.declared.Command.{Command}
+use Rattle.lines.specs.declared.Command.TheVariants.{Update, Scan, Deliver, Stop}
 
 -- ---- words
 
@@ -28,15 +24,15 @@ use Rattle.lines.specs.declared.Line.TheVariants.{Update, Scan, Deliver, Stop, B
 abbrev pub is_number : List ℕ → Bool
 is_number w = both (both (leb 1 (length w)) (leb (length w) 4)) (all_digits w)
 
-unfoldable pub number_of : List ℕ → Number
-number_of w = pick (is_number w) (Value (value w)) NoNumber
+unfoldable pub number_of : List ℕ → Option ℕ
+number_of w = pick (is_number w) (Some (value w)) None
 
 -- the hexadecimal digits of a report
 abbrev pub is_report : List ℕ → Bool
 is_report w = both (eqb (length w) (hex_size report_size)) (all_hex w)
 
-unfoldable pub report_in : List ℕ → Reported
-report_in w = pick (is_report w) (Shown (report_of (hex_bytes report_size w))) NoReport
+unfoldable pub report_in : List ℕ → Option Report
+report_in w = pick (is_report w) (Some (report_of (hex_bytes report_size w))) None
 
 -- ---- fields: a space, and the bytes up to the next space or the end
 
@@ -61,67 +57,72 @@ after t = drop (field_length t) t
 
 -- ---- what comes after an event's numbers: nothing, or `cut m`
 
-abbrev pub cut_by : Bool → Number → Bool → Tail
-cut_by t NoNumber e = NoTail
-cut_by t (Value m) e = pick (both t e) (Is (Cut m)) NoTail
+abbrev pub cut_by : Bool → Option ℕ → Bool → Option Extent
+cut_by t None e = None
+cut_by t (Some m) e = pick (both t e) (Some (Cut m)) None
 
 abbrev pub cut_is : List ℕ
 cut_is = 99 ∷ 117 ∷ 116 ∷ []
 
-unfoldable pub tail_of : List ℕ → Tail
+unfoldable pub tail_of : List ℕ → Option Extent
 tail_of t =
-    pick (eqb (length t) 0) (Is Whole)
+    pick (eqb (length t) 0) (Some Whole)
     (cut_by (bytes_eq (word t) cut_is) (number_of (word (after t))) (eqb (length (after (after t))) 0))
 
 -- ---- events, from what comes after their letter
 
-abbrev pub update_by : Number → Reported → Tail → Line
-update_by NoNumber p x = Bad
-update_by (Value c) NoReport x = Bad
-update_by (Value c) (Shown p) NoTail = Bad
-update_by (Value c) (Shown p) (Is x) = Update c p x
+abbrev pub update_by : Option ℕ → Option Report → Option Extent → Option Command
+update_by (Some c) (Some p) (Some x) = Some (Update c p x)
+update_by (Some c) (Some p) None = None
+update_by (Some c) None x = None
+update_by None p x = None
 
-abbrev pub scan_by : Number → Tail → Line
-scan_by NoNumber x = Bad
-scan_by (Value c) NoTail = Bad
-scan_by (Value c) (Is x) = Scan c x
+abbrev pub update_in : List ℕ → Option Command
+update_in t = update_by (number_of (word t)) (report_in (word (after t))) (tail_of (after (after t)))
 
-abbrev pub deliver_by : Number → Number → Tail → Line
-deliver_by NoNumber b x = Bad
-deliver_by (Value a) NoNumber x = Bad
-deliver_by (Value a) (Value b) NoTail = Bad
-deliver_by (Value a) (Value b) (Is x) = Deliver a b x
+abbrev pub scan_by : Option ℕ → Option Extent → Option Command
+scan_by (Some c) (Some x) = Some (Scan c x)
+scan_by (Some c) None = None
+scan_by None x = None
 
-abbrev pub stop_by : Number → Bool → Line
-stop_by NoNumber e = Bad
-stop_by (Value c) e = pick e (Stop c) Bad
+abbrev pub scan_in : List ℕ → Option Command
+scan_in t = scan_by (number_of (word t)) (tail_of (after t))
 
-abbrev pub event_by : ℕ → List ℕ → Line
+abbrev pub deliver_by : Option ℕ → Option ℕ → Option Extent → Option Command
+deliver_by (Some a) (Some b) (Some x) = Some (Deliver a b x)
+deliver_by (Some a) (Some b) None = None
+deliver_by (Some a) None x = None
+deliver_by None b x = None
+
+abbrev pub deliver_in : List ℕ → Option Command
+deliver_in t = deliver_by (number_of (word t)) (number_of (word (after t))) (tail_of (after (after t)))
+
+abbrev pub stop_by : Option ℕ → Bool → Option Command
+stop_by None e = None
+stop_by (Some c) e = pick e (Some (Stop c)) None
+
+abbrev pub stop_in : List ℕ → Option Command
+stop_in t = stop_by (number_of (word t)) (eqb (length (after t)) 0)
+
+abbrev pub event_by : ℕ → List ℕ → Option Command
 event_by letter t =
-    pick (eqb letter 117) (update_by (number_of (word t)) (report_in (word (after t))) (tail_of (after (after t))))
-    (pick (eqb letter 115) (scan_by (number_of (word t)) (tail_of (after t)))
-    (pick (eqb letter 100) (deliver_by (number_of (word t)) (number_of (word (after t))) (tail_of (after (after t))))
-    (pick (eqb letter 120) (stop_by (number_of (word t)) (eqb (length (after t)) 0))
-    Bad)))
+    pick (eqb letter 117) (update_in t) (pick (eqb letter 115) (scan_in t) (pick (eqb letter 100) (deliver_in t)
+    (pick (eqb letter 120) (stop_in t) None)))
 
 -- an event's line
-unfoldable pub event_of : List ℕ → Line
+unfoldable pub event_of : List ℕ → Option Command
 event_of s = event_by (get_or s 0 0) (drop 1 s)
 
 -- ---- the first line: n from 1 to 5, and an f that n nodes tolerate
 
-abbrev pub no_opening : Opening
-no_opening = record { nodes = 0; faults = 0 }
-
-abbrev pub opening_by : Number → Number → Bool → Opening
-opening_by NoNumber b e = no_opening
-opening_by (Value n) NoNumber e = no_opening
-opening_by (Value n) (Value f) e =
-    pick (both e (both (leb n 5) (tolerates n f))) (record { nodes = n; faults = f }) no_opening
+abbrev pub opening_by : Option ℕ → Option ℕ → Bool → Option Opening
+opening_by (Some n) (Some f) e = pick (both e (both (leb n 5) (tolerates n f))) (Some (record { nodes = n; faults = f })) None
+opening_by (Some n) None e = None
+opening_by None b e = None
 
 -- n before the first space; then a field, which is f, and nothing after it
-abbrev pub first_by : List ℕ → List ℕ → Opening
+abbrev pub first_by : List ℕ → List ℕ → Option Opening
 first_by w t = opening_by (number_of w) (number_of (word t)) (eqb (length (after t)) 0)
 
-unfoldable pub first_of : List ℕ → Opening
+unfoldable pub first_of : List ℕ → Option Opening
 first_of s = first_by (take (place_of space s) s) (drop (place_of space s) s)

@@ -8,11 +8,11 @@ use Rattle.table.specs.Quorum.{tolerates}
 use Rattle.digits.specs.Decimal.{value}
 use Rattle.digits.specs.Hex.{hex_bytes}
 use Rattle.lines.specs.Grammar.{space, cut_is, is_number, is_report}
-use Rattle.lines.specs.declared.Extent.{Extent}
-use Rattle.lines.specs.declared.Extent.TheVariants.{Whole, Cut}
+use Rattle.outgoing.specs.declared.Extent.{Extent}
+use Rattle.outgoing.specs.declared.Extent.TheVariants.{Whole, Cut}
 use Rattle.lines.specs.declared.Opening.{Opening}
-use Rattle.lines.specs.declared.Line.{Line}
-use Rattle.lines.specs.declared.Line.TheVariants.{Update, Scan, Deliver, Stop}
+use Rattle.lines.specs.declared.Command.{Command}
+use Rattle.lines.specs.declared.Command.TheVariants.{Update, Scan, Deliver, Stop}
 
 abbrev pub field : List ℕ → List ℕ
 field w = space ∷ w
@@ -28,7 +28,7 @@ pub data End : List ℕ → Extent → Type 0 where
   cut : (m : List ℕ) → is_number m ≡ true → End (field cut_is ++ field m) (Cut (value m))
 
 -- `u c h`, `s c`, `d a b` and `x c`; all but the last with an end
-pub data Legal : List ℕ → Line → Type 0 where
+pub data Legal : List ℕ → Command → Type 0 where
   update : (c h : List ℕ) {t : List ℕ} {x : Extent} → is_number c ≡ true → is_report h ≡ true → End t x
       → Legal (117 ∷ (field c ++ (field h ++ t))) (Update (value c) (report_of (hex_bytes report_size h)) x)
   scan : (c : List ℕ) {t : List ℕ} {x : Extent} → is_number c ≡ true → End t x → Legal (115 ∷ (field c ++ t)) (Scan

@@ -3,25 +3,18 @@
 #![tactic(auto)]
 
 ghost use Rattle.std.specs.Prelude.{◌≡◌, ◌≤◌, length};
-ghost use Rattle.std.specs.Str.{bytes_eq};
-ghost use Rattle.lines.specs.Grammar.{number_of, report_in, place_of, field_length, cut_is, cut_by, tail_of, event_of};
-ghost use Rattle.lines.specs.Grammar.{update_by, scan_by, deliver_by, stop_by, opening_by, first_of};
+ghost use Rattle.lines.specs.Grammar.{number_of, report_in, place_of, field_length, tail_of, event_of, first_of};
+ghost use Rattle.lines.specs.Grammar.{update_in, scan_in, deliver_in, stop_in};
 ghost use Rattle.lines.specs.Grammar.{word as Grammar·word, after as Grammar·after};
 
 use digits::{all_digits, all_hex, hex_bytes};
+use outgoing::Extent;
 use table::quorum::tolerates;
 use view::{REPORT, Report};
 
-// How much of what an event sends is let out: all, or so many entries, and then the node stops.
+// What a line tells a cluster to do: one event.
 #[derive(Clone, Copy)]
-pub enum Extent {
-    Whole,
-    Cut(usize),
-}
-
-// What a line says.
-#[derive(Clone, Copy)]
-pub enum Line {
+pub enum Command {
     Update {
         node: usize,
         report: Report,
@@ -39,38 +32,13 @@ pub enum Line {
     Stop {
         node: usize,
     },
-    Bad,
 }
 
-// What the first line says: how many nodes, and how many of them may stop. Both are 0 where it is bad.
+// What the first line says: how many nodes, and how many of them may stop.
 #[derive(Clone, Copy)]
 pub struct Opening {
     pub nodes: usize,
     pub faults: usize,
-}
-
-pub const NO_OPENING: Opening = Opening {
-    nodes: 0,
-    faults: 0,
-};
-
-// What a word says as a number and as a report, and what the end of a line says.
-#[derive(Clone, Copy)]
-pub enum Number {
-    Value(usize),
-    NoNumber,
-}
-
-#[derive(Clone, Copy)]
-pub enum Reported {
-    Shown(Report),
-    NoReport,
-}
-
-#[derive(Clone, Copy)]
-pub enum Tail {
-    Is(Extent),
-    NoTail,
 }
 
 // The hexadecimal digits of a report.
@@ -78,25 +46,25 @@ const DIGITS: usize = 2 * REPORT;
 
 // The number that a word of one to four digits says.
 #[tactic(auto, unfolding(crate::specs::Grammar::number_of))]
-fn read_number(w: &[u8]) -> Number
+fn read_number(w: &[u8]) -> Option<usize>
     ensures { result ≡ number_of w.now }
 {
     if 1 <= w.len() && w.len() <= 4 && all_digits(w) {
-        Number::Value(digits::number(w))
+        Some(digits::number(w))
     } else {
-        Number::NoNumber
+        None
     }
 }
 
 // The report that a word of its hexadecimal digits says.
 #[tactic(auto, unfolding(crate::specs::Grammar::report_in))]
-fn read_report(w: &[u8]) -> Reported
+fn read_report(w: &[u8]) -> Option<Report>
     ensures { result ≡ report_in w.now }
 {
     if w.len() == DIGITS && all_hex(w) {
-        Reported::Shown(view::read_report(&hex_bytes(w)))
+        Some(view::read_report(&hex_bytes(w)))
     } else {
-        Reported::NoReport
+        None
     }
 }
 
@@ -134,164 +102,93 @@ fn after(t: &[u8]) -> &[u8]
     &t[field_length(t)..]
 }
 
-fn is_cut(w: &[u8]) -> bool
-    ensures { result ≡ bytes_eq w.now cut_is }
-{
-    w == b"cut".as_slice()
-}
-
-fn make_cut(named: bool, m: Number, last: bool) -> Tail
-    ensures { result ≡ cut_by named m last }
-{
-    match m {
-        Number::Value(x) => {
-            if named && last {
-                Tail::Is(Extent::Cut(x))
-            } else {
-                Tail::NoTail
-            }
-        }
-        Number::NoNumber => Tail::NoTail,
-    }
-}
-
 // What comes after an event's numbers: nothing, or `cut m`.
 #[tactic(auto, unfolding(crate::specs::Grammar::tail_of))]
-fn read_tail(t: &[u8]) -> Tail
+fn read_tail(t: &[u8]) -> Option<Extent>
     ensures { result ≡ tail_of t.now }
 {
     if t.is_empty() {
-        return Tail::Is(Extent::Whole);
+        return Some(Extent::Whole);
     }
     let u = after(t);
-    make_cut(is_cut(word(t)), read_number(word(u)), after(u).is_empty())
-}
-
-fn make_update(c: Number, p: Reported, x: Tail) -> Line
-    ensures { result ≡ update_by c p x }
-{
-    match c {
-        Number::Value(node) => match p {
-            Reported::Shown(report) => match x {
-                Tail::Is(extent) => Line::Update {
-                    node: node,
-                    report: report,
-                    extent: extent,
-                },
-                Tail::NoTail => Line::Bad,
-            },
-            Reported::NoReport => Line::Bad,
-        },
-        Number::NoNumber => Line::Bad,
+    let entries = read_number(word(u))?;
+    if word(t) == b"cut".as_slice() && after(u).is_empty() {
+        Some(Extent::Cut(entries))
+    } else {
+        None
     }
 }
 
-fn make_scan(c: Number, x: Tail) -> Line
-    ensures { result ≡ scan_by c x }
+// The events, from what comes after their letter.
+fn read_update(t: &[u8]) -> Option<Command>
+    ensures { result ≡ update_in t.now }
 {
-    match c {
-        Number::Value(node) => match x {
-            Tail::Is(extent) => Line::Scan {
-                node: node,
-                extent: extent,
-            },
-            Tail::NoTail => Line::Bad,
-        },
-        Number::NoNumber => Line::Bad,
+    let u = after(t);
+    Some(Command::Update {
+        node: read_number(word(t))?,
+        report: read_report(word(u))?,
+        extent: read_tail(after(u))?,
+    })
+}
+
+fn read_scan(t: &[u8]) -> Option<Command>
+    ensures { result ≡ scan_in t.now }
+{
+    Some(Command::Scan {
+        node: read_number(word(t))?,
+        extent: read_tail(after(t))?,
+    })
+}
+
+fn read_deliver(t: &[u8]) -> Option<Command>
+    ensures { result ≡ deliver_in t.now }
+{
+    let u = after(t);
+    Some(Command::Deliver {
+        from: read_number(word(t))?,
+        to: read_number(word(u))?,
+        extent: read_tail(after(u))?,
+    })
+}
+
+fn read_stop(t: &[u8]) -> Option<Command>
+    ensures { result ≡ stop_in t.now }
+{
+    let node = read_number(word(t))?;
+    if after(t).is_empty() {
+        Some(Command::Stop { node })
+    } else {
+        None
     }
 }
 
-fn make_deliver(a: Number, b: Number, x: Tail) -> Line
-    ensures { result ≡ deliver_by a b x }
-{
-    match a {
-        Number::Value(from) => match b {
-            Number::Value(to) => match x {
-                Tail::Is(extent) => Line::Deliver {
-                    from: from,
-                    to: to,
-                    extent: extent,
-                },
-                Tail::NoTail => Line::Bad,
-            },
-            Number::NoNumber => Line::Bad,
-        },
-        Number::NoNumber => Line::Bad,
-    }
-}
-
-fn make_stop(c: Number, last: bool) -> Line
-    ensures { result ≡ stop_by c last }
-{
-    match c {
-        Number::Value(node) => {
-            if last {
-                Line::Stop { node: node }
-            } else {
-                Line::Bad
-            }
-        }
-        Number::NoNumber => Line::Bad,
-    }
-}
-
-// The event that a line is.
+// The event that a line is; none where it is bad.
 #[tactic(auto, unfolding(crate::specs::Grammar::event_of))]
-pub fn event(s: &[u8]) -> Line
+pub fn event(s: &[u8]) -> Option<Command>
     ensures { result ≡ event_of s.now }
 {
-    let [letter, t @ ..] = s else {
-        return Line::Bad
-    };
-    let u = after(t);
+    let [letter, t @ ..] = s else { return None };
     match letter {
-        b'u' => make_update(
-            read_number(word(t)),
-            read_report(word(u)),
-            read_tail(after(u)),
-        ),
-        b's' => make_scan(read_number(word(t)), read_tail(u)),
-        b'd' => make_deliver(
-            read_number(word(t)),
-            read_number(word(u)),
-            read_tail(after(u)),
-        ),
-        b'x' => make_stop(read_number(word(t)), u.is_empty()),
-        _ => Line::Bad,
+        b'u' => read_update(t),
+        b's' => read_scan(t),
+        b'd' => read_deliver(t),
+        b'x' => read_stop(t),
+        _ => None,
     }
 }
 
-fn make_opening(a: Number, b: Number, last: bool) -> Opening
-    ensures { result ≡ opening_by a b last }
-{
-    match a {
-        Number::Value(n) => match b {
-            Number::Value(f) => {
-                if last && n <= 5 && tolerates(n, f) {
-                    Opening {
-                        nodes: n,
-                        faults: f,
-                    }
-                } else {
-                    NO_OPENING
-                }
-            }
-            Number::NoNumber => NO_OPENING,
-        },
-        Number::NoNumber => NO_OPENING,
-    }
-}
-
-// What the first line says.
+// What the first line says; nothing where it is bad.
 #[tactic(auto, unfolding(crate::specs::Grammar::first_of))]
-pub fn first(s: &[u8]) -> Opening
+pub fn first(s: &[u8]) -> Option<Opening>
     ensures { result ≡ first_of s.now }
 {
     let end = place_of(b' ', s);
     let t = &s[end..];
-    make_opening(
-        read_number(&s[..end]),
-        read_number(word(t)),
-        after(t).is_empty(),
-    )
+    let nodes = read_number(&s[..end])?;
+    let faults = read_number(word(t))?;
+    if after(t).is_empty() && nodes <= 5 && tolerates(nodes, faults) {
+        Some(Opening { nodes, faults })
+    } else {
+        None
+    }
 }
