@@ -5,6 +5,7 @@ use mathlib.Core.List.{List, [], ◌∷◌}
 use native.Mathlib.Omega.{arith}
 use lib.ListN.{length, length-append}
 use lib.Dec.{eqb}
+use Rattle.std.specs.Prelude.{Option, Some, None}
 use Rattle.octets.specs.Test.{pick}
 use Rattle.octets.specs.Bytes.{be}
 use Rattle.octets.specs.Loop.{join}
@@ -16,7 +17,7 @@ use Rattle.digits.proofs.HexBack.{length-text}
 use Rattle.answers.specs.Answer.{done_is, scan_is, spent_is, no_is, start, entry, entry_at, entries, line, room}
 use Rattle.answers.specs.Answer.{word_room, start_room, entry_room}
 use Rattle.answers.specs.declared.Printed.{Printed}
-use Rattle.answers.specs.declared.Printed.TheVariants.{Done, Scan, Spent, No, Nothing}
+use Rattle.answers.specs.declared.Printed.TheVariants.{Done, Scan, Spent, No}
 
 start-short : (e : ℕ) (w : List ℕ) (c : ℕ) → length w ≤ word_room → length (start e w c) ≤ start_room
 unfolding start
@@ -43,11 +44,11 @@ entries-short n v =
     in
     omega arith
 
-pub line-short : (e : ℕ) (r : Printed) (n : ℕ) (v : View) → length (line e r n v) ≤ room
+pub line-short : (e : ℕ) (r : Option Printed) (n : ℕ) (v : View) → length (line e r n v) ≤ room
 unfolding line
-line-short e (Done c) n v = simp length-append (omega (arith, start-short e done_is c (omega arith)))
-line-short e (Scan c) n v =
+line-short e (Some (Done c)) n v = simp length-append (omega (arith, start-short e done_is c (omega arith)))
+line-short e (Some (Scan c)) n v =
     simp length-append (omega (arith, start-short e scan_is c (omega arith), entries-short n v))
-line-short e (Spent c) n v = simp length-append (omega (arith, start-short e spent_is c (omega arith)))
-line-short e (No k) n v = simp length-append (omega (arith, start-short e no_is k (omega arith)))
-line-short e Nothing n v = omega arith
+line-short e (Some (Spent c)) n v = simp length-append (omega (arith, start-short e spent_is c (omega arith)))
+line-short e (Some (No k)) n v = simp length-append (omega (arith, start-short e no_is k (omega arith)))
+line-short e None n v = omega arith

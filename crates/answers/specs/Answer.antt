@@ -1,6 +1,6 @@
 -- The lines that a session prints, with their line feed. An ending prints the event's number, `done`, `scan` or
 -- `spent`, the node and, for a scan, each report or `-`; a refusal prints the event's number, `no` and its own.
-use Rattle.std.specs.Prelude.{ℕ, ◌+◌, ◌*◌, min, List, [], ◌∷◌, ◌++◌, get_or, eqb}
+use Rattle.std.specs.Prelude.{Option, Some, None, ℕ, ◌+◌, ◌*◌, min, List, [], ◌∷◌, ◌++◌, get_or, eqb}
 use Rattle.octets.specs.Test.{pick}
 use Rattle.octets.specs.Bytes.{be}
 use Rattle.octets.specs.Loop.{join}
@@ -10,7 +10,7 @@ use Rattle.view.specs.declared.View.{View}
 use Rattle.digits.specs.Decimal.{decimal}
 use Rattle.digits.specs.Hex.{hex_text, hex_size}
 use Rattle.answers.specs.declared.Printed.{Printed}
-use Rattle.answers.specs.declared.Printed.TheVariants.{Done, Scan, Spent, No, Nothing}
+use Rattle.answers.specs.declared.Printed.TheVariants.{Done, Scan, Spent, No}
 
 -- the words, each between two spaces
 abbrev pub done_is : List ℕ
@@ -58,10 +58,10 @@ entries n v = join (min n nodes) (entry_at v)
 abbrev pub feed : List ℕ
 feed = 10 ∷ []
 
--- what event e prints, in a cluster of n nodes; v is the view of a scan that ended
-unfoldable pub line : (e : ℕ) → Printed → (n : ℕ) → View → List ℕ
-line e (Done c) n v = start e done_is c ++ feed
-line e (Scan c) n v = start e scan_is c ++ entries n v ++ feed
-line e (Spent c) n v = start e spent_is c ++ feed
-line e (No k) n v = start e no_is k ++ feed
-line e Nothing n v = []
+-- what event e prints, if anything, in a cluster of n nodes; v is the view of a scan that ended
+unfoldable pub line : (e : ℕ) → Option Printed → (n : ℕ) → View → List ℕ
+line e (Some (Done c)) n v = start e done_is c ++ feed
+line e (Some (Scan c)) n v = start e scan_is c ++ entries n v ++ feed
+line e (Some (Spent c)) n v = start e spent_is c ++ feed
+line e (Some (No k)) n v = start e no_is k ++ feed
+line e None n v = []

@@ -10,7 +10,8 @@ ghost use Rattle.digits.specs.Decimal.{decimal};
 ghost use Rattle.answers.specs.Answer.{start, entry, entry_at, entries, feed, line, number_room, word_room, room};
 ghost use Rattle.answers.specs.Answer.{start_room, entry_room};
 
-use octets::{least, put_bytes};
+use octets::put_bytes;
+use digits::Digits;
 use view::{NODES, REPORT, Report, View};
 
 // The most bytes of a number, of a word with its spaces, of the start of a line, of an entry and of a line.
@@ -24,14 +25,13 @@ const ENTRY_ROOM: usize = 1 + 2 * REPORT;
 
 pub const ROOM: usize = START_ROOM + ENTRY_ROOM * NODES + 1;
 
-// What is printed of an event: the ending of an operation at a node, a refusal's number, or nothing.
+// What is printed of an event: the ending of an operation at a node, a refusal's number.
 #[derive(Clone, Copy)]
 pub enum Printed {
     Done(usize),
     Scan(usize),
     Spent(usize),
     No(usize),
-    Nothing,
 }
 
 // Each function writes at a place, and answers the place after what it wrote.
@@ -40,10 +40,8 @@ fn put_number(out: &mut [u8], at: usize, x: u64) -> usize
     ensures { (out.new ≡ put out.old at (decimal x))
         × (result ≡ at + length (decimal x)) × (result ≤ at + number_room) }
 {
-    let d = digits::decimal(x);
-    let text = d.text;
-    let from = d.from;
-    put_bytes(out, at, &text[from..NUMBER_ROOM]);
+    let Digits { text, from } = digits::decimal(x);
+    put_bytes(out, at, &text[from..]);
     at + (NUMBER_ROOM - from)
 }
 
@@ -63,15 +61,11 @@ fn put_entry(out: &mut [u8], at: usize, tag: u64, p: Report) -> usize
         × (result ≡ at + length (entry tag (report_number p))) × (result ≤ at + entry_room) }
 {
     if tag == 0 {
-        let none = [32u8, 45];
-        put_bytes(out, at, &none);
+        put_bytes(out, at, b" -");
         return at + 2;
     }
-    let space = [32u8];
-    put_bytes(out, at, &space);
-    let b = view::report_bytes(p);
-    let text = digits::hex_text(&b);
-    put_bytes(out, at + 1, &text);
+    out[at] = b' ';
+    put_bytes(out, at + 1, &digits::hex_text(&view::report_bytes(p)));
     at + ENTRY_ROOM
 }
 
@@ -80,22 +74,18 @@ fn put_entries(out: &mut [u8], at: usize, n: usize, v: View) -> usize
     ensures { (out.new ≡ put out.old at (join n (entry_at v)))
         × (result ≡ at + length (join n (entry_at v))) × (result ≤ at + entry_room * n) }
 {
-    let tags = v.tags;
-    let reports = v.reports;
-    let mut k = at;
-    let mut i = 0;
-    while i < n {
-        k = put_entry(out, k, tags[i], reports[i]);
-        i += 1;
+    let mut end = at;
+    for i in 0..n {
+        end = put_entry(out, end, v.tags[i], v.reports[i]);
     }
-    k
+    end
 }
 
 fn put_feed(out: &mut [u8], at: usize) -> usize
     requires { at + 1 ≤ length out.old }
     ensures { (out.new ≡ put out.old at feed) × (result ≡ at + 1) }
 {
-    out[at] = 10;
+    out[at] = b'\n';
     at + 1
 }
 
@@ -108,21 +98,21 @@ fn put_short(out: &mut [u8], at: usize, event: u64, word: &[u8], x: u64) -> usiz
     put_feed(out, k)
 }
 
-// Writes the line of an event; the other bytes stay.
-pub fn put_line(out: &mut [u8], at: usize, event: u64, reply: Printed, n: usize, v: View) -> usize
+// Writes the line of an event, or nothing where nothing is printed of it; the other bytes stay.
+pub fn put_line(out: &mut [u8], at: usize, event: u64, reply: Option<Printed>, n: usize, v: View) -> usize
     requires { at + room ≤ length out.old }
     ensures { (out.new ≡ put out.old at (line event reply n v))
         × (result ≡ at + length (line event reply n v)) }
 {
+    let Some(reply) = reply else { return at };
     match reply {
         Printed::Done(c) => put_short(out, at, event, b" done ", c as u64),
         Printed::Scan(c) => {
             let k = put_start(out, at, event, b" scan ", c as u64);
-            let e = put_entries(out, k, least(n, NODES), v);
+            let e = put_entries(out, k, n.min(NODES), v);
             put_feed(out, e)
         }
         Printed::Spent(c) => put_short(out, at, event, b" spent ", c as u64),
         Printed::No(k) => put_short(out, at, event, b" no ", k as u64),
-        Printed::Nothing => at,
     }
 }

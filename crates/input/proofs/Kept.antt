@@ -10,8 +10,8 @@ use lib.Seq.{take_all, take-append-le, take-append_seam, set-append_seam, append
 use lib.Dec.{leb}
 use borrow.Author.Tests.{le-leb, lt-leb, lt-ltb, le-ltb}
 use Rattle.octets.specs.Test.{pick}
-use Rattle.lines.specs.Grammar.{event_of, no_opening, first_of}
-use Rattle.lines.specs.declared.Line.TheVariants.{Bad}
+use Rattle.lines.specs.Grammar.{event_of, first_of}
+use Rattle.std.specs.Prelude.{None}
 use Rattle.lines.proofs.OnlyLegal.{long-bad, long-no-opening}
 use Rattle.input.specs.Carry.{most, carry_up_to, carry_of, pushed, push, event_in, first_in}
 use Rattle.input.specs.declared.Carry.{Carry}
@@ -100,8 +100,8 @@ read-carry_up_to {A = A} m f z over l = elim (dec_le (length l) m) [ yes h ↦ w
 
 pub event-carry : (l : List ℕ) → event_in (carry_of l) ≡ event_of l
 unfolding event_in carry_of
-event-carry l = read-carry_up_to most event_of Bad (λ k h. long-bad k (omega arith)) l
+event-carry l = read-carry_up_to most event_of None (λ k h. long-bad k (omega arith)) l
 
 pub first-carry : (l : List ℕ) → first_in (carry_of l) ≡ first_of l
 unfolding first_in carry_of
-first-carry l = read-carry_up_to most first_of no_opening (λ k h. long-no-opening k (omega arith)) l
+first-carry l = read-carry_up_to most first_of None (λ k h. long-no-opening k (omega arith)) l

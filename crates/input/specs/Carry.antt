@@ -1,11 +1,10 @@
 -- What is kept of a line while it is read: its first forty bytes, and its length, where 41 stands for every greater
 -- one. No legal line is longer, so that no more is needed to read it.
-use Rattle.std.specs.Prelude.{ℕ, suc, ◌+◌, ◌-◌, List, ◌++◌, length, take, set, replicate, leb, ltb}
+use Rattle.std.specs.Prelude.{Option, None, ℕ, suc, ◌+◌, ◌-◌, List, ◌++◌, length, take, set, replicate, leb, ltb}
 use Rattle.octets.specs.Test.{pick}
-use Rattle.lines.specs.Grammar.{event_of, no_opening, first_of}
+use Rattle.lines.specs.Grammar.{event_of, first_of}
 use Rattle.lines.specs.declared.Opening.{Opening}
-use Rattle.lines.specs.declared.Line.{Line}
-use Rattle.lines.specs.declared.Line.TheVariants.{Bad}
+use Rattle.lines.specs.declared.Command.{Command}
 use Rattle.input.specs.declared.Carry.{Carry}
 
 abbrev pub most : ℕ
@@ -31,8 +30,8 @@ unfoldable pub push : Carry → ℕ → Carry
 push c x = pushed most c x
 
 -- what is kept as an event, and as the first line
-unfoldable pub event_in : Carry → Line
-event_in c = pick (leb c.size most) (event_of (take c.size c.bytes)) Bad
+unfoldable pub event_in : Carry → Option Command
+event_in c = pick (leb c.size most) (event_of (take c.size c.bytes)) None
 
-unfoldable pub first_in : Carry → Opening
-first_in c = pick (leb c.size most) (first_of (take c.size c.bytes)) no_opening
+unfoldable pub first_in : Carry → Option Opening
+first_in c = pick (leb c.size most) (first_of (take c.size c.bytes)) None
