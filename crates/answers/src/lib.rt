@@ -10,8 +10,8 @@ ghost use Rattle.digits.specs.Decimal.{decimal};
 ghost use Rattle.answers.specs.Answer.{start, entry, entry_at, entries, feed, line, number_room, word_room, room};
 ghost use Rattle.answers.specs.Answer.{start_room, entry_room};
 
-use octets::put_bytes;
 use digits::Digits;
+use octets::put_bytes;
 use view::{NODES, REPORT, Report, View};
 
 // The most bytes of a number, of a word with its spaces, of the start of a line, of an entry and of a line.
@@ -99,7 +99,15 @@ fn put_short(out: &mut [u8], at: usize, event: u64, word: &[u8], x: u64) -> usiz
 }
 
 // Writes the line of an event, or nothing where nothing is printed of it; the other bytes stay.
-pub fn put_line(out: &mut [u8], at: usize, event: u64, reply: Option<Printed>, n: usize, v: View) -> usize
+#[tactic(auto, unfolding(crate::specs::Answer::line))]
+pub fn put_line(
+    out: &mut [u8],
+    at: usize,
+    event: u64,
+    reply: Option<Printed>,
+    n: usize,
+    v: View,
+) -> usize
     requires { at + room ≤ length out.old }
     ensures { (out.new ≡ put out.old at (line event reply n v))
         × (result ≡ at + length (line event reply n v)) }

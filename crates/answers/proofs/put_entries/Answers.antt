@@ -16,9 +16,7 @@ use Rattle.answers.proofs.put_entries.Goals as goal
 pub loop-i-init : goal.loop-i-init
 unfolding join
 loop-i-init c = (
-  search rules,
-  sym (put-nil c.args.out.now
-      c.args.at),
+  sym (put-nil c.args.out.now c.args.at),
   sym (add-zero c.args.at),
   search rules,
   refl,
@@ -30,16 +28,15 @@ loop-i-preserved c =
     let o = a.out.now in
     let i = c.loop-i.i in
     let f : ℕ → List ℕ = rule a.v.tags a.v.reports in
-    let q = c.put_entry-k.ensures in
+    let q = c.put_entry-end.ensures in
     let inv = c.loop-i.invariant in
     let m : length (join (i + 1) f) ≡ length (join i f) + length (f i) = ap length (join_more i f)
     ∙ length-append (join i f) (f i) in (
-      search rules,
-      put_then o a.at (join i f) (f i) c.loop-i.k (omega arith)
-          (sym inv.2) inv.1 q.0
+      put_then o a.at (join i f) (f i) c.loop-i.end (omega arith)
+          (sym inv.1) inv.0 q.0
           ∙ ap (λ (s : List ℕ). put o a.at s) (sym (join_more i f)),
-      omega (arith, q.1, inv.2, m),
-      omega (arith, q.2, inv.3),
+      omega (arith, q.1, inv.1, m),
+      omega (arith, q.2, inv.2),
       search rules,
     )
 
@@ -47,4 +44,4 @@ pub returns : goal.returns
 returns c =
     let a = c.args in
     let e : c.loop-i.i ≡ a.n = omega arith in
-    (rw e at c.loop-i.invariant.1, rw e at c.loop-i.invariant.2, omega arith)
+    (rw e at c.loop-i.invariant.0, rw e at c.loop-i.invariant.1, omega arith)

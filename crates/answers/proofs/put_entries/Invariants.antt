@@ -1,5 +1,5 @@
 -- `answers::put_entries` meets its contract: after i turns its loop has what the definition has after i.
-use Prim.Native.Nat.{ℕ, ◌+◌, ◌-◌, ◌*◌, ◌≤◌}
+use Prim.Native.Nat.{ℕ, ◌+◌, ◌*◌, ◌≤◌}
 use mathlib.Core.Path.{◌≡◌}
 use mathlib.Core.List.{List}
 use lib.ListN.{length, get_or}
@@ -14,9 +14,6 @@ abbrev pub rule : List ℕ → List Report → ℕ → List ℕ
 rule tags reports i = entry (get_or tags i 0) (report_number (get_or reports i no_report))
 
 abbrev pub invariant-loop-i : goal.invariant-loop-i
-invariant-loop-i l = (l.i ≤ l.n) × (l.out ≡ put l.initial.out l.at (join l.i (rule l.tags l.reports))) ×
-    (l.k ≡ l.at + length (join l.i (rule l.tags l.reports))) × (l.k ≤ l.at + entry_room * l.i)
+invariant-loop-i l = (l.out ≡ put l.initial.out l.at (join l.i (rule l.v.tags l.v.reports))) ×
+    (l.end ≡ l.at + length (join l.i (rule l.v.tags l.v.reports))) × (l.end ≤ l.at + entry_room * l.i)
     × (length l.out ≡ length l.initial.out)
-
-abbrev pub decreases-loop-i : goal.decreases-loop-i
-decreases-loop-i l = l.n - l.i

@@ -5,11 +5,11 @@ use mathlib.Core.Path.{◌≡◌, refl, sym, ap, ◌∙◌}
 use mathlib.Core.Bool.{true, false}
 use mathlib.Core.List.{List, [], ◌∷◌}
 use native.Mathlib.Omega.{arith}
-use lib.ListN.{length}
+use lib.ListN.{length, set}
 use lib.Dec.{eqb}
 use borrow.Author.Tests.{eq-eqb, ne_eqb}
 use Rattle.octets.specs.Bytes.{be, put}
-use Rattle.octets.proofs.Put.{put_then}
+use Rattle.octets.proofs.Put.{put_then, put_one}
 use Rattle.view.specs.Size.{report_size}
 use Rattle.view.specs.Report.{report_number}
 use Rattle.view.proofs.ReportBytes.{number-bytes}
@@ -37,11 +37,9 @@ returns c =
     let h : List ℕ = hex_text 8 b in
     let l : a.at + entry_room ≡ a.at + length (32 ∷ h) = omega (arith, length-text report_size b) in
     rw e (
-      put_then o a.at (32 ∷ []) h (a.at + 1) (search rules) refl
-          c.put_bytes-2.ensures
-          (c.put_bytes-3.ensures ∙ ap (λ (s : List ℕ). put
-          c.put_bytes-2.new.b (a.at + 1) s) (c.hex_text-text.ensures
-          ∙ ap (λ (s : List ℕ). hex_text 8 s) (c.report_bytes-b.ensures ∙ sym same))),
+      put_then o a.at (32 ∷ []) h (a.at + 1) (search rules) refl (put_one o a.at 32 (search rules))
+          (c.put_bytes-2.ensures ∙ ap (λ (s : List ℕ). put (set o a.at 32) (a.at + 1) s) (c.hex_text.ensures
+          ∙ ap (λ (s : List ℕ). hex_text 8 s) (c.report_bytes.ensures ∙ sym same))),
       l,
       search rules,
     )
