@@ -5,6 +5,7 @@ use mathlib.Core.List.{[]}
 use native.Mathlib.Omega.{arith}
 use lib.ListN.{length}
 use lib.Dec.{eqb}
+use Rattle.std.specs.Prelude.{Some}
 use Rattle.octets.specs.Test.{pick}
 use Rattle.view.specs.View.{no_view}
 use Rattle.answers.specs.Answer.{room}
@@ -16,7 +17,7 @@ use Rattle.session_progress.specs.declared.Stage.TheVariants.{First, Events, Ove
 use Rattle.session_progress.specs.declared.Progress.{Progress}
 
 pub bad-short : (e : ℕ) → length (bad_line e) ≤ room
-bad-short e = line-short e (No 1) 0 no_view
+bad-short e = line-short e (Some (No 1)) 0 no_view
 
 end_short : (s : Stage) (k : ℕ) → length (ended_at s k) ≤ room
 end_short First k = bad-short 0

@@ -1,5 +1,5 @@
 -- What is kept of a session while its text is read, and what is printed at the end.
-use Rattle.std.specs.Prelude.{ℕ, ◌+◌, ◌*◌, ◌^◌, ◌-◌, Bool, true, false, List, [], eqb, ltb}
+use Rattle.std.specs.Prelude.{Some, ℕ, ◌+◌, ◌*◌, ◌^◌, ◌-◌, Bool, true, false, List, [], eqb, ltb}
 use Rattle.octets.specs.Test.{pick}
 use Rattle.view.specs.View.{no_view}
 use Rattle.input.specs.Carry.{carry_of}
@@ -15,7 +15,7 @@ next e = pick (ltb e (2 ^ 64 - 1)) (e + 1) e
 
 -- What is printed for a bad line.
 abbrev pub bad_line : (e : ℕ) → List ℕ
-bad_line e = line e (No 1) 0 no_view
+bad_line e = line e (Some (No 1)) 0 no_view
 
 -- The most bytes of a piece, and the room for what is printed for it: each byte ends at most one line.
 abbrev pub piece_size : ℕ

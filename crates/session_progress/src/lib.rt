@@ -44,7 +44,7 @@ pub struct Turn {
 pub fn next(e: u64) -> u64
     ensures { result ≡ next_of e }
 {
-    if e < 18446744073709551615 { e + 1 } else { e }
+    e.saturating_add(1)
 }
 
 // A bad line.
@@ -52,10 +52,11 @@ pub fn put_bad(out: &mut [u8], at: usize, e: u64) -> usize
     requires { at + room ≤ length out.old }
     ensures { (out.new ≡ put out.old at (bad_line e)) × (result ≡ at + length (bad_line e)) }
 {
-    put_line(out, at, e, Printed::No(1), 0, view::absent())
+    put_line(out, at, e, Some(Printed::No(1)), 0, view::absent())
 }
 
 // A session before its first byte.
+#[tactic(auto, unfolding(crate::specs::Progress::begun))]
 pub fn start() -> Progress
     ensures { result ≡ begun }
 {
@@ -69,12 +70,7 @@ pub fn start() -> Progress
 pub fn is_over(p: Progress) -> bool
     ensures { result ≡ is_over p.stage }
 {
-    let stage = p.stage;
-    match stage {
-        Stage::First => false,
-        Stage::Events { .. } => false,
-        Stage::Over => true,
-    }
+    matches!(p.stage, Stage::Over)
 }
 
 // The end of the text: what is printed for a first line that never came, and for a last line without its line feed.
@@ -82,16 +78,9 @@ pub fn finish(p: Progress, out: &mut [u8; TEXT]) -> usize
     ensures { (out.new ≡ put out.old 0 (finished p)) × (result ≡ length (finished p))
         × (result ≤ text_size) }
 {
-    let stage = p.stage;
-    match stage {
+    match p.stage {
         Stage::First => put_bad(out, 0, 0),
-        Stage::Events { event, .. } => {
-            if p.carry.size == 0 {
-                0
-            } else {
-                put_bad(out, 0, event)
-            }
-        }
-        Stage::Over => 0,
+        Stage::Events { event, .. } if p.carry.size > 0 => put_bad(out, 0, event),
+        _ => 0,
     }
 }

@@ -20,30 +20,25 @@ ends o p e = (e.0, e.1 ∙ zero-add (length (finished p)), omega (arith, e.1, fi
 
 pub returns-in-First : goal.returns-in-First
 unfolding finished
-returns-in-First c = ends c.args.out.now c.args.p
-    (rw c.in-First.is c.put_bad.ensures)
+returns-in-First c = ends c.args.out.now c.args.p (rw c.in-First.is c.put_bad.ensures)
 
-pub returns-then-p-eq0 : goal.returns-then-p-eq0
+pub returns-in-Events : goal.returns-in-Events
 unfolding finished
-returns-then-p-eq0 c =
+returns-in-Events c =
     let x = c.args in
-    ends x.out.now x.p (rw (
-      c.in-Events.is,
-      eq-eqb x.p.carry.size 0
-          c.if-p-eq0.true,
-    ) (sym (put-nil x.out.now 0), refl))
+    ends x.out.now x.p
+    (rw (c.in-Events.is, ne_eqb x.p.carry.size 0 (λ e. omega (arith, c.if-p-gt0.true))) c.put_bad-in-Events.ensures)
 
-pub returns-else-p-eq0 : goal.returns-else-p-eq0
+-- a last line that ended, and a session that is over, print nothing
+pub returns-in_default : goal.returns-in_default
 unfolding finished
-returns-else-p-eq0 c =
+returns-in_default c =
     let x = c.args in
-    ends x.out.now x.p (rw (
-      c.in-Events.is,
-      ne_eqb
-          x.p.carry.size 0 c.if-p-eq0.false,
-    ) c.put_bad-else-p-eq0.ensures)
+    ends x.out.now x.p (rw (c.in-Events.is, eq-eqb x.p.carry.size 0 (omega (arith, c.if-p-gt0.false)))
+    (sym (put-nil x.out.now 0), refl))
 
-pub returns-in-Over : goal.returns-in-Over
+pub returns-in_default-2 : goal.returns-in_default-2
 unfolding finished
-returns-in-Over c = ends c.args.out.now c.args.p
-    (rw c.in-Over.is (sym (put-nil c.args.out.now 0), refl))
+returns-in_default-2 c =
+    let x = c.args in
+    ends x.out.now x.p (rw c.in_default.is (sym (put-nil x.out.now 0), refl))
