@@ -1,5 +1,5 @@
-// What is said of a line of a session that is run: which node handles it, and the reply by what its event tells. The
-// definitions are in specs/.
+// What is said of a line of a session that is run: which node handles its command, and the reply by what its event
+// tells. The definitions are in specs/.
 #![tactic(auto)]
 
 ghost use Rattle.std.specs.Prelude.{◌≡◌};
@@ -11,41 +11,37 @@ ghost use Rattle.session_reply.specs.Reply.{handler as handler_of};
 
 use answers::Printed;
 use events::{Outcome, Reply};
-use lines::Line;
+use lines::Command;
 use step::Ending;
 use view::View;
 
-// The node that handles a line.
-pub fn handler(l: Line) -> usize
-    ensures { result ≡ handler_of l }
+// The node that handles a command.
+pub fn handler(c: Command) -> usize
+    ensures { result ≡ handler_of c }
 {
-    match l {
-        Line::Update { node, .. } => node,
-        Line::Scan { node, .. } => node,
-        Line::Deliver { to, .. } => to,
-        Line::Stop { node } => node,
-        Line::Bad => 0,
+    match c {
+        Command::Update { node, .. } | Command::Scan { node, .. } | Command::Stop { node } => node,
+        Command::Deliver { to, .. } => to,
     }
 }
 
-// What is said of it, where c is that node.
-fn ending_at(c: usize, e: Ending) -> Printed
+// What is said of its event, where c is that node.
+fn ending_at(c: usize, e: Ending) -> Option<Printed>
     ensures { ((v : View) → result ≡ printed_for c (tells_of (returned e) v)) }
 {
     match e {
-        Ending::None => Printed::Nothing,
-        Ending::Done(_) => Printed::Done(c),
-        Ending::Scan(_) => Printed::Scan(c),
-        Ending::Spent => Printed::Spent(c),
+        Ending::None => None,
+        Ending::Done(_) => Some(Printed::Done(c)),
+        Ending::Scan(_) => Some(Printed::Scan(c)),
+        Ending::Spent => Some(Printed::Spent(c)),
     }
 }
 
-pub fn printed_at(c: usize, a: Reply) -> Printed
+pub fn printed_at(c: usize, a: Reply) -> Option<Printed>
     ensures { result ≡ printed_for c (told_by a) }
 {
-    let outcome = a.outcome;
-    match outcome {
-        Outcome::Refused(k) => Printed::No(k as usize),
+    match a.outcome {
+        Outcome::Refused(k) => Some(Printed::No(k as usize)),
         Outcome::Accepted(e) => ending_at(c, e),
     }
 }
