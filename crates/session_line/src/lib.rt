@@ -6,41 +6,29 @@ ghost use Rattle.octets.specs.Bytes.{put};
 ghost use Rattle.answers.specs.Answer.{room};
 ghost use Rattle.layout.specs.Layout.{stated};
 ghost use Rattle.events.specs.Outcome.{Tells};
-ghost use Rattle.session_line.specs.Act.{extent_of, ran, printed};
+ghost use Rattle.session_line.specs.Act.{ran, printed};
 
-use answers::{ROOM, put_line};
+use answers::{Printed, ROOM, put_line};
 use events::Reply;
 use layout::STATED_PLACE;
-use lines::Line;
+use lines::Command;
 use record::Operation;
 use region::channel::index;
 use session_reply::{handler, printed_at};
 
-fn extent_of(x: lines::Extent) -> outgoing::Extent
-    ensures { result ≡ extent_of x }
+// Runs a command.
+fn act(b: &mut [u8], c: Command) -> Reply
+    ensures { Tells result b.new (ran (Some c) b.old) }
 {
-    match x {
-        lines::Extent::Whole => outgoing::Extent::Whole,
-        lines::Extent::Cut(m) => outgoing::Extent::Cut(m),
-    }
-}
-
-// The event that a line is.
-fn act(b: &mut [u8], l: Line) -> Reply
-    ensures { Tells result b.new (ran l b.old) }
-{
-    match l {
-        Line::Update {
+    match c {
+        Command::Update {
             node,
             report,
             extent,
-        } => cluster::begin(b, node, Operation::Update(report), extent_of(extent)),
-        Line::Scan { node, extent } => {
-            cluster::begin(b, node, Operation::Scan, extent_of(extent))
-        }
-        Line::Deliver { from, to, extent } => { cluster::deliver(b, from, to, extent_of(extent)) }
-        Line::Stop { node } => cluster::stop(b, node),
-        Line::Bad => events::refused(1),
+        } => cluster::begin(b, node, Operation::Update(report), extent),
+        Command::Scan { node, extent } => cluster::begin(b, node, Operation::Scan, extent),
+        Command::Deliver { from, to, extent } => cluster::deliver(b, from, to, extent),
+        Command::Stop { node } => cluster::stop(b, node),
     }
 }
 
@@ -48,28 +36,29 @@ fn act(b: &mut [u8], l: Line) -> Reply
 fn nodes_in(b: &[u8]) -> usize
     ensures { result ≡ stated b.now }
 {
-    if b.len() == 0 {
-        0
-    } else {
-        index(b[STATED_PLACE])
-    }
+    b.get(STATED_PLACE).map_or(0, |n| index(*n))
 }
 
-// Runs a line as event e, writes what is printed at a place, and answers the place after it.
-pub fn run_at(b: &mut [u8], e: u64, l: Line, out: &mut [u8], at: usize) -> usize
+// Runs a line as event e, writes what is printed at a place, and answers the place after it. A bad line says no command.
+pub fn run_at(b: &mut [u8], e: u64, l: Option<Command>, out: &mut [u8], at: usize) -> usize
     requires { at + room ≤ length out.old }
     ensures { (b.new ≡ (ran l b.old).bytes)
         × (out.new ≡ put out.old at (printed e l b.old))
         × (result ≡ at + length (printed e l b.old)) }
 {
     let n = nodes_in(b);
-    let a = act(b, l);
-    put_line(out, at, e, printed_at(handler(l), a), n, a.view)
+    match l {
+        Some(c) => {
+            let a = act(b, c);
+            put_line(out, at, e, printed_at(handler(c), a), n, a.view)
+        }
+        None => put_line(out, at, e, Some(Printed::No(1)), n, view::absent()),
+    }
 }
 
 // Runs a line as event e, writes what is printed at the front of `out`, and answers its length. A line that is refused
 // with k leaves every byte of the cluster as it was, and `out` gets the line `e no k`.
-pub fn run(b: &mut [u8], e: u64, l: Line, out: &mut [u8; ROOM]) -> usize
+pub fn run(b: &mut [u8], e: u64, l: Option<Command>, out: &mut [u8; ROOM]) -> usize
     ensures { (b.new ≡ (ran l b.old).bytes)
         × (out.new ≡ put out.old 0 (printed e l b.old))
         × (result ≡ length (printed e l b.old)) }
