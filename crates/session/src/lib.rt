@@ -7,7 +7,6 @@ ghost use Rattle.octets.specs.Bytes.{put};
 ghost use Rattle.session_progress.specs.Progress.{piece_size, text_size};
 ghost use Rattle.session.specs.Turn.{turned};
 
-use octets::least;
 pub use session_byte::MEMORY;
 use session_byte::step;
 pub use session_progress::{PIECE, Progress, TEXT, Turn, finish, is_over, start};
@@ -28,21 +27,15 @@ fn read_bytes(
         × (result.end ≡ length (turned p (take count piece.now) m.old).text)
         × (result.end ≤ text_size) }
 {
-    let most = least(count, piece.len());
-    let mut now = p;
-    let mut at = 0;
-    let mut i = 0;
-    while i < most {
-        let t = step(m, now, piece[i], out, at);
-        let next = t.progress;
-        now = next;
-        at = t.end;
-        i += 1;
+    let most = count.min(piece.len());
+    let mut progress = p;
+    let mut end = 0;
+    for x in &piece[..most] {
+        let t = step(m, progress, *x, out, end);
+        progress = t.progress;
+        end = t.end;
     }
-    Turn {
-        progress: now,
-        end: at,
-    }
+    Turn { progress, end }
 }
 
 // The same of a piece of any size that there is room for: every line that ends in it is run, all that is printed for it

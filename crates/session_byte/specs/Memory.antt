@@ -1,13 +1,12 @@
 -- What a line of a session that has ended does. The cluster is at the front of lent memory that has room for the
 -- largest.
-use Rattle.std.specs.Prelude.{ℕ, min, List, [], eqb}
-use Rattle.octets.specs.Test.{pick}
+use Rattle.std.specs.Prelude.{ℕ, min, List, [], Option, Some, None}
 use Rattle.octets.specs.Bytes.{part}
 use Rattle.block.specs.Block.{change}
 use Rattle.layout.specs.Layout.{cluster_size, size_for}
 use Rattle.events.specs.Event.{fresh}
 use Rattle.lines.specs.declared.Opening.{Opening}
-use Rattle.lines.specs.declared.Line.{Line}
+use Rattle.lines.specs.declared.Command.{Command}
 use Rattle.input.specs.Carry.{event_in, first_in}
 use Rattle.input.specs.declared.Carry.{Carry}
 use Rattle.session_line.specs.Act.{ran, printed}
@@ -38,18 +37,18 @@ pub record LineEffect : Type 0 where
   pub memory : List ℕ
   pub text : List ℕ
 
--- the first line, which says n and f; no nodes where it is bad
-abbrev pub opened : Opening → List ℕ → LineEffect
-opened o m =
-    pick (eqb o.nodes 0) (record { stage = Over; memory = m; text = bad_line 0 })
-    (record {
+-- the first line, which says n and f where it is not bad
+abbrev pub opened : Option Opening → List ℕ → LineEffect
+opened None m = record { stage = Over; memory = m; text = bad_line 0 }
+opened (Some o) m =
+    record {
       stage = Events o.nodes 1;
       memory = on_cluster o.nodes (λ b. (fresh o.nodes o.faults b).bytes) m;
       text = [];
-    })
+    }
 
 -- the line of event e
-abbrev pub acted : (n e : ℕ) → Line → List ℕ → LineEffect
+abbrev pub acted : (n e : ℕ) → Option Command → List ℕ → LineEffect
 acted n e l m =
     record {
       stage = Events n (next e);

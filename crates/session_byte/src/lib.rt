@@ -14,8 +14,7 @@ ghost use Rattle.session_byte.specs.Byte.{stepped};
 use block::BLOCK;
 use input::Carry;
 use layout::BLOCKS_PLACE;
-use lines::{Line, Opening};
-use octets::least;
+use lines::{Command, Opening};
 use session_line::run_at;
 use session_progress::{Progress, Stage, TEXT, Turn, next, put_bad};
 
@@ -35,18 +34,17 @@ struct Passed {
 fn lent_for(n: usize) -> usize
     ensures { (result ≡ lent n) × (result ≤ memory_size) }
 {
-    least(layout::size(n), MEMORY)
+    layout::size(n).min(MEMORY)
 }
 
 // Runs a line on the cluster of n nodes in the memory.
-fn run_in(m: &mut [u8], e: u64, n: usize, l: Line, out: &mut [u8], at: usize) -> usize
+fn run_in(m: &mut [u8], e: u64, n: usize, l: Option<Command>, out: &mut [u8], at: usize) -> usize
     requires { (length m.old ≡ memory_size) × (at + room ≤ length out.old) }
     ensures { (m.new ≡ on_cluster n (λ b. (ran l b).bytes) m.old)
         × (out.new ≡ put out.old at (printed e l (cluster n m.old)))
         × (result ≡ at + length (printed e l (cluster n m.old))) }
 {
-    let end = lent_for(n);
-    run_at(&mut m[0..end], e, l, out, at)
+    run_at(&mut m[..lent_for(n)], e, l, out, at)
 }
 
 // Makes a fresh cluster of n nodes in the memory, f of which may stop.
@@ -54,28 +52,28 @@ fn fresh_in(m: &mut [u8], n: usize, f: usize)
     requires { length m.old ≡ memory_size }
     ensures { m.new ≡ on_cluster n (λ b. (fresh n f b).bytes) m.old }
 {
-    let end = lent_for(n);
-    cluster::fresh(n, f, &mut m[0..end]);
+    cluster::fresh(n, f, &mut m[..lent_for(n)]);
 }
 
-// The first line, which says n and f; no nodes where it is bad.
-fn first_line(m: &mut [u8], o: Opening, out: &mut [u8], at: usize) -> Passed
+// The first line, which says n and f where it is not bad.
+fn first_line(m: &mut [u8], o: Option<Opening>, out: &mut [u8], at: usize) -> Passed
     requires { (length m.old ≡ memory_size) × (at + room ≤ length out.old) }
     ensures { (result.stage ≡ (opened o m.old).stage) × (m.new ≡ (opened o m.old).memory)
         × (out.new ≡ put out.old at (opened o m.old).text)
         × (result.end ≡ at + length (opened o m.old).text) }
 {
-    let n = o.nodes;
-    if n == 0 {
-        return Passed {
+    match o {
+        Some(Opening { nodes, faults }) => {
+            fresh_in(m, nodes, faults);
+            Passed {
+                stage: Stage::Events { nodes, event: 1 },
+                end: at,
+            }
+        }
+        None => Passed {
             stage: Stage::Over,
             end: put_bad(out, at, 0),
-        };
-    }
-    fresh_in(m, n, o.faults);
-    Passed {
-        stage: Stage::Events { nodes: n, event: 1 },
-        end: at,
+        },
     }
 }
 
@@ -92,7 +90,7 @@ fn pass(m: &mut [u8], s: Stage, c: Carry, out: &mut [u8], at: usize) -> Passed
         Stage::Events { nodes, event } => Passed {
             end: run_in(m, event, nodes, input::event(c), out, at),
             stage: Stage::Events {
-                nodes: nodes,
+                nodes,
                 event: next(event),
             },
         },
@@ -111,23 +109,22 @@ pub fn step(m: &mut [u8; MEMORY], p: Progress, x: u8, out: &mut [u8; TEXT], at: 
         × (out.new ≡ put out.old at (stepped p x m.old).text)
         × (result.end ≡ at + length (stepped p x m.old).text) }
 {
-    let stage = p.stage;
-    if x == 10 {
-        let t = pass(m, stage, p.carry, out, at);
-        let then = t.stage;
-        return Turn {
+    if x == b'\n' {
+        let Passed { stage, end } = pass(m, p.stage, p.carry, out, at);
+        Turn {
             progress: Progress {
                 carry: input::none(),
-                stage: then,
+                stage,
             },
-            end: t.end,
-        };
-    }
-    Turn {
-        progress: Progress {
-            carry: input::push(p.carry, x),
-            stage: stage,
-        },
-        end: at,
+            end,
+        }
+    } else {
+        Turn {
+            progress: Progress {
+                carry: input::push(p.carry, x),
+                ..p
+            },
+            end: at,
+        }
     }
 }

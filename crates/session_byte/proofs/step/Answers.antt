@@ -10,7 +10,7 @@ use Rattle.session_byte.proofs.step.Goals as goal
 pub returns-then-x-eq10 : goal.returns-then-x-eq10
 unfolding stepped
 returns-then-x-eq10 c =
-    let p = c.pass-t.ensures in
+    let p = c.pass-stage.ensures in
     rw (
       eq-eqb c.args.x feed
           c.if-x-eq10.true,
@@ -18,9 +18,9 @@ returns-then-x-eq10 c =
       sym p.0,
     ) (refl, p.1, p.2, p.3)
 
-pub returns : goal.returns
+pub returns-else-x-eq10 : goal.returns-else-x-eq10
 unfolding stepped
-returns c =
+returns-else-x-eq10 c =
     let x = c.args in
     rw (ne_eqb x.x feed c.if-x-eq10.false, sym c.push.ensures)
     (refl, refl, sym (put-nil x.out.now x.at), sym (add-zero x.at))
