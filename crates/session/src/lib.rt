@@ -27,10 +27,10 @@ fn read_bytes(
         × (result.end ≡ length (turned p (take count piece.now) m.old).text)
         × (result.end ≤ text_size) }
 {
-    let most = count.min(piece.len());
+    let front = &piece[..count.min(piece.len())];
     let mut progress = p;
     let mut end = 0;
-    for x in &piece[..most] {
+    for x in front {
         let t = step(m, progress, *x, out, end);
         progress = t.progress;
         end = t.end;

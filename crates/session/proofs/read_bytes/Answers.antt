@@ -1,49 +1,31 @@
 -- `session::read_bytes` meets its contract: after i turns its loop has what the definition has after i.
-use mathlib.Core.Path.{refl, sym}
-use native.Mathlib.Omega.{arith}
+use Rattle.std.proofs.Common.{◌≡◌, ◌≤◌, ℕ, List, length, take, refl, sym, ap, ◌∙◌, arith, length-take}
+use lib.Seq.{take-length}
 use Rattle.session.proofs.Turning.{read_none, read_more, take-least}
 use Rattle.session.proofs.read_bytes.Goals as goal
 
-pub loop-i-init : goal.loop-i-init
-loop-i-init c =
-    let x = c.args in
-    (omega arith, read_none x.p x.piece.now x.m.now x.out.now)
+pub loop-x-init : goal.loop-x-init
+loop-x-init c = let x = c.args in read_none x.p _ x.m.now x.out.now
 
 pub step-t-requires : goal.step-t-requires
 step-t-requires c =
-    let n = c.least-most.ensures in
-    let l = c.loop-i-test.true in
-    omega (
-      arith,
-      c.loop-i.invariant.1.short,
-      l,
-      n,
-      c.requires,
-    )
+    let front : List ℕ = take c.min.result c.args.piece.now in
+    let few : length front ≤ length c.args.piece.now = rw length-take (omega arith) in
+    omega (arith, c.loop-x.invariant.short, c.loop-x-test.true, few, c.requires)
 
-pub loop-i-smaller : goal.loop-i-smaller
-loop-i-smaller c = omega (arith, c.loop-i-test.true)
-
-pub loop-i-preserved : goal.loop-i-preserved
-loop-i-preserved c =
+pub loop-x-preserved : goal.loop-x-preserved
+loop-x-preserved c =
     let e = c.step-t.ensures in
-    let l = c.loop-i-test.true in
-    let n = c.least-most.ensures in (
-      omega (arith, l),
-      read_more c.loop-i.invariant.1 (omega (arith, l, n))
-          refl e.0 e.1 e.2 e.3,
-    )
+    read_more c.loop-x.invariant c.loop-x-test.true refl e.0 e.1 e.2 e.3
 
 pub returns : goal.returns
 returns c =
     let x = c.args in
-    let r = c.loop-i.invariant.1 in
-    let n = c.least-most.ensures in
-    let e = take-least x.piece.now x.count c.loop-i.i (omega (arith, c.loop-i-test.false, n)) in
-    rw (sym e) (
-      r.progress,
-      r.memory,
-      r.buffer,
-      r.place,
-      omega (arith, r.short, n, c.loop-i.invariant.0, c.requires),
-    )
+    let r = c.loop-x.invariant in
+    let front : List ℕ = take c.min.result x.piece.now in
+    let few : length front ≤ length x.piece.now = rw length-take (omega arith) in
+    let all : c.loop-x.x-index ≡ length front = omega (arith, c.loop-x-test.false, c.loop-x.auto.x-index-end) in
+    let same : take c.loop-x.x-index front ≡ take x.count x.piece.now =
+    ap (λ (k : ℕ). take k front) all ∙ take-length front
+    ∙ take-least x.piece.now x.count c.min.result c.min.ensures in
+    rw (sym same) (r.progress, r.memory, r.buffer, r.place, omega (arith, r.short, all, few, c.requires))
