@@ -13,7 +13,7 @@ use std::io::{Read, Stdin, Stdout, Write};
 fn print_front(to: &mut Stdout, out: &[u8], end: usize)
     requires { end ≤ length out.now }
 {
-    let _ = to.write_all(&out[0..end]);
+    let _ = to.write_all(&out[..end]);
 }
 
 fn print(to: &mut Stdout, out: &[u8; TEXT], end: usize)
@@ -22,8 +22,8 @@ fn print(to: &mut Stdout, out: &[u8; TEXT], end: usize)
     print_front(to, out, end);
 }
 
-// A proved loop has to end, and nothing says that the input does. So the reads are counted down, from a number that no
-// run uses up.
+// A proved loop has to end, and nothing says that the input does. So the reads are counted, up to a number that no run
+// reaches.
 fn run_all(
     from: &mut Stdin,
     to: &mut Stdout,
@@ -32,17 +32,13 @@ fn run_all(
     out: &mut [u8; TEXT],
 ) {
     let mut now = session::start();
-    let mut turns = u64::MAX;
-    while turns > 0 {
+    for _ in 0..u64::MAX {
         let count = from.read(piece).unwrap_or(0);
         let t = session::read(m, now, piece, count, out);
         print(to, out, t.end);
-        let next = t.progress;
-        now = next;
+        now = t.progress;
         if count == 0 || session::is_over(now) {
-            turns = 0;
-        } else {
-            turns -= 1;
+            break;
         }
     }
     let end = session::finish(now, out);

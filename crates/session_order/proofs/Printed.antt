@@ -8,11 +8,12 @@ use Rattle.octets.specs.Answer.{Answer, returned, refused}
 use Rattle.view.specs.Size.{nodes}
 use Rattle.view.specs.declared.View.{View}
 use Rattle.step.specs.declared.Ending.{Ending}
-use Rattle.step.specs.declared.Ending.TheVariants.{None, Done, Scan as Scanned, Spent}
+use Rattle.step.specs.declared.Ending.TheVariants.{None as Nothing, Done, Scan as Scanned, Spent}
 use Rattle.step.specs.Told.{told, told_view}
 use Rattle.layout.specs.Layout.{stated}
-use Rattle.lines.specs.declared.Line.{Line}
-use Rattle.lines.specs.declared.Line.TheVariants.{Update, Scan, Deliver, Stop, Bad}
+use Rattle.std.specs.Prelude.{Option, Some, None}
+use Rattle.lines.specs.declared.Command.{Command}
+use Rattle.lines.specs.declared.Command.TheVariants.{Update, Scan, Deliver, Stop}
 use Rattle.answers.specs.Answer.{entry_at, entries, line}
 use Rattle.history.specs.Message as M
 use Rattle.algorithm.specs.Algorithm as A
@@ -56,31 +57,31 @@ module _ (n : ℕ) (most : n ≤ nodes) where
       → Shows e c (response_of n v a) (line e (printed_for c (told a v)) n (told_view (told a v)))
   unfolding line
   shows e c (refused k) v = refusal k
-  shows e c (returned None) v = silence
+  shows e c (returned Nothing) v = silence
   shows e c (returned (Done r)) v = done (rule_of r) (view_meaning n v)
   shows e c (returned (Scanned r)) v = rw (entries-reports n most v) (scan (rule_of r) (view_meaning n v))
   shows e c (returned Spent) v = spent
 
-  says : (e : ℕ) (l : Line) (b : List ℕ) → stated b ≡ n
-      → Shows e (handler l) (response_of n (ran l b).view (ran l b).answer) (printed e l b)
+  says : (e : ℕ) (l : Command) (b : List ℕ) → stated b ≡ n
+      → Shows e (handler l) (response_of n (ran (Some l) b).view (ran (Some l) b).answer) (printed e (Some l) b)
   unfolding printed
-  says e l b h = rw h (shows e (handler l) (ran l b).answer (ran l b).view)
+  says e l b h = rw h (shows e (handler l) (ran (Some l) b).answer (ran (Some l) b).view)
 
   -- from bytes b that state n whatever lines are run
-  pub lines-print : (e : ℕ) (b : List ℕ) (ls : List Line) → ((ks : List Line) → stated (left_by b ks) ≡ n)
+  pub lines-print : (e : ℕ) (b : List ℕ) (ls : List (Option Command)) → ((ks : List (Option Command)) → stated (left_by b ks) ≡ n)
       → Lines e ls (trace_from n b (events_of ls)) (printed_by e b ls)
   unfolding trace_from printed_by printed line left_by
   lines-print e b [] h = none
-  lines-print e b (Bad ∷ ls) h = bad (lines-print (next e) b ls h)
-  lines-print e b (Update c p x ∷ ls) h =
-      let l : Line = Update c p x in
-      event _ refl refl (says e l b (h [])) (lines-print (next e) (ran l b).bytes ls (λ ks. h (l ∷ ks)))
-  lines-print e b (Scan c x ∷ ls) h =
-      let l : Line = Scan c x in
-      event _ refl refl (says e l b (h [])) (lines-print (next e) (ran l b).bytes ls (λ ks. h (l ∷ ks)))
-  lines-print e b (Deliver a c x ∷ ls) h =
-      let l : Line = Deliver a c x in
-      event _ refl refl (says e l b (h [])) (lines-print (next e) (ran l b).bytes ls (λ ks. h (l ∷ ks)))
-  lines-print e b (Stop c ∷ ls) h =
-      let l : Line = Stop c in
-      event _ refl refl (says e l b (h [])) (lines-print (next e) (ran l b).bytes ls (λ ks. h (l ∷ ks)))
+  lines-print e b (None ∷ ls) h = bad (lines-print (next e) b ls h)
+  lines-print e b (Some (Update c p x) ∷ ls) h =
+      let l : Command = Update c p x in
+      event _ refl refl (says e l b (h [])) (lines-print (next e) (ran (Some l) b).bytes ls (λ ks. h (Some l ∷ ks)))
+  lines-print e b (Some (Scan c x) ∷ ls) h =
+      let l : Command = Scan c x in
+      event _ refl refl (says e l b (h [])) (lines-print (next e) (ran (Some l) b).bytes ls (λ ks. h (Some l ∷ ks)))
+  lines-print e b (Some (Deliver a c x) ∷ ls) h =
+      let l : Command = Deliver a c x in
+      event _ refl refl (says e l b (h [])) (lines-print (next e) (ran (Some l) b).bytes ls (λ ks. h (Some l ∷ ks)))
+  lines-print e b (Some (Stop c) ∷ ls) h =
+      let l : Command = Stop c in
+      event _ refl refl (says e l b (h [])) (lines-print (next e) (ran (Some l) b).bytes ls (λ ks. h (Some l ∷ ks)))

@@ -8,7 +8,7 @@ use mathlib.Core.Bool.{Bool, true, decide}
 use mathlib.Core.List.{List, [], ◌∷◌, map}
 use lib.Dec.{eqb}
 use lib.ListN.{length, replicate, length-replicate, length-append}
-use Rattle.octets.specs.Loop.{all_to, up_to}
+use Rattle.octets.specs.Loop.{up_to}
 use Rattle.octets.specs.Test.{pick}
 use Rattle.logs.specs.Count.{count}
 use Rattle.logs.specs.Update.{upd, upd2}
@@ -17,11 +17,11 @@ use Rattle.layout.specs.Layout.{cluster_size, faults_in, node}
 use Rattle.events.specs.Event.{fresh}
 use Rattle.outgoing.specs.declared.Extent.TheVariants.{Whole}
 use Rattle.digits.specs.Decimal.{all_digits, value}
-use Rattle.lines.specs.Grammar.{number_of, place_of, field_length, word, after, tail_of, event_of, first_of}
-use Rattle.lines.specs.declared.Line.{Line}
-use Rattle.lines.specs.declared.Line.TheVariants.{Scan, Bad}
-use Rattle.lines.specs.declared.Extent.{Extent}
-use Rattle.lines.specs.declared.Extent.TheVariants as Written
+use Rattle.lines.specs.Grammar.{number_of, field_length, word, after, tail_of, event_of, first_of}
+use Rattle.std.specs.Prelude.{Option, Some, None}
+use Rattle.lines.specs.declared.Command.{Command}
+use Rattle.lines.specs.declared.Command.TheVariants.{Scan}
+use Rattle.outgoing.specs.declared.Extent.{Extent}
 use Rattle.input.specs.Input.{lines_from, rest_from, joined}
 use Rattle.answers.specs.Answer.{line}
 use Rattle.history.specs.Event as H
@@ -38,7 +38,7 @@ use Rattle.session_progress.specs.declared.Progress.{Progress}
 use Rattle.session_byte.specs.Memory.{memory_size, cluster}
 use Rattle.session.specs.Text.{nodes_in, events_in, printed_by, fresh_of, fresh_in, cluster_after, output}
 use Rattle.session.specs.Reading.{Reading, begins, takes}
-use Rattle.session_order.specs.Lines.{Lines, bad, event}
+use Rattle.session_order.specs.Lines.{Lines, bad}
 use Rattle.session_order.specs.Session.{events_from, trace_in, Program, code, SessionsOf}
 use Rattle.session_order.proofs.Folds.{fresh-is}
 use Rattle.session_order.proofs.Sessions.{sessions}
@@ -54,16 +54,16 @@ odd = text ([] ∷ [])
 abbrev pub asks : List ℕ
 asks = text ((115 ∷ 32 ∷ 49 ∷ []) ∷ [])
 
-one-odd : (nodes_in odd ≡ 1) × (events_in odd ≡ Bad ∷ [])
-unfolding lines_from rest_from first_of number_of all_digits value all_to up_to event_of word field_length place_of
+one-odd : (nodes_in odd ≡ 1) × (events_in odd ≡ None ∷ [])
+unfolding lines_from rest_from first_of number_of all_digits value up_to event_of word field_length
     after
 one-odd = (refl, refl)
 
-abbrev scans : List Line
-scans = Scan 1 Written.Whole ∷ []
+abbrev scans : List (Option Command)
+scans = Some (Scan 1 Whole) ∷ []
 
 one-asks : (nodes_in asks ≡ 1) × (events_in asks ≡ scans)
-unfolding lines_from rest_from first_of number_of all_digits value all_to up_to event_of word field_length place_of
+unfolding lines_from rest_from first_of number_of all_digits value up_to event_of word field_length
     after tail_of
 one-asks = (refl, refl)
 
@@ -121,7 +121,7 @@ prints-out s = omega (arith, ap length (s.pieces reading).prints, bad-some 0)
 
 -- It is over at once, and reads nothing.
 pub over-out : ¬ SessionsOf (ending (λ p. true) finished)
-unfolding output lines_from rest_from first_of number_of all_digits value all_to up_to word field_length place_of after
+unfolding output lines_from rest_from first_of number_of all_digits value up_to word field_length after
     finished
     begun printed_by
 over-out s = omega (arith, ap length ((s.pieces reading).over refl (text [])), bad-some 0)
@@ -177,7 +177,7 @@ moved e =
     omega (arith, wrong)
 
 moved-asks : fresh_in asks ≡ R.after (fresh_in asks) (events_from asks) → ⊥
-unfolding lines_from rest_from first_of number_of all_digits value all_to up_to event_of word field_length place_of
+unfolding lines_from rest_from first_of number_of all_digits value up_to event_of word field_length
     after tail_of
 moved-asks = moved
 
@@ -186,7 +186,7 @@ some-asks e = omega (arith, e, one-asks.0)
 
 -- Its memory holds a fresh cluster of which no node may stop, and not the cluster as the events have left it.
 pub leaves-out : ¬ SessionsOf (keeping (λ n m. fresh_of n 0) cluster_after)
-unfolding lines_from rest_from first_of number_of all_digits value all_to up_to word field_length place_of after
+unfolding lines_from rest_from first_of number_of all_digits value up_to word field_length after
 leaves-out s = moved-asks ((s.pieces (takes reading asks)).leaves some-asks ∙ sessions.fold asks)
 
 -- It leaves the cluster as it was fresh, whatever the events; in its memory too, with the f that stands there.
@@ -207,7 +207,7 @@ seeing f = record {
 }
 
 -- Nothing is seen of it.
-no-trace : {e c : ℕ} {x : Extent} {ls : List Line} {o : List ℕ} → Lines e (Scan c x ∷ ls) [] o → ⊥
+no-trace : {e c : ℕ} {x : Extent} {ls : List (Option Command)} {o : List ℕ} → Lines e (Some (Scan c x) ∷ ls) [] o → ⊥
 no-trace l = elim l [ ]
 
 pub trace-out : ¬ SessionsOf (seeing (λ t. []))
@@ -229,9 +229,8 @@ mute = record {
   sees = trace_in;
 }
 
-says : {e : ℕ} {ls : List Line} {tr : Trace} {o : List ℕ} → Lines e (Bad ∷ ls) tr o → 1 ≤ length o
+says : {e : ℕ} {ls : List (Option Command)} {tr : Trace} {o : List ℕ} → Lines e (None ∷ ls) tr o → 1 ≤ length o
 says {e = e} (bad {o = o} l) = simp length-append (omega (arith, bad-some e))
-says (event y q h k l) = absurd (omega (arith, ap length q))
 
 some-odd : nodes_in odd ≡ 0 → ⊥
 some-odd e = omega (arith, e, one-odd.0)

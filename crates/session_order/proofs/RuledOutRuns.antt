@@ -8,7 +8,7 @@ use mathlib.Core.Bool.{decide}
 use mathlib.Core.List.{List, [], ◌∷◌, map}
 use lib.ListN.{replicate}
 use Rattle.octets.specs.Bytes.{part}
-use Rattle.octets.specs.Loop.{all_to, up_to, tab}
+use Rattle.octets.specs.Loop.{up_to, tab}
 use Rattle.logs.specs.Count.{count}
 use Rattle.logs.specs.Update.{upd, upd2}
 use Rattle.view.specs.Report.{no_report, report_of}
@@ -16,7 +16,7 @@ use Rattle.record.specs.declared.Operation.TheVariants.{Update}
 use Rattle.outgoing.specs.declared.Extent.TheVariants.{Whole}
 use Rattle.digits.specs.Decimal.{all_digits, value}
 use Rattle.digits.specs.Hex.{all_hex, hex_value, hex_bytes}
-use Rattle.lines.specs.Grammar.{number_of, report_in, place_of, field_length, word, after, tail_of, event_of, first_of}
+use Rattle.lines.specs.Grammar.{number_of, report_in, field_length, word, after, tail_of, event_of, first_of}
 use Rattle.input.specs.Input.{lines_from, rest_from}
 use Rattle.history.specs.Event as H
 use Rattle.history.specs.Event.{none, done, shown, spent}
@@ -51,7 +51,7 @@ abbrev updating : List R.Event
 updating = R.begin 1 (Update no_report) Whole ∷ replicate 10 (R.deliver 1 1 Whole)
 
 read : (nodes_in updates ≡ 1) × (events_from updates ≡ updating)
-unfolding lines_from rest_from first_of number_of all_digits value all_to up_to event_of word field_length place_of
+unfolding lines_from rest_from first_of number_of all_digits value up_to event_of word field_length
     after tail_of
     report_in all_hex hex_bytes hex_value tab report_of part
 read = (refl, refl)
@@ -64,7 +64,7 @@ unfolding trace_from K.event K.roomy H.sent_to K.entries move_on kept table newe
 unviewed o = let wrong : ◌≡◌ {A = ℕ} 0 1 = o.kinds 0 in omega (arith, wrong)
 
 pub order-out : ¬ SessionsOf (seeing (λ t. map blurred (trace_in t)))
-unfolding lines_from rest_from first_of number_of all_digits value all_to up_to word field_length place_of after
+unfolding lines_from rest_from first_of number_of all_digits value up_to word field_length after
 order-out s = unviewed (subst (λ tr. SingleOrder 1 (map blurred tr))
     (ap (R.trace_from 1 (fresh_of 1 0)) read.1 ∙ traced updating)
     (s.order updates λ e. omega (arith, e, read.0)))
@@ -84,6 +84,6 @@ unfolding trace_from K.event K.roomy H.sent_to K.entries move_on table limit upd
 open-still = open-scan-out
 
 pub quiet-out : ¬ SessionsOf (seeing (λ t. map hushed (trace_in t)))
-unfolding lines_from rest_from first_of number_of all_digits value all_to up_to event_of word field_length place_of
+unfolding lines_from rest_from first_of number_of all_digits value up_to event_of word field_length
     after tail_of
 quiet-out s = open-still (subst (λ tr. Quiet 1 (map hushed tr)) (traced scanning) (s.quiet asks some-asks))

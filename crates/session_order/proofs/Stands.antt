@@ -2,14 +2,13 @@
 use Prim.Native.Nat.{ℕ}
 use mathlib.Core.Path.{◌≡◌, refl, sym, ap, subst, ◌∙◌}
 use mathlib.Core.List.{List, [], ◌∷◌, ◌++◌, map, append-nil, map-append}
-use native.Mathlib.Decide.{ℕ_discrete}
 use lib.ListN.{length}
-use borrow.Author.Tests.{eq-eqb, ne_eqb}
 use Rattle.layout.specs.Layout.{cluster_size}
 use Rattle.events.specs.Event.{fresh}
 use Rattle.lines.specs.Grammar.{event_of, first_of}
 use Rattle.lines.specs.declared.Opening.{Opening}
-use Rattle.lines.specs.declared.Line.{Line}
+use Rattle.std.specs.Prelude.{Option, Some, None}
+use Rattle.lines.specs.declared.Command.{Command}
 use Rattle.input.specs.Carry.{carry_of, event_in, first_in}
 use Rattle.input.specs.declared.Carry.{Carry}
 use Rattle.input.proofs.Kept.{event-carry, first-carry}
@@ -24,7 +23,7 @@ use Rattle.session_order.proofs.Opening.{Within, opening-within}
 use Rattle.session_order.proofs.Folds.{counted, counted-more, left-more, printed-more, fresh-is, left-long}
 
 -- among the events, after the lines ls: n and f, the number of the next event, the cluster and what is printed
-pub record Among (n f e : ℕ) (ls : List Line) (m o : List ℕ) : Type 0 where
+pub record Among (n f e : ℕ) (ls : List (Option Command)) (m o : List ℕ) : Type 0 where
   pub within : Within n f
   pub number : e ≡ counted 1 ls
   pub bytes : cluster n m ≡ left_by (fresh_of n f) ls
@@ -32,8 +31,8 @@ pub record Among (n f e : ℕ) (ls : List Line) (m o : List ℕ) : Type 0 where
 
 pub data Stands (m o : List ℕ) : List (List ℕ) → Stage → Type 0 where
   first : o ≡ [] → Stands m o [] First
-  over : {l : List ℕ} {ls : List (List ℕ)} → (first_of l).nodes ≡ 0 → o ≡ bad_line 0 → Stands m o (l ∷ ls) Over
-  among : {l : List ℕ} {ls : List (List ℕ)} {n f e : ℕ} → first_of l ≡ record { nodes = n; faults = f }
+  over : {l : List ℕ} {ls : List (List ℕ)} → first_of l ≡ None → o ≡ bad_line 0 → Stands m o (l ∷ ls) Over
+  among : {l : List ℕ} {ls : List (List ℕ)} {n f e : ℕ} → first_of l ≡ Some (record { nodes = n; faults = f })
       → Among n f e (map event_of ls) m o → Stands m o (l ∷ ls) (Events n e)
 
 -- the same after a line that has ended
@@ -44,27 +43,20 @@ module _ (m o : List ℕ) (long : length m ≡ memory_size) where
   -- the first line
   opens : (l : List ℕ) → o ≡ [] → Next o (l ∷ []) (opened (first_of l) m)
   unfolding counted left_by printed_by
-  opens l e = elim (ℕ_discrete n 0) [ yes z ↦ bad z | no z ↦ good z ]
+  opens l e = cases (first_of l) refl
     where
-      n : ℕ
-      n = (first_of l).nodes
-
-      f : ℕ
-      f = (first_of l).faults
-
-      bad : n ≡ 0 → Next o (l ∷ []) (opened (first_of l) m)
-      bad z = rw (eq-eqb n 0 z) (long, over z (ap (λ (r : List ℕ). r ++ bad_line 0) e))
-
-      good : (n ≡ 0 → ⊥) → Next o (l ∷ []) (opened (first_of l) m)
-      good z =
-          let w : Within n f = opening-within l z in
+      cases : (k : Option Opening) → first_of l ≡ k → Next o (l ∷ []) (opened k m)
+      cases None z = (long, over z (ap (λ (r : List ℕ). r ++ bad_line 0) e))
+      cases (Some k) z =
+          let n : ℕ = k.nodes in
+          let f : ℕ = k.faults in
+          let w : Within n f = opening-within l k z in
           let b : List ℕ = cluster n m in
           let is : lent n ≡ cluster_size n = lent_is n w.low w.high in
           let made : (fresh n f b).bytes ≡ fresh_of n f = fresh-is n f w b (length-cluster n m long ∙ is) in
-          let same : length (fresh n f b).bytes ≡ lent n = ap length made ∙ left-long n f w [] ∙ sym is in
-          rw (ne_eqb n 0 z) (
+          let same : length (fresh n f b).bytes ≡ lent n = ap length made ∙ left-long n f w [] ∙ sym is in (
             length-on n m long (λ c. (fresh n f c).bytes) same,
-            among refl (record {
+            among z (record {
               within = w;
               number = refl;
               bytes = cluster-on n m long (λ c. (fresh n f c).bytes) same ∙ made;
@@ -73,7 +65,7 @@ module _ (m o : List ℕ) (long : length m ≡ memory_size) where
           )
 
   -- the line of an event
-  acts : {n f e : ℕ} (ls : List Line) → Among n f e ls m o → (l : Line)
+  acts : {n f e : ℕ} (ls : List (Option Command)) → Among n f e ls m o → (l : Option Command)
       → (length (acted n e l m).memory ≡ memory_size)
       × Among n f (next e) (ls ++ (l ∷ [])) (acted n e l m).memory (o ++ (acted n e l m).text)
   acts {n} {f} {e} ls a l =
@@ -97,15 +89,15 @@ module _ (m o : List ℕ) (long : length m ≡ memory_size) where
       → Next o (ls ++ (w ∷ [])) (line_effect s c m)
   unfolding line_effect
   stands-more (first e) w q =
-      subst (λ (k : Opening). Next o (w ∷ []) (opened k m)) (sym (ap first_in q ∙ first-carry w)) (opens w e)
+      subst (λ (k : Option Opening). Next o (w ∷ []) (opened k m)) (sym (ap first_in q ∙ first-carry w)) (opens w e)
   stands-more (over z e) w q = (long, over z (append-nil o ∙ e))
   stands-more (among {l} {ls} {n} {f} {e} z a) w {c} q =
       let r = acts (map event_of ls) a (event_of w) in
       let says : event_in c ≡ event_of w = ap event_in q ∙ event-carry w in
       let all : map event_of ls ++ (event_of w ∷ []) ≡ map event_of (ls ++ (w ∷ [])) = sym
       (map-append event_of ls (w ∷ [])) in
-      subst (λ (v : Line). Next o (l ∷ (ls ++ (w ∷ []))) (acted n e v m)) (sym says) (
+      subst (λ (v : Option Command). Next o (l ∷ (ls ++ (w ∷ []))) (acted n e v m)) (sym says) (
         r.0,
-        among z (subst (λ (v : List Line). Among n f (next e) v (acted n e (event_of w) m).memory
+        among z (subst (λ (v : List (Option Command)). Among n f (next e) v (acted n e (event_of w) m).memory
             (o ++ (acted n e (event_of w) m).text)) all r.1),
       )
