@@ -6,9 +6,9 @@ pub mod judge;
 ghost use Rattle.std.specs.Prelude.{◌≡◌, true, ◌≤◌, length};
 ghost use Rattle.view.specs.Size.{nodes};
 ghost use Rattle.record.specs.Usable.{sizes_within};
-ghost use Rattle.region.specs.Channel.{slot_size, first};
+ghost use Rattle.region.specs.Channel.{channel_size, slot_size, first};
 ghost use Rattle.region.specs.Record.{record_size, record_of, record_bytes};
-ghost use Rattle.block.specs.Block.{block_size, has_stopped, record_in, channel_in, waiting_in, keep_record, take_off};
+ghost use Rattle.block.specs.Block.{block_size, channel_place, has_stopped, record_in, channel_in, waiting_in, keep_record, take_off};
 ghost use Rattle.block.specs.Block.{receive, halt, channels_sound, block_sound};
 
 use judge::record_sound;
@@ -33,13 +33,29 @@ pub fn has_stopped(k: &[u8]) -> bool
     0 < k[STOP_PLACE]
 }
 
+// Where the channel from node a stands.
+pub fn channel_place(a: usize) -> usize
+    requires { (1 ≤ a) × (a ≤ nodes) }
+    ensures { result ≡ channel_place a }
+{
+    CHANNELS_PLACE + CHANNEL * (a - 1)
+}
+
+// The channel from node a.
+fn channel_in(k: &[u8], a: usize) -> &[u8]
+    requires { (length k.now ≡ block_size) × (1 ≤ a) × (a ≤ nodes) }
+    ensures { (result.now ≡ channel_in k.now a) × (length result.now ≡ channel_size) }
+{
+    let at = channel_place(a);
+    &k[at..at + CHANNEL]
+}
+
 // How many messages wait on the channel from node a.
 pub fn waiting_in(k: &[u8], a: usize) -> usize
     requires { (length k.now ≡ block_size) × (1 ≤ a) × (a ≤ nodes) }
     ensures { (result ≡ waiting_in k.now a) × (result ≤ 255) }
 {
-    let at = CHANNELS_PLACE + CHANNEL * (a - 1);
-    usize::from(k[at + COUNT_PLACE])
+    usize::from(channel_in(k, a)[COUNT_PLACE])
 }
 
 // The slot of the message that has waited longest on the channel from node a.
@@ -47,8 +63,7 @@ pub fn first_in(k: &[u8], a: usize) -> &[u8]
     requires { (length k.now ≡ block_size) × (1 ≤ a) × (a ≤ nodes) }
     ensures { result.now ≡ first (channel_in k.now a) }
 {
-    let at = CHANNELS_PLACE + CHANNEL * (a - 1);
-    region::channel::first(&k[at..at + CHANNEL])
+    region::channel::first(channel_in(k, a))
 }
 
 // Writes another record.
@@ -82,7 +97,7 @@ pub fn take_off(k: &mut [u8], a: usize)
     requires { (length k.old ≡ block_size) × (1 ≤ a) × (a ≤ nodes) }
     ensures { k.new ≡ take_off a k.old }
 {
-    let at = CHANNELS_PLACE + CHANNEL * (a - 1);
+    let at = channel_place(a);
     region::channel::pop(&mut k[at..at + CHANNEL]);
 }
 
@@ -92,7 +107,7 @@ pub fn receive_from(k: &mut [u8], a: usize, m: &[u8])
     ensures { k.new ≡ receive a m.now k.old }
 {
     if !has_stopped(k) {
-        let at = CHANNELS_PLACE + CHANNEL * (a - 1);
+        let at = channel_place(a);
         region::channel::push(&mut k[at..at + CHANNEL], m);
     }
 }
@@ -104,7 +119,7 @@ pub fn halt_node(k: &mut [u8], n: usize)
 {
     k[STOP_PLACE] = 1;
     for i in 0..n {
-        let at = CHANNELS_PLACE + CHANNEL * i;
+        let at = channel_place(i + 1);
         region::channel::clear(&mut k[at..at + CHANNEL]);
     }
 }

@@ -9,17 +9,17 @@ ghost use Rattle.layout.specs.Layout.{cluster_size, channel, on_block};
 ghost use Rattle.layout.specs.Slot.{channel_at, slot_place, slot_from, IsSlot};
 
 use crate::{block_place, stopped_at};
-use block::CHANNELS_PLACE;
+use block::channel_place;
 use octets::copy_within;
 use region::channel::FULL;
-use region::places::{CAPACITY, CHANNEL, COUNT_PLACE, OLDEST_PLACE, SLOT, SLOTS_PLACE};
+use region::places::{CAPACITY, COUNT_PLACE, OLDEST_PLACE, SLOT, SLOTS_PLACE};
 
 // Where the channel from a to c stands.
 fn channel_at(a: usize, c: usize) -> usize
     requires { (1 ≤ a) × (a ≤ nodes) × (1 ≤ c) × (c ≤ nodes) }
     ensures { result ≡ channel_at a c }
 {
-    block_place(c) + (CHANNELS_PLACE + CHANNEL * (a - 1))
+    block_place(c) + channel_place(a)
 }
 
 // Where the slot of the message that has waited longest on the channel from a to c stands.
