@@ -129,6 +129,7 @@ fn channels_sound(k: &[u8], n: usize) -> bool
     requires { (length k.now ≡ block_size) × (n ≤ nodes) }
     ensures { result ≡ channels_sound n k.now }
 {
+    // A test without branches, as over the cells of a record: no count waits for the one before it.
     let mut ok = true;
     for a in 0..n {
         ok &= waiting_in(k, a + 1) <= CAPACITY;
