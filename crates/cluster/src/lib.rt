@@ -32,7 +32,6 @@ use region::channel::index;
 use release::{can_send, may_cut, release_handled};
 use step::Ending;
 use table::quorum::can_be;
-use wire::Found;
 use wire_parse::parse_prefix;
 
 // A fresh record in every block.
@@ -131,8 +130,8 @@ pub fn deliver(b: &mut [u8], a: usize, c: usize, x: Extent) -> Reply
         return refused(8);
     }
     match parse_prefix(n, first_at(b, a, c)) {
-        Found::Refused(_) => refused(7),
-        Found::At(m, _) => hand_over(b, n, a, c, m, x),
+        Err(_) => refused(7),
+        Ok((m, _)) => hand_over(b, n, a, c, m, x),
     }
 }
 

@@ -15,14 +15,14 @@ use Rattle.octets.specs.Test.{pick}
 use Rattle.octets.proofs.Lent.{lent_back}
 use Rattle.octets.proofs.Put.{length-put, put-inside, put-nil, put-over, put_then}
 use Rattle.octets.proofs.Test.{both_true}
+use Rattle.refusal.specs.Refusal.{answer}
+use Rattle.refusal.specs.declared.Refusal.{Refusal}
+use Rattle.std.specs.Prelude.{Result, Ok, Err}
 use Rattle.view.specs.Size.{nodes, is_size}
 use Rattle.view.specs.View.{view_bytes}
 use Rattle.view.specs.declared.View.{View}
 use Rattle.view.proofs.ViewBytes.{length-view_bytes}
 use Rattle.wire.specs.Codec.{after}
-use Rattle.wire.specs.Outcome.{written}
-use Rattle.wire.specs.declared.Written.{Written}
-use Rattle.wire.specs.declared.Written.TheVariants.{Length, Refused as NotWritten}
 use Rattle.wire.specs.Layout.{kind, tag, view, encode, allowed}
 use Rattle.wire.specs.declared.Message.{Message}
 use Rattle.wire.specs.declared.Message.TheVariants.{Good}
@@ -103,31 +103,29 @@ module _ (t : ℕ) (v o : List ℕ) (at : ℕ) (k : at + length (encode (Good t)
   unfolding encode
   good-fits = rest-room o bytes at k
 
-  pub emitted : (r : Written) (u : List ℕ)
-      → written r ≡ pick (leb (length bytes) room) (returned (length bytes)) (refused 12)
-      → u ≡ after (written r) bytes (take (length o - at) (drop at o))
-      → (written r ≡ returned (length (encode (Good t) v)))
+  pub emitted : (r : Result ℕ Refusal) (u : List ℕ)
+      → answer r ≡ pick (leb (length bytes) room) (returned (length bytes)) (refused 12)
+      → u ≡ after (answer r) bytes (take (length o - at) (drop at o))
+      → (answer r ≡ returned (length (encode (Good t) v)))
       × (take at o ++ (u ++ drop (length o - at) (drop at o)) ≡ put o at (encode (Good t) v))
   unfolding encode
   emitted r u e q =
-      let w : written r ≡ returned (length bytes) =
+      let w : answer r ≡ returned (length bytes) =
       e ∙ ap (λ (x : Bool). pick x (returned (length bytes)) (refused 12)) (le-leb (length bytes) room good-fits) in (
         w,
         rest_put o bytes at k u (q ∙ ap (λ (x : Answer ℕ). after x bytes (take (length o - at) (drop at o))) w),
       )
 
--- the length that is answered, where one is
-pub answered-length : (r : Written) (k l : ℕ) → r ≡ Length k → written r ≡ returned l → k ≡ l
-answered-length r k l e w = same (sym (ap written e) ∙ w)
-  where
-    same : {a b : ℕ} → returned a ≡ returned b → a ≡ b
-    same h = cc
+-- what is answered where it is a length
+same : {a b : ℕ} → returned a ≡ returned b → a ≡ b
+same h = cc
 
-pub not-refused : {X : Type 0} (r : Written) (k l : ℕ) → r ≡ NotWritten k → written r ≡ returned l → X
-not-refused r k l e w = never (sym (ap written e) ∙ w)
-  where
-    never : {X : Type 0} {a b : ℕ} → ◌≡◌ {A = Answer ℕ} (refused a) (returned b) → X
-    never h = absurd (let z : ◌≡◌ {A = ℕ} 0 1 = cc in omega arith)
+pub answered : (r : Result ℕ Refusal) (l : ℕ) → answer r ≡ returned l → r ≡ Ok l
+answered (Ok k) l w = ap Ok (same w)
+answered (Err k) l w = absurd (let z : ◌≡◌ {A = ℕ} 0 1 = cc in omega arith)
+
+pub same-length : (r : Result ℕ Refusal) {k l : ℕ} → r ≡ Ok k → answer r ≡ returned l → k ≡ l
+same-length r e w = same (sym (ap answer e) ∙ w)
 
 -- ---- what one part of a step sends, by cases
 

@@ -18,9 +18,8 @@ ghost use Rattle.emit.specs.Forward.{Received};
 use decide::is_forward;
 use octets::put_run;
 use step::{Outbox, Sent};
-use table::or;
 use view::{ENTRY, VIEW, write_view};
-use wire::{Message, VALUE, Written};
+use wire::{Message, VALUE};
 use wire_parse::views::is_good;
 use wire_put::{good, short};
 
@@ -30,8 +29,7 @@ fn emit_short(m: Message, out: &mut [u8], at: usize) -> usize
     ensures { (result ≡ at + length (encode m []))
         × (out.new ≡ put out.old at (encode m [])) }
 {
-    let k = short(m, &mut out[at..]);
-    at + k
+    at + short(m, &mut out[at..])
 }
 
 // Writes a good message with its view, likewise.
@@ -41,10 +39,7 @@ fn emit_good(n: usize, tag: u64, v: &[u8], out: &mut [u8], at: usize) -> usize
     ensures { (result ≡ at + length (encode (Good tag) v.now))
         × (out.new ≡ put out.old at (encode (Good tag) v.now)) }
 {
-    match good(&mut out[at..], tag, v) {
-        Written::Length(k) => at + k,
-        Written::Refused(_) => at,
-    }
+    at + good(&mut out[at..], tag, v).unwrap()
 }
 
 // Writes one message at a place, and answers the place after it.
@@ -84,9 +79,10 @@ fn emit_first(n: usize, m: Sent, b: &[u8], v: &[u8], out: &mut [u8]) -> usize
 {
     if is_forward(m) {
         put_run(out, 0, &b[..VALUE]);
-        return VALUE;
+        VALUE
+    } else {
+        emit_sent(n, m, v, out, 0)
     }
-    emit_sent(n, m, v, out, 0)
 }
 
 // Writes the three parts of a step, one after the other, and answers how many bytes they have; b is the bytes of the
@@ -118,8 +114,7 @@ pub fn emit_begin(n: usize, m: Sent, out: &mut [u8]) -> usize
     ensures { (result ≡ length (run (view_bytes n no_view) (listed m)))
         × (out.new ≡ put out.old 0 (run (view_bytes n no_view) (listed m))) }
 {
-    let none = [0u8; 1];
-    emit_sent(n, m, &none[..0], out, 0)
+    emit_sent(n, m, &[], out, 0)
 }
 
 // Writes the messages of a handler after which nothing is sent, likewise; b is the bytes of the message it handled.
@@ -129,8 +124,7 @@ pub fn emit_handler(n: usize, m: Sent, b: &[u8], out: &mut [u8]) -> usize
     ensures { (result ≡ length (run (view_bytes n no_view) (listed m)))
         × (out.new ≡ put out.old 0 (run (view_bytes n no_view) (listed m))) }
 {
-    let none = [0u8; 1];
-    emit_first(n, m, b, &none[..0], out)
+    emit_first(n, m, b, &[], out)
 }
 
 // Whether a part of a step holds a good message.
@@ -140,7 +134,7 @@ fn holds_good(m: Sent) -> bool
     match m {
         Sent::Nothing => false,
         Sent::One(a) => is_good(a),
-        Sent::Two(a, b) => or(is_good(a), is_good(b)),
+        Sent::Two(a, b) => is_good(a) || is_good(b),
     }
 }
 
@@ -153,10 +147,15 @@ fn emit_held(n: usize, o: Outbox, b: &[u8], out: &mut [u8]) -> usize
     let mut view = [0u8; VIEW];
     let size = ENTRY * n;
     write_view(n, o.view, &mut view[..size]);
-    let handler = o.handler;
-    let reading = o.reading;
-    let comparing = o.comparing;
-    emit_parts(n, handler, reading, comparing, b, &view[..size], out)
+    emit_parts(
+        n,
+        o.handler,
+        o.reading,
+        o.comparing,
+        b,
+        &view[..size],
+        out,
+    )
 }
 
 // Writes what a whole step sends, and answers how many bytes it has; b is the bytes of the message that was handled.
@@ -168,15 +167,9 @@ pub fn emit_all(n: usize, o: Outbox, b: &[u8], out: &mut [u8]) -> usize
         × (sizes n (messages o) ≤ length out.old) }
     ensures { (result ≡ length (out_bytes n o)) × (out.new ≡ put out.old 0 (out_bytes n o)) }
 {
-    let handler = o.handler;
-    let reading = o.reading;
-    let comparing = o.comparing;
-    if or(
-        or(holds_good(handler), holds_good(reading)),
-        holds_good(comparing),
-    ) {
-        return emit_held(n, o, b, out);
+    if holds_good(o.handler) || holds_good(o.reading) || holds_good(o.comparing) {
+        emit_held(n, o, b, out)
+    } else {
+        emit_parts(n, o.handler, o.reading, o.comparing, b, &[], out)
     }
-    let none = [0u8; 1];
-    emit_parts(n, handler, reading, comparing, b, &none[..0], out)
 }

@@ -10,7 +10,7 @@ ghost use Rattle.octets.specs.Answer.{returned};
 ghost use Rattle.octets.specs.Test.{pick};
 ghost use Rattle.view.specs.Size.{nodes};
 ghost use Rattle.wire.specs.Codec.{front};
-ghost use Rattle.wire.specs.Outcome.{found};
+ghost use Rattle.refusal.specs.Refusal.{answer};
 ghost use Rattle.step.specs.declared.Ending.{Ending};
 ghost use Rattle.events.specs.Outcome.{answer_of};
 ghost use Rattle.region.specs.Record.{record_size, record_of};
@@ -26,15 +26,16 @@ use octets::get_word;
 use region::places::{MAXTAG_PLACE, N_PLACE};
 use step::Ending;
 use view::VIEW;
-use wire::Found;
+use refusal::Refusal;
+use wire::Message;
 use wire_parse::parse_prefix;
 use wire_parse::views::found_view;
 
 // What refuses the messages of a frame, taken in turn on this record: 7 if any is not of the layout, else 9 if any is
 // given it; 0 where nothing does. `first` is what was found at its front.
-fn judge(r: &[u8], n: usize, s: usize, b: &[u8], first: Found) -> u8
+fn judge(r: &[u8], n: usize, s: usize, b: &[u8], first: Result<(Message, usize), Refusal>) -> u8
     requires { (length r.now ≡ record_size) × (1 ≤ n) × (n ≤ nodes) × (1 ≤ s) × (s ≤ n)
-        × (found first ≡ front n b.now) }
+        × (answer first ≡ front n b.now) }
     ensures { result ≡ verdict n s (record_of r.now) b.now }
 {
     let mut heard = heard_from(r, n, s);
@@ -44,7 +45,7 @@ fn judge(r: &[u8], n: usize, s: usize, b: &[u8], first: Found) -> u8
     let mut f = first;
     let mut stale = false;
     while !t.is_empty() {
-        let Found::At(m, k) = f else { return 7 };
+        let Ok((m, k)) = f else { return 7 };
         stale |= is_late(&heard, &last, top, m);
         note(&mut heard, &mut last, m);
         top = top_after(top, m);
@@ -71,11 +72,11 @@ fn take_all(
     n: usize,
     s: usize,
     b: &[u8],
-    first: Found,
+    first: Result<(Message, usize), Refusal>,
     out: &mut [u8],
     view: &mut [u8; VIEW],
 ) -> Called
-    requires { Goes r.old n s b.now out.old × (found first ≡ front n b.now) }
+    requires { Goes r.old n s b.now out.old × (answer first ≡ front n b.now) }
     ensures { Shows result r.new out.new view.new
         (one_by_one r.old s b.now out.old) view.old }
 {
@@ -84,7 +85,7 @@ fn take_all(
     let mut at = 0;
     let mut ending = Ending::None;
     while !t.is_empty() {
-        let Found::At(m, k) = f else {
+        let Ok((m, k)) = f else {
             return turned_away(7)
         };
         let a = take_message(r, n, s, &t[..k], found_view(t, f), m, &mut out[at..], view);
@@ -119,7 +120,7 @@ pub fn frame(r: &mut [u8], s: usize, b: &[u8], out: &mut [u8], view: &mut [u8; V
     }
     let f = parse_prefix(n, b);
     match f {
-        Found::At(m, end) => {
+        Ok((m, end)) => {
             if end == b.len() {
                 return take_message(r, n, s, b, found_view(b, f), m, out, view);
             }
@@ -129,6 +130,6 @@ pub fn frame(r: &mut [u8], s: usize, b: &[u8], out: &mut [u8], view: &mut [u8; V
             }
             take_all(r, n, s, b, f, out, view)
         }
-        Found::Refused(_) => turned_away(7),
+        Err(_) => turned_away(7),
     }
 }

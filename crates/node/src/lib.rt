@@ -19,7 +19,7 @@ use reply::{let_out, refused_reply};
 use step::Ending;
 use step_value::{begin_step, is_stale_message, message_step};
 use view::{View, absent, read_view};
-use wire::{Message, Parsed};
+use wire::Message;
 use wire_parse::parse;
 use wire_parse::views::parsed_view;
 
@@ -100,7 +100,7 @@ pub fn message(c: Node, s: usize, b: &[u8], out: &mut [u8]) -> Reply
     }
     let p = parse(c.n, b);
     match p {
-        Parsed::Got(m) => taken_message(c, s, b, parsed_view(b, p), m, out),
-        Parsed::Refused(_) => refused_reply(Refusal::Layout, c),
+        Ok(m) => taken_message(c, s, b, parsed_view(b, p), m, out),
+        Err(_) => refused_reply(Refusal::Layout, c),
     }
 }

@@ -28,7 +28,7 @@ use region::places::{F_PLACE, N_PLACE, OWN_PLACE, RECORD};
 use step::Ending;
 use step_bytes::{ask_in, follow_in, is_full_in, is_open_in, is_rest, plan_in};
 use view::VIEW;
-use wire::{Message, Parsed};
+use wire::Message;
 use wire_parse::views::parsed_view;
 
 // The answer of a call, and how many bytes of messages stand at the start of the output buffer.
@@ -188,7 +188,7 @@ pub fn message(r: &mut [u8], s: usize, b: &[u8], out: &mut [u8], view: &mut [u8;
     }
     let p = wire_parse::parse(n, b);
     match p {
-        Parsed::Got(m) => take_message(r, n, s, b, parsed_view(b, p), m, out, view),
-        Parsed::Refused(_) => turned_away(7),
+        Ok(m) => take_message(r, n, s, b, parsed_view(b, p), m, out, view),
+        Err(_) => turned_away(7),
     }
 }

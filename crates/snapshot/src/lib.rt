@@ -49,7 +49,6 @@ use node_bytes::Called;
 use record::Operation;
 use table::quorum::most_faults;
 use view::{REPORT, VIEW, read_report};
-use wire::{Found, Parsed, Written};
 
 // The largest f that a cluster of n nodes can have, as document 01's rule gives it.
 #[unsafe(no_mangle)]
@@ -248,12 +247,12 @@ pub extern "C" fn snapshot_next(n: usize, bytes: &[u8], length: &mut usize, rout
         × (route.new ≡ lent (λ p. route_of p.0) (front n bytes.now) route.old) }
 {
     match wire_parse::parse_prefix(n, bytes) {
-        Found::At(m, k) => {
+        Ok((m, k)) => {
             *length = k;
             *route = route_of(m);
             0
         }
-        Found::Refused(k) => k,
+        Err(k) => k.number(),
     }
 }
 
@@ -273,12 +272,12 @@ pub extern "C" fn snapshot_read(
         × (report.new ≡ lent report_in (decode n bytes.now) report.old) }
 {
     match wire_parse::parse(n, bytes) {
-        Parsed::Got(m) => {
+        Ok(m) => {
             *numbers = message_numbers(m);
             *report = message_report(m);
             0
         }
-        Parsed::Refused(k) => k,
+        Err(k) => k.number(),
     }
 }
 
@@ -305,11 +304,11 @@ pub extern "C" fn snapshot_write(
         read_report(report),
     );
     match wire_write::write(n, m, view, out) {
-        Written::Length(k) => {
+        Ok(k) => {
             *length = k;
             0
         }
-        Written::Refused(k) => k,
+        Err(k) => k.number(),
     }
 }
 

@@ -1,5 +1,5 @@
-// Messages and their layout in bytes, for n nodes: the sizes and places of the fields, what reading and writing answer,
-// and which numbers a message may have. The view of a good message stays in its bytes.
+// Messages and their layout in bytes, for n nodes: the sizes and places of the fields, and which numbers a message may
+// have. The view of a good message stays in its bytes.
 #![tactic(auto)]
 
 ghost use Rattle.std.specs.Prelude.{◌≡◌, ◌≤◌, leb};
@@ -76,25 +76,6 @@ pub enum Message {
     Good {
         tag: u64,
     },
-}
-
-// The answers: a message; a message and its length; the length written. A refusal is document 01's number.
-#[derive(Clone, Copy)]
-pub enum Parsed {
-    Got(Message),
-    Refused(u8),
-}
-
-#[derive(Clone, Copy)]
-pub enum Found {
-    At(Message, usize),
-    Refused(u8),
-}
-
-#[derive(Clone, Copy)]
-pub enum Written {
-    Length(usize),
-    Refused(u8),
 }
 
 // Whether there may be n nodes.

@@ -5,16 +5,17 @@ ghost use Rattle.std.specs.Prelude.{◌≡◌, ◌+◌, ◌≤◌, length, get_o
 ghost use Rattle.octets.specs.Answer.{returned, refused};
 ghost use Rattle.octets.specs.Test.{pick, both};
 ghost use Rattle.octets.specs.Word.{word};
+ghost use Rattle.refusal.specs.Refusal.{answer};
 ghost use Rattle.view.specs.Size.{nodes, report_size, view_size};
 ghost use Rattle.wire.specs.Layout.{allowed, is_request, is_tag, message_size};
 ghost use Rattle.wire.specs.Layout.{head_size, number_size, first_head, first_at, second_at, third_at, good_head};
 ghost use Rattle.wire.specs.Codec.{said, said_as, view_at};
 ghost use Rattle.wire.specs.Shape.{head_at, two_heads, two_shape, value_heads, good_heads, shape_as, shape};
-ghost use Rattle.wire.specs.Outcome.{found};
 
+use refusal::Refusal;
 use view::{ENTRY, REPORT};
 use wire::{
-    ECHO, FIRST, FIRST_HEAD, Found, GOOD_HEAD, Message, NUMBER, READ, READ_ANSWER, SECOND,
+    ECHO, FIRST, FIRST_HEAD, GOOD_HEAD, Message, NUMBER, READ, READ_ANSWER, SECOND,
     SECOND_HEAD, THIRD, THIRD_HEAD, VALUE, WRITE, WRITE_ANSWER, is_held, is_pair, is_request,
     is_sent,
 };
@@ -163,17 +164,14 @@ fn of_kind(n: usize, b: &[u8]) -> Option<(Message, usize)>
 
 // The message at the front of b and its length.
 #[tactic(auto, unfolding(wire::specs::Shape::shape))]
-pub fn at_front(n: usize, b: &[u8]) -> Found
+pub fn at_front(n: usize, b: &[u8]) -> Result<(Message, usize), Refusal>
     requires { n ≤ nodes }
-    ensures { found result ≡ pick (both (shape n b.now)
+    ensures { answer result ≡ pick (both (shape n b.now)
         (allowed n (said b.now) (view_at n b.now)))
         (returned (said b.now, message_size n (said b.now))) (refused 7) }
 {
     if b.len() < READ || !has_head(b, 0, 1, 1) {
-        return Found::Refused(7);
+        return Err(Refusal::Layout);
     }
-    match of_kind(n, b) {
-        Some((m, end)) => Found::At(m, end),
-        None => Found::Refused(7),
-    }
+    of_kind(n, b).ok_or(Refusal::Layout)
 }

@@ -4,35 +4,31 @@
 pub mod views;
 
 ghost use Rattle.std.specs.Prelude.{◌≡◌};
+ghost use Rattle.refusal.specs.Refusal.{answer};
 ghost use Rattle.wire.specs.Codec.{front, decode};
-ghost use Rattle.wire.specs.Outcome.{parsed, found};
 
-use wire::{Found, Parsed, is_size};
+use refusal::Refusal;
+use wire::{Message, is_size};
 use wire_front::at_front;
 
 // The message at the front of b and its length, or 1, 7.
-pub fn parse_prefix(n: usize, b: &[u8]) -> Found
-    ensures { found result ≡ front n b.now }
+pub fn parse_prefix(n: usize, b: &[u8]) -> Result<(Message, usize), Refusal>
+    ensures { answer result ≡ front n b.now }
 {
-    if is_size(n) {
-        at_front(n, b)
-    } else {
-        Found::Refused(1)
+    if !is_size(n) {
+        return Err(Refusal::Size);
     }
+    at_front(n, b)
 }
 
 // The message that b is, or 1, 7.
-pub fn parse(n: usize, b: &[u8]) -> Parsed
-    ensures { parsed result ≡ decode n b.now }
+#[tactic(auto, unfolding(wire::specs::Codec::decode))]
+pub fn parse(n: usize, b: &[u8]) -> Result<Message, Refusal>
+    ensures { answer result ≡ decode n b.now }
 {
-    match parse_prefix(n, b) {
-        Found::At(m, end) => {
-            if end == b.len() {
-                Parsed::Got(m)
-            } else {
-                Parsed::Refused(7)
-            }
-        }
-        Found::Refused(c) => Parsed::Refused(c),
+    let (m, end) = parse_prefix(n, b)?;
+    if end != b.len() {
+        return Err(Refusal::Layout);
     }
+    Ok(m)
 }

@@ -3,10 +3,11 @@
 #![tactic(auto)]
 
 ghost use Rattle.std.specs.Prelude.{◌≡◌};
+ghost use Rattle.refusal.specs.Refusal.{answer};
 ghost use Rattle.wire.specs.Codec.{front, decode, view_part, view_address, front_part, front_address};
-ghost use Rattle.wire.specs.Outcome.{parsed, found};
 
-use wire::{Found, Parsed};
+use refusal::Refusal;
+use wire::Message;
 use wire_parse::views::{found_view, parsed_view};
 use wire_parse::{parse, parse_prefix};
 
@@ -14,19 +15,19 @@ use wire_parse::{parse, parse_prefix};
 // other bytes that part is empty.
 #[derive(Clone, Copy)]
 pub struct Reading<'a> {
-    pub parsed: Parsed,
+    pub parsed: Result<Message, Refusal>,
     pub view: &'a [u8],
 }
 
 #[derive(Clone, Copy)]
 pub struct Prefix<'a> {
-    pub found: Found,
+    pub found: Result<(Message, usize), Refusal>,
     pub view: &'a [u8],
 }
 
 // Reads the message at the front of b: the message and its length, or 1, 7, and its view.
 pub fn read_prefix<'a>(n: usize, b: &'a [u8]) -> Prefix<'a>
-    ensures { (found result.found ≡ front n b.now)
+    ensures { (answer result.found ≡ front n b.now)
         × (result.view.now ≡ front_part n b.now)
         × (result.view.ref_ptr ≡ front_address n b.now b.entry.ref_ptr) }
 {
@@ -37,7 +38,7 @@ pub fn read_prefix<'a>(n: usize, b: &'a [u8]) -> Prefix<'a>
 
 // Reads bytes that are one message: the message, or 1, 7, and its view.
 pub fn read<'a>(n: usize, b: &'a [u8]) -> Reading<'a>
-    ensures { (parsed result.parsed ≡ decode n b.now)
+    ensures { (answer result.parsed ≡ decode n b.now)
         × (result.view.now ≡ view_part n b.now)
         × (result.view.ref_ptr ≡ view_address n b.now b.entry.ref_ptr) }
 {

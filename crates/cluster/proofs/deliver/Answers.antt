@@ -4,7 +4,7 @@ use native.Mathlib.Omega.{arith}
 use mathlib.Core.Path.{◌≡◌, sym, ap, ◌∙◌}
 use Rattle.octets.specs.Answer.{returned}
 use Rattle.wire.specs.Codec.{front}
-use Rattle.wire.specs.Outcome.{found}
+use Rattle.refusal.specs.Refusal.{number, answer}
 use Rattle.region.specs.Channel.{first}
 use Rattle.layout.specs.Layout.{channel}
 use Rattle.events.proofs.Told.{becomes, refuses}
@@ -51,37 +51,37 @@ hand_over-requires c =
     let a = c.args in
     let n = c.index-n.result in
     let s = first (channel a.b.now a.a a.c) in
-    let e : front n s ≡ returned (c.in-At.m, c.in-At.field-1) = sym (ap (front n) c.first_at.ensures) ∙ sym
+    let e : front n s ≡ returned (c.in-Ok.m, c.in-Ok.field-0-1) = sym (ap (front n) c.first_at.ensures) ∙ sym
     c.parse_prefix.ensures
-    ∙ ap found c.in-At.is in (
+    ∙ ap answer c.in-Ok.is in (
       ready a.a a.c a.b.now n c.index-n.ensures.0 (sym c.admission-k.ensures ∙ c.if-k-ne0.false),
-      front-lawful n s c.in-At.m c.in-At.field-1 e,
-      (c.in-At.field-1, e),
+      front-lawful n s c.in-Ok.m c.in-Ok.field-0-1 e,
+      (c.in-Ok.field-0-1, e),
     )
 
-pub returns-in-Refused : goal.returns-in-Refused
-returns-in-Refused c =
+pub returns-in-Err : goal.returns-in-Err
+returns-in-Err c =
     let a = c.args in
     let n = c.index-n.result in
     let t = channel a.b.now a.a a.c in
     refuses 7 (deliver-unread a.a a.c a.x a.b.now n c.index-n.ensures.0
     (sym c.admission-k.ensures ∙ c.if-k-ne0.false) (some-waits t c.waiting_at.ensures.0 c.if-waiting_at-eq0.false)
-    c.in-Refused.field-0
-    (sym (ap (front n) c.first_at.ensures) ∙ sym c.parse_prefix.ensures ∙ ap found
-    c.in-Refused.is))
-    c.refused-in-Refused.ensures
+    (number c.in-Err.field-0)
+    (sym (ap (front n) c.first_at.ensures) ∙ sym c.parse_prefix.ensures ∙ ap answer
+    c.in-Err.is))
+    c.refused-in-Err.ensures
 
-pub returns-in-At : goal.returns-in-At
-returns-in-At c =
+pub returns-in-Ok : goal.returns-in-Ok
+returns-in-Ok c =
     let a = c.args in
     let n = c.index-n.result in
     let t = channel a.b.now a.a a.c in
-    let e : front n (first t) ≡ returned (c.in-At.m, c.in-At.field-1) = sym (ap (front n) c.first_at.ensures) ∙ sym
+    let e : front n (first t) ≡ returned (c.in-Ok.m, c.in-Ok.field-0-1) = sym (ap (front n) c.first_at.ensures) ∙ sym
     c.parse_prefix.ensures
-    ∙ ap found c.in-At.is in
+    ∙ ap answer c.in-Ok.is in
     becomes c.hand_over.result c.hand_over.new.b
     (deliver-hands a.a a.c a.x a.b.now n c.index-n.ensures.0
     (sym c.admission-k.ensures ∙ c.if-k-ne0.false) (some-waits t c.waiting_at.ensures.0
     c.if-waiting_at-eq0.false)
-    c.in-At.m c.in-At.field-1 e)
+    c.in-Ok.m c.in-Ok.field-0-1 e)
     c.hand_over.ensures

@@ -9,6 +9,6 @@ use Rattle.emit.proofs.emit_short.Goals as goal
 pub returns : goal.returns
 returns c =
     let a = c.args in (
-      ap (λ (k : ℕ). a.at + k) c.short-k.ensures.0,
-      rest_put a.out.now (encode a.m []) a.at c.requires.1 c.short-k.new.out c.short-k.ensures.1,
+      ap (λ (k : ℕ). a.at + k) c.short.ensures.0,
+      rest_put a.out.now (encode a.m []) a.at c.requires.1 c.short.new.out c.short.ensures.1,
     )

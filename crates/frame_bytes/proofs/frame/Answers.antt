@@ -12,7 +12,7 @@ use Rattle.octets.specs.Answer.{returned}
 use Rattle.octets.specs.Test.{both}
 use Rattle.octets.proofs.Test.{both_left, both_right}
 use Rattle.wire.specs.Codec.{front, front_part}
-use Rattle.wire.specs.Outcome.{found}
+use Rattle.refusal.specs.Refusal.{answer}
 use Rattle.wire.proofs.Handed.{front-room, found-view}
 use Rattle.record.proofs.Parts.{parts}
 use Rattle.region.specs.Record.{record_of}
@@ -64,7 +64,7 @@ returns-then-not-b c =
 
 pub found_view-requires : goal.found_view-requires
 found_view-requires c =
-    front-room c.get_word-n.result c.args.b.now _ (ap found (sym c.in-At.is) ∙ c.parse_prefix-f.ensures)
+    front-room c.get_word-n.result c.args.b.now _ c.parse_prefix-f.ensures
 
 pub take_message-requires : goal.take_message-requires
 take_message-requires c =
@@ -73,8 +73,8 @@ take_message-requires c =
     let h = admitted frame_output a.r.now a.out.now (sym c.admission-k.ensures ∙ c.if-k-ne0.false) in
     let n = c.get_word-n.result in
     let b = a.b.now in
-    let read = sym c.parse_prefix-f.ensures ∙ ap found c.in-At.is in
-    let view = c.found_view.ensures.0 ∙ found-view n b _ (sym read) in
+    let read = sym c.parse_prefix-f.ensures ∙ ap answer c.in-Ok.is in
+    let view = c.found_view.ensures.0 ∙ found-view n b _ c.parse_prefix-f.ensures in
     let low = leb 1 a.s in
     let high = leb a.s n in
     let sender = test in
@@ -100,9 +100,9 @@ returns-then-end-b c =
     let e = own-n a.r.now c.get_word-n.ensures in
     let n = c.get_word-n.result in
     let sender = ap (λ (j : ℕ). both (leb 1 a.s) (leb a.s j)) e ∙ test in
-    let m = c.in-At.m in
-    let read = sym c.parse_prefix-f.ensures ∙ ap found c.in-At.is in
-    let view = c.found_view.ensures.0 ∙ found-view n b _ (sym read) in
+    let m = c.in-Ok.m in
+    let read = sym c.parse_prefix-f.ensures ∙ ap answer c.in-Ok.is in
+    let view = c.found_view.ensures.0 ∙ found-view n b _ c.parse_prefix-f.ensures in
     becomes-shown c.take_message.result _ _ _ _
     (is_one a.r.now a.s b a.out.now h sender sized m
     (ap (λ (j : ℕ). front j b) e ∙ read ∙ ap (λ (k : ℕ). returned (m, k)) c.if-end-b.true)
@@ -123,7 +123,7 @@ judge-fault-requires c =
       small_n a.r.now h.can-step e,
       leb-true _ _ (both_left low high sender),
       leb-true _ _ (both_right low high sender),
-      ap found (sym c.in-At.is) ∙ c.parse_prefix-f.ensures,
+      c.parse_prefix-f.ensures,
     )
 
 pub returns-then-fault-ne0 : goal.returns-then-fault-ne0
@@ -154,7 +154,7 @@ take_all-requires c =
           (sym c.if-fault-ne0.false ∙ c.judge-fault.ensures ∙ ap (λ (j : ℕ). verdict j a.s (record_of a.r.now) b)
           (sym e))
           ).1,
-      ap found (sym c.in-At.is) ∙ c.parse_prefix-f.ensures,
+      c.parse_prefix-f.ensures,
     )
 
 pub returns-else-fault-ne0 : goal.returns-else-fault-ne0
@@ -172,8 +172,8 @@ returns-else-fault-ne0 c =
     (goes a.r.now a.s b a.out.now h sender sized free.0 free.1.ends.1)
     c.take_all.ensures
 
-pub returns-in-Refused : goal.returns-in-Refused
-returns-in-Refused c =
+pub returns-in-Err : goal.returns-in-Err
+returns-in-Err c =
     let a = c.args in
     let test : both (leb 1 a.s) (leb a.s c.get_word-n.result) ≡ true = search rules in
     let sized : both (leb 1 (length a.b.now)) (leb (length a.b.now) frame_most) ≡ true = search rules in
@@ -181,9 +181,9 @@ returns-in-Refused c =
     let h = admitted frame_output a.r.now a.out.now (sym c.admission-k.ensures ∙ c.if-k-ne0.false) in
     let e = own-n a.r.now c.get_word-n.ensures in
     let sender = ap (λ (j : ℕ). both (leb 1 a.s) (leb a.s j)) e ∙ test in
-    let read = sym c.parse_prefix-f.ensures ∙ ap found c.in-Refused.is in
+    let read = sym c.parse_prefix-f.ensures ∙ ap answer c.in-Err.is in
     let some = leb-true _ _ (both_left (leb 1 (length b)) (leb (length b) frame_most) sized) in
-    becomes-shown c.turned_away-in-Refused.result _ _ _ _
+    becomes-shown c.turned_away-in-Err.result _ _ _ _
     (is-7 a.r.now a.s b a.out.now h sender sized
     (whole-none (record_of a.r.now).n b _ (ap (λ (j : ℕ). front j b) e ∙ read) some))
-    (c.turned_away-in-Refused.ensures _ _, refl)
+    (c.turned_away-in-Err.ensures _ _, refl)

@@ -10,7 +10,7 @@ use Rattle.octets.specs.Test.{pick}
 use Rattle.view.specs.Size.{nodes}
 use Rattle.view.specs.View.{view_of}
 use Rattle.wire.specs.Codec.{front_part}
-use Rattle.wire.specs.Outcome.{found}
+use Rattle.refusal.specs.Refusal.{answer}
 use Rattle.wire.proofs.Handed.{part_end}
 use Rattle.wire.proofs.RoundTrip.{front-some, front-within}
 use Rattle.table.specs.Loop.{either}
@@ -47,33 +47,33 @@ pub is_late-stale-requires : goal.is_late-stale-requires
 is_late-stale-requires c =
     let n = c.args.n in
     let t = c.loop-t.t.now in
-    found-any n t _ _ (sym c.loop-t.invariant.6 ∙ ap found c.in-At.is) (front_part n t) refl c.requires.2
+    found-any n t _ _ (sym c.loop-t.invariant.6 ∙ ap answer c.in-Ok.is) (front_part n t) refl c.requires.2
 
 pub note-requires : goal.note-requires
 note-requires c =
     let n = c.args.n in
     let t = c.loop-t.t.now in
-    found-any n t _ _ (sym c.loop-t.invariant.6 ∙ ap found c.in-At.is) (front_part n t) refl c.requires.2
+    found-any n t _ _ (sym c.loop-t.invariant.6 ∙ ap answer c.in-Ok.is) (front_part n t) refl c.requires.2
 
 pub slice_bounds-t-count : goal.slice_bounds-t-count
 slice_bounds-t-count c =
-    front-within c.args.n c.loop-t.t.now _ _ (sym c.loop-t.invariant.6 ∙ ap found c.in-At.is)
+    front-within c.args.n c.loop-t.t.now _ _ (sym c.loop-t.invariant.6 ∙ ap answer c.in-Ok.is)
 
 pub slice_bounds-t-start : goal.slice_bounds-t-start
 slice_bounds-t-start c =
-    let high = front-within c.args.n c.loop-t.t.now _ _ (sym c.loop-t.invariant.6 ∙ ap found c.in-At.is) in
+    let high = front-within c.args.n c.loop-t.t.now _ _ (sym c.loop-t.invariant.6 ∙ ap answer c.in-Ok.is) in
     search rules
 
 pub slice_bounds-t-end : goal.slice_bounds-t-end
 slice_bounds-t-end c =
-    let high = front-within c.args.n c.loop-t.t.now _ _ (sym c.loop-t.invariant.6 ∙ ap found c.in-At.is) in
+    let high = front-within c.args.n c.loop-t.t.now _ _ (sym c.loop-t.invariant.6 ∙ ap answer c.in-Ok.is) in
     search rules
 
 pub loop-t-smaller : goal.loop-t-smaller
 loop-t-smaller c =
     let t = c.loop-t.t.now in
-    let k = c.in-At.k in
-    let read = sym c.loop-t.invariant.6 ∙ ap found c.in-At.is in
+    let k = c.in-Ok.k in
+    let read = sym c.loop-t.invariant.6 ∙ ap answer c.in-Ok.is in
     let low = front-some c.args.n t _ _ read in
     let high = front-within c.args.n t _ _ read in
     let l = ap (λ (z : List ℕ). length z) (part_end k t) ∙ length-drop k t in
@@ -85,9 +85,9 @@ loop-t-preserved c =
     let s = c.args.s in
     let p = c.requires in
     let t = c.loop-t.t.now in
-    let k = c.in-At.k in
-    let m = c.in-At.m in
-    let read = sym c.loop-t.invariant.6 ∙ ap found c.in-At.is in
+    let k = c.in-Ok.k in
+    let m = c.in-Ok.m in
+    let read = sym c.loop-t.invariant.6 ∙ ap answer c.in-Ok.is in
     let v = front_part n t in
     let writer = found-writer n t m k read v refl in
     let high : s ≤ nodes = omega (arith, p.2, p.4) in
@@ -114,7 +114,7 @@ pub returns-in_default : goal.returns-in_default
 returns-in_default c =
     let some : 0 < length c.loop-t.t.now = search rules in
     judged-none c.loop-t.stale c.args.n c.args.s c.loop-t.invariant.0 c.loop-t.t.now _
-    (sym c.loop-t.invariant.6 ∙ ap found c.in_default.is) some
+    (sym c.loop-t.invariant.6 ∙ ap answer c.in_default.is) some
     ∙ c.loop-t.invariant.3
 
 pub returns-then-stale : goal.returns-then-stale

@@ -7,7 +7,7 @@ use native.Mathlib.Omega.{arith}
 use lib.ListN.{length, length-drop}
 use lib.Seq.{length-take-le}
 use Rattle.octets.proofs.Test.{true-false}
-use Rattle.wire.specs.Outcome.{found}
+use Rattle.refusal.specs.Refusal.{answer}
 use Rattle.wire.proofs.Handed.{front-room, found-view, part_end}
 use Rattle.wire.proofs.RoundTrip.{front-some, front-within}
 use Rattle.step.specs.Told.{nothing}
@@ -29,12 +29,12 @@ loop-t-init c =
 pub slice_bounds-take_message-end : goal.slice_bounds-take_message-end
 slice_bounds-take_message-end c =
     let t = c.loop-t.t.now in
-    let high = front-within c.args.n t _ _ (sym c.loop-t.invariant.4 ∙ ap found c.in-At.is) in
+    let high = front-within c.args.n t _ _ (sym c.loop-t.invariant.4 ∙ ap answer c.in-Ok.is) in
     sym (length-take-le _ t high)
 
 pub found_view-requires : goal.found_view-requires
 found_view-requires c =
-    front-room c.args.n c.loop-t.t.now _ (ap found (sym c.in-At.is) ∙ c.loop-t.invariant.4)
+    front-room c.args.n c.loop-t.t.now _ (ap answer (sym c.in-Ok.is) ∙ c.loop-t.invariant.4)
 
 pub slice_bounds-take_message-count : goal.slice_bounds-take_message-count
 slice_bounds-take_message-count c =
@@ -53,7 +53,7 @@ take_message-a-requires c =
     let n = c.args.n in
     let p = c.requires.0 in
     let t = c.loop-t.t.now in
-    let read = sym c.loop-t.invariant.4 ∙ ap found c.in-At.is in
+    let read = sym c.loop-t.invariant.4 ∙ ap answer c.in-Ok.is in
     let view = c.found_view.ensures.0 ∙ found-view n t _ (sym read) in
     let along = c.loop-t.invariant.1 in
     let big = room n c.args.s p.low p.high t _ c.loop-t.ending _ along p.ends _ _ read in (
@@ -72,7 +72,7 @@ overflow_add-at c =
     let n = c.args.n in
     let p = c.requires.0 in
     let t = c.loop-t.t.now in
-    let read = sym c.loop-t.invariant.4 ∙ ap found c.in-At.is in
+    let read = sym c.loop-t.invariant.4 ∙ ap answer c.in-Ok.is in
     let view = c.found_view.ensures.0 ∙ found-view n t _ (sym read) in
     let inside = sent-inside n c.args.s p.low p.high t (so c.loop-t.invariant.0 c.loop-t.ending c.loop-t.r c.loop-t.at
     c.loop-t.out)
@@ -84,23 +84,23 @@ overflow_add-at c =
 
 pub slice_bounds-t-count : goal.slice_bounds-t-count
 slice_bounds-t-count c =
-    front-within c.args.n c.loop-t.t.now _ _ (sym c.loop-t.invariant.4 ∙ ap found c.in-At.is)
+    front-within c.args.n c.loop-t.t.now _ _ (sym c.loop-t.invariant.4 ∙ ap answer c.in-Ok.is)
 
 pub slice_bounds-t-start : goal.slice_bounds-t-start
 slice_bounds-t-start c =
-    let high = front-within c.args.n c.loop-t.t.now _ _ (sym c.loop-t.invariant.4 ∙ ap found c.in-At.is) in
+    let high = front-within c.args.n c.loop-t.t.now _ _ (sym c.loop-t.invariant.4 ∙ ap answer c.in-Ok.is) in
     search rules
 
 pub slice_bounds-t-end : goal.slice_bounds-t-end
 slice_bounds-t-end c =
-    let high = front-within c.args.n c.loop-t.t.now _ _ (sym c.loop-t.invariant.4 ∙ ap found c.in-At.is) in
+    let high = front-within c.args.n c.loop-t.t.now _ _ (sym c.loop-t.invariant.4 ∙ ap answer c.in-Ok.is) in
     search rules
 
 pub loop-t-smaller : goal.loop-t-smaller
 loop-t-smaller c =
     let t = c.loop-t.t.now in
-    let k = c.in-At.k in
-    let read = sym c.loop-t.invariant.4 ∙ ap found c.in-At.is in
+    let k = c.in-Ok.k in
+    let read = sym c.loop-t.invariant.4 ∙ ap answer c.in-Ok.is in
     let low = front-some c.args.n t _ _ read in
     let high = front-within c.args.n t _ _ read in
     let l = ap (λ (z : List ℕ). length z) (part_end k t) ∙ length-drop k t in
@@ -112,8 +112,8 @@ loop-t-preserved c =
     let s = c.args.s in
     let p = c.requires.0 in
     let t = c.loop-t.t.now in
-    let k = c.in-At.k in
-    let read = sym c.loop-t.invariant.4 ∙ ap found c.in-At.is in
+    let k = c.in-Ok.k in
+    let read = sym c.loop-t.invariant.4 ∙ ap answer c.in-Ok.is in
     let view = c.found_view.ensures.0 ∙ found-view n t _ (sym read) in
     let whole = one_by_one c.args.r.now s c.args.b.now c.args.out.now in
     let so_far = so c.loop-t.invariant.0 c.loop-t.ending c.loop-t.r c.loop-t.at c.loop-t.out in
@@ -142,7 +142,7 @@ loop-t-preserved c =
 
 pub returns-in_default : goal.returns-in_default
 returns-in_default c =
-    let read = sym c.loop-t.invariant.4 ∙ ap found c.in_default.is in
+    let read = sym c.loop-t.invariant.4 ∙ ap answer c.in_default.is in
     let some : 0 < length c.loop-t.t.now = search rules in
     true-false _ c.loop-t.invariant.1.whole (whole-none c.args.n c.loop-t.t.now _ read some)
 

@@ -2,7 +2,7 @@
 use mathlib.Core.Path.{◌≡◌}
 use lib.ListN.{length}
 use Rattle.wire.specs.Codec.{front}
-use Rattle.wire.specs.Outcome.{found}
+use Rattle.refusal.specs.Refusal.{answer}
 use Rattle.step.specs.Told.{Told}
 use Rattle.calls_bytes.specs.Frame.{one_by_one}
 use Rattle.calls_bytes.specs.Shown.{event_view}
@@ -14,7 +14,7 @@ invariant-loop-t l =
     (tell : Told) × Along l.n l.s l.t (so tell l.ending l.r l.at l.out) l.ending (one_by_one l.initial.r l.s l.b
     l.initial.out) × (l.view ≡ event_view tell
     l.initial.view)
-    × (length l.out ≡ length l.initial.out) × (found l.f ≡ front l.n l.t)
+    × (length l.out ≡ length l.initial.out) × (answer l.f ≡ front l.n l.t)
 
 abbrev pub decreases-loop-t : goal.decreases-loop-t
 decreases-loop-t l = length l.t

@@ -4,7 +4,7 @@ use borrow.Author.Tests.{le-leb, le-ltb}
 use Rattle.octets.specs.Answer.{returned}
 use Rattle.octets.proofs.Test.{both_true}
 use Rattle.wire.specs.Layout.{encode, allowed}
-use Rattle.wire.specs.Outcome.{parsed}
+use Rattle.refusal.specs.Refusal.{answer}
 use Rattle.wire.proofs.Handed.{read-room, read_view}
 use Rattle.wire.proofs.RoundTrip.{read_only}
 use Rattle.calls.specs.Entry.{taken}
@@ -15,14 +15,14 @@ use Rattle.node.proofs.message.Goals as goal
 pub parsed_view-requires : goal.parsed_view-requires
 parsed_view-requires c =
     let a = c.args in
-    let read = sym c.parse-p.ensures ∙ ap parsed c.in-Got.is in
+    let read = sym c.parse-p.ensures ∙ ap answer c.in-Ok.is in
     read-room a.c.n a.b.now _ (sym read)
 
 pub taken_message-requires : goal.taken_message-requires
 taken_message-requires c =
     let a = c.args in
-    let read = sym c.parse-p.ensures ∙ ap parsed c.in-Got.is in
-    let m = c.in-Got.m in
+    let read = sym c.parse-p.ensures ∙ ap answer c.in-Ok.is in
+    let m = c.in-Ok.m in
     let whole = read_only a.c.n a.b.now m read in
     let view = c.parsed_view.ensures.0 ∙ read_view a.c.n a.b.now _ (sym read) in (
       sym c.if-not-is_usable.ensures,
@@ -33,14 +33,14 @@ taken_message-requires c =
       whole.bytes ∙ ap (encode m) (sym view),
     )
 
-pub returns-in-Got : goal.returns-in-Got
-returns-in-Got c =
+pub returns-in-Ok : goal.returns-in-Ok
+returns-in-Ok c =
     let a = c.args in
     let long = le-ltb _ _ c.if-out-lt-OUTPUT.false in
     let sender = both_true (le-leb _ _ c.if-s-lt1.false) (le-leb _ _ c.if-c-s.false) in
-    let read = sym c.parse-p.ensures ∙ ap parsed c.in-Got.is in
+    let read = sym c.parse-p.ensures ∙ ap answer c.in-Ok.is in
     let view = c.parsed_view.ensures.0 ∙ read_view a.c.n a.b.now _ (sym read) in
     let e = message-read a.c a.s a.b.now a.out.now long (sym c.if-not-is_usable.ensures) sender _ read in
     subst (Tells c.taken_message.result _)
-    (ap (λ (v : List ℕ). taken a.c a.s v a.out.now (returned c.in-Got.m)) view ∙ sym e)
+    (ap (λ (v : List ℕ). taken a.c a.s v a.out.now (returned c.in-Ok.m)) view ∙ sym e)
     c.taken_message.ensures

@@ -11,7 +11,7 @@ use Rattle.octets.specs.Test.{both}
 use Rattle.octets.proofs.Test.{both_left, both_right}
 use Rattle.wire.specs.Codec.{decode, view_part}
 use Rattle.wire.specs.Layout.{encode, allowed}
-use Rattle.wire.specs.Outcome.{parsed}
+use Rattle.refusal.specs.Refusal.{answer}
 use Rattle.wire.proofs.Handed.{read-room, read_view}
 use Rattle.wire.proofs.RoundTrip.{read_only}
 use Rattle.calls.specs.Entry as N
@@ -51,7 +51,7 @@ returns-then-not-s-n c =
 
 pub parsed_view-requires : goal.parsed_view-requires
 parsed_view-requires c =
-    read-room c.get_word-n.result c.args.b.now _ (ap parsed (sym c.in-Got.is) ∙ c.parse-p.ensures)
+    read-room c.get_word-n.result c.args.b.now _ (ap answer (sym c.in-Ok.is) ∙ c.parse-p.ensures)
 
 pub take_message-requires : goal.take_message-requires
 take_message-requires c =
@@ -61,8 +61,8 @@ take_message-requires c =
     let d = record_of a.r.now in
     let e = own-n a.r.now c.get_word-n.ensures in
     let n = c.get_word-n.result in
-    let m = c.in-Got.m in
-    let read = sym c.parse-p.ensures ∙ ap parsed c.in-Got.is in
+    let m = c.in-Ok.m in
+    let read = sym c.parse-p.ensures ∙ ap answer c.in-Ok.is in
     let whole = read_only n a.b.now m read in
     let view = c.parsed_view.ensures.0 ∙ read_view n a.b.now _ (sym read) in
     let low = leb 1 a.s in
@@ -78,8 +78,8 @@ take_message-requires c =
       whole.bytes ∙ ap (encode m) (sym view),
     )
 
-pub returns-in-Got : goal.returns-in-Got
-returns-in-Got c =
+pub returns-in-Ok : goal.returns-in-Ok
+returns-in-Ok c =
     let a = c.args in
     let test : both (leb 1 a.s) (leb a.s c.get_word-n.result) ≡ true = search rules in
     let h = admitted N.least_output a.r.now a.out.now (sym c.admission-k.ensures ∙ c.if-k-ne0.false) in
@@ -87,8 +87,8 @@ returns-in-Got c =
     let e = own-n a.r.now c.get_word-n.ensures in
     let sender = ap (λ (j : ℕ). both (leb 1 a.s) (leb a.s j)) e ∙ test in
     let n = c.get_word-n.result in
-    let m = c.in-Got.m in
-    let read = sym c.parse-p.ensures ∙ ap parsed c.in-Got.is in
+    let m = c.in-Ok.m in
+    let read = sym c.parse-p.ensures ∙ ap answer c.in-Ok.is in
     let view = c.parsed_view.ensures.0 ∙ read_view n a.b.now _ (sym read) ∙ ap (λ (j : ℕ). view_part j
     a.b.now) (sym e) in
     becomes-shown c.take_message.result _ _ _ _
@@ -99,17 +99,17 @@ returns-in-Got c =
     ∙ ap (λ (v : List ℕ). N.taken d a.s v a.out.now (returned m)) (sym view)))
     c.take_message.ensures
 
-pub returns-in-Refused : goal.returns-in-Refused
-returns-in-Refused c =
+pub returns-in-Err : goal.returns-in-Err
+returns-in-Err c =
     let a = c.args in
     let test : both (leb 1 a.s) (leb a.s c.get_word-n.result) ≡ true = search rules in
     let h = admitted N.least_output a.r.now a.out.now (sym c.admission-k.ensures ∙ c.if-k-ne0.false) in
     let d = record_of a.r.now in
     let e = own-n a.r.now c.get_word-n.ensures in
     let sender = ap (λ (j : ℕ). both (leb 1 a.s) (leb a.s j)) e ∙ test in
-    let read = sym c.parse-p.ensures ∙ ap parsed c.in-Refused.is in
-    becomes-shown c.turned_away-in-Refused.result _ _ _ _ (refused-at a.r.now a.out.now (λ d. N.message d a.s
+    let read = sym c.parse-p.ensures ∙ ap answer c.in-Err.is in
+    becomes-shown c.turned_away-in-Err.result _ _ _ _ (refused-at a.r.now a.out.now (λ d. N.message d a.s
     a.b.now a.out.now) h
     (message-7 d a.s a.b.now a.out.now (le-ltb _ _ h.room) h.can-step sender _
     (ap (λ (j : ℕ). decode j a.b.now) e ∙ read)))
-    (c.turned_away-in-Refused.ensures _ _, refl)
+    (c.turned_away-in-Err.ensures _ _, refl)

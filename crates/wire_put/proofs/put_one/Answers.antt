@@ -14,5 +14,6 @@ returns c =
     let a = c.args in
     let room : first_at + number_size ≤ length a.out.now = c.requires in
     let h : List ℕ = 1 ∷ 0 ∷ 1 ∷ a.k ∷ a.mark ∷ 0 ∷ 8 ∷ [] in
-    put_then a.out.now 0 h (be number_size a.x) first_at (omega arith) refl c.put_bytes.ensures
-    c.put_word.ensures
+    let e = put_then a.out.now 0 h (be number_size a.x) first_at (omega arith) refl c.put_bytes.ensures
+    c.put_word.ensures in
+    (refl, e)

@@ -16,6 +16,7 @@ returns c =
     let room : two_size ≤ length o = c.requires in
     let u = kind a.k ++ request a.r in
     let h : List ℕ = 3 ∷ 0 ∷ 8 ∷ [] in
-    put_then o 0 (u ++ h) (be number_size a.t) second_at (omega arith) refl
-    (put_then o 0 u h second_head (omega arith) refl c.put_one.ensures c.put_bytes.ensures)
-    c.put_word.ensures
+    let e = put_then o 0 (u ++ h) (be number_size a.t) second_at (omega arith) refl
+    (put_then o 0 u h second_head (omega arith) refl c.put_one.ensures.1 c.put_bytes.ensures)
+    c.put_word.ensures in
+    (refl, e)

@@ -18,6 +18,7 @@ returns c =
     let u = kind 6 ++ tag a.t in
     let h : List ℕ = 4 ∷ 0 ∷ 1 ∷ a.w ∷ 5 ∷ 0 ∷ 8 ∷ [] in
     let z = c.put_bytes.new.b in
-    put_then o 0 (u ++ h) (report_bytes a.p) third_at (omega arith) refl
-    (put_then o 0 u h second_head (omega arith) refl c.put_one.ensures c.put_bytes.ensures)
-    (c.put_bytes-2.ensures ∙ ap (put z third_at) c.report_bytes-d.ensures)
+    let e = put_then o 0 (u ++ h) (report_bytes a.p) third_at (omega arith) refl
+    (put_then o 0 u h second_head (omega arith) refl c.put_one.ensures.1 c.put_bytes.ensures)
+    (c.put_bytes-2.ensures ∙ ap (put z third_at) c.report_bytes.ensures) in
+    (refl, e)
