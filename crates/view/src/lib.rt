@@ -144,11 +144,13 @@ pub fn first_of(n: usize, v: View) -> View
     requires { n ≤ nodes }
     ensures { result ≡ first_of n v }
 {
-    let mut tags = [0; NODES];
-    let mut reports = [none(); NODES];
-    tags[..n].copy_from_slice(&v.tags[..n]);
-    reports[..n].copy_from_slice(&v.reports[..n]);
-    View { tags, reports }
+    // Not by `copy_from_slice`, which calls memmove where the compiler does not know the length.
+    let mut first = absent();
+    for i in 0..n {
+        first.tags[i] = v.tags[i];
+        first.reports[i] = v.reports[i];
+    }
+    first
 }
 
 // Writes the first n entries of a view at the front of `out`.
