@@ -23,10 +23,10 @@ use events::Outcome;
 use marks::{heard_from, is_late, last_tags, note, top_after};
 use node_bytes::{Called, admission, take_message, turned_away};
 use octets::get_word;
+use refusal::Refusal;
 use region::places::{MAXTAG_PLACE, N_PLACE};
 use step::Ending;
 use view::VIEW;
-use refusal::Refusal;
 use wire::Message;
 use wire_parse::parse_prefix;
 use wire_parse::views::found_view;
@@ -85,9 +85,7 @@ fn take_all(
     let mut at = 0;
     let mut ending = Ending::None;
     while !t.is_empty() {
-        let Ok((m, k)) = f else {
-            return turned_away(7)
-        };
+        let Ok((m, k)) = f else { return turned_away(7) };
         let a = take_message(r, n, s, &t[..k], found_view(t, f), m, &mut out[at..], view);
         at += a.length;
         ending = first_ending(ending, a.outcome);

@@ -34,7 +34,7 @@ slice_bounds-take_message-end c =
 
 pub found_view-requires : goal.found_view-requires
 found_view-requires c =
-    front-room c.args.n c.loop-t.t.now _ (ap answer (sym c.in-Ok.is) ∙ c.loop-t.invariant.4)
+    front-room c.args.n c.loop-t.t.now _ c.loop-t.invariant.4
 
 pub slice_bounds-take_message-count : goal.slice_bounds-take_message-count
 slice_bounds-take_message-count c =
@@ -54,7 +54,7 @@ take_message-a-requires c =
     let p = c.requires.0 in
     let t = c.loop-t.t.now in
     let read = sym c.loop-t.invariant.4 ∙ ap answer c.in-Ok.is in
-    let view = c.found_view.ensures.0 ∙ found-view n t _ (sym read) in
+    let view = c.found_view.ensures.0 ∙ found-view n t _ c.loop-t.invariant.4 in
     let along = c.loop-t.invariant.1 in
     let big = room n c.args.s p.low p.high t _ c.loop-t.ending _ along p.ends _ _ read in (
       along.stand.long,
@@ -73,7 +73,7 @@ overflow_add-at c =
     let p = c.requires.0 in
     let t = c.loop-t.t.now in
     let read = sym c.loop-t.invariant.4 ∙ ap answer c.in-Ok.is in
-    let view = c.found_view.ensures.0 ∙ found-view n t _ (sym read) in
+    let view = c.found_view.ensures.0 ∙ found-view n t _ c.loop-t.invariant.4 in
     let inside = sent-inside n c.args.s p.low p.high t (so c.loop-t.invariant.0 c.loop-t.ending c.loop-t.r c.loop-t.at
     c.loop-t.out)
     c.loop-t.ending _ c.loop-t.invariant.1 p.ends _ _ read _ view _ (part_end c.loop-t.at c.loop-t.out)
@@ -114,7 +114,7 @@ loop-t-preserved c =
     let t = c.loop-t.t.now in
     let k = c.in-Ok.k in
     let read = sym c.loop-t.invariant.4 ∙ ap answer c.in-Ok.is in
-    let view = c.found_view.ensures.0 ∙ found-view n t _ (sym read) in
+    let view = c.found_view.ensures.0 ∙ found-view n t _ c.loop-t.invariant.4 in
     let whole = one_by_one c.args.r.now s c.args.b.now c.args.out.now in
     let so_far = so c.loop-t.invariant.0 c.loop-t.ending c.loop-t.r c.loop-t.at c.loop-t.out in
     let x = c.first_ending-ending.ensures _ (later n s p.low p.high t so_far c.loop-t.ending whole c.loop-t.invariant.1
