@@ -147,15 +147,7 @@ fn emit_held(n: usize, o: Outbox, b: &[u8], out: &mut [u8]) -> usize
     let mut view = [0u8; VIEW];
     let size = ENTRY * n;
     write_view(n, o.view, &mut view[..size]);
-    emit_parts(
-        n,
-        o.handler,
-        o.reading,
-        o.comparing,
-        b,
-        &view[..size],
-        out,
-    )
+    emit_parts(n, o.handler, o.reading, o.comparing, b, &view[..size], out)
 }
 
 // Writes what a whole step sends, and answers how many bytes it has; b is the bytes of the message that was handled.

@@ -15,9 +15,8 @@ ghost use Rattle.wire.specs.Shape.{head_at, two_heads, two_shape, value_heads, g
 use refusal::Refusal;
 use view::{ENTRY, REPORT};
 use wire::{
-    ECHO, FIRST, FIRST_HEAD, GOOD_HEAD, Message, NUMBER, READ, READ_ANSWER, SECOND,
-    SECOND_HEAD, THIRD, THIRD_HEAD, VALUE, WRITE, WRITE_ANSWER, is_held, is_pair, is_request,
-    is_sent,
+    ECHO, FIRST, FIRST_HEAD, GOOD_HEAD, Message, NUMBER, READ, READ_ANSWER, SECOND, SECOND_HEAD,
+    THIRD, THIRD_HEAD, VALUE, WRITE, WRITE_ANSWER, is_held, is_pair, is_request, is_sent,
 };
 
 // The length in the head of a number, and of a report.

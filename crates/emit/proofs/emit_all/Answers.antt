@@ -20,10 +20,10 @@ emit_parts-requires c =
       | else-holds_good-2 w ↦ elim c.if-holds_good.branch [
         | then-holds_good v ↦ true-false _ (v.value-is ∙ v.if-holds_good.true) w.if-holds_good-2.false
         | else-holds_good v ↦ rw (
-            sym c.holds_good.ensures ∙ v.if-holds_good.false,
-            sym v.holds_good-else-holds_good.ensures ∙ sym v.value-is ∙ w.if-holds_good-2.false,
-            sym w.holds_good-else-holds_good-2.ensures ∙ sym w.value-is ∙ c.if-holds_good-3.false,
-          ) refl
+          sym c.holds_good.ensures ∙ v.if-holds_good.false,
+          sym v.holds_good-else-holds_good.ensures ∙ sym v.value-is ∙ w.if-holds_good-2.false,
+          sym w.holds_good-else-holds_good-2.ensures ∙ sym w.value-is ∙ c.if-holds_good-3.false,
+        ) refl
       ]
     ]) in (
       p.0,
@@ -39,10 +39,10 @@ returns-else-holds_good-3 c =
       | else-holds_good-2 w ↦ elim c.if-holds_good.branch [
         | then-holds_good v ↦ true-false _ (v.value-is ∙ v.if-holds_good.true) w.if-holds_good-2.false
         | else-holds_good v ↦ rw (
-            sym c.holds_good.ensures ∙ v.if-holds_good.false,
-            sym v.holds_good-else-holds_good.ensures ∙ sym v.value-is ∙ w.if-holds_good-2.false,
-            sym w.holds_good-else-holds_good-2.ensures ∙ sym w.value-is ∙ c.if-holds_good-3.false,
-          ) refl
+          sym c.holds_good.ensures ∙ v.if-holds_good.false,
+          sym v.holds_good-else-holds_good.ensures ∙ sym v.value-is ∙ w.if-holds_good-2.false,
+          sym w.holds_good-else-holds_good-2.ensures ∙ sym w.value-is ∙ c.if-holds_good-3.false,
+        ) refl
       ]
     ]) in
     let alike = runs-alike a.n [] (view_bytes a.n a.o.view) (messages a.o) none in (
