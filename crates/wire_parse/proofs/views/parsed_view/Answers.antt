@@ -1,5 +1,5 @@
 -- `wire_parse::views::parsed_view` meets its contract: where the view is handed back, the message is a good one.
-use Rattle.std.proofs.Common.{◌∙◌, ap, arith}
+use Rattle.std.proofs.Common.{◌∙◌, ap}
 use Rattle.octets.specs.Answer.{returned}
 use Rattle.refusal.specs.Refusal.{answer}
 use Rattle.wire.specs.declared.Message.{Message}
