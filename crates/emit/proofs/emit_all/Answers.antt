@@ -3,7 +3,6 @@ use Rattle.std.proofs.Common.{◌≡◌, ◌∙◌, ℕ, false, List, [], length
 use Rattle.octets.specs.Bytes.{put}
 use Rattle.octets.proofs.Test.{true-false}
 use Rattle.view.specs.View.{view_bytes}
-use Rattle.table.specs.Loop.{either}
 use Rattle.step.specs.Step.{messages}
 use Rattle.emit.specs.Good.{any_good}
 use Rattle.emit.proofs.NoGood.{no-good, room-alike, runs-alike}

@@ -1,5 +1,5 @@
 -- `emit::emit_good` meets its contract.
-use Rattle.std.proofs.Common.{◌≡◌, ◌∙◌, ℕ, ◌+◌, refl, ap, arith}
+use Rattle.std.proofs.Common.{ℕ, ◌+◌, refl, ap, arith}
 use Rattle.wire.proofs.Numbers.{size-most, view-length}
 use Rattle.emit.proofs.Runs.{emitted, answered, same-length}
 use Rattle.emit.proofs.emit_good.Goals as goal
