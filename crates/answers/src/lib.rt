@@ -7,7 +7,7 @@ ghost use Rattle.octets.specs.Loop.{join};
 ghost use Rattle.view.specs.Size.{nodes};
 ghost use Rattle.view.specs.Report.{report_number};
 ghost use Rattle.digits.specs.Decimal.{decimal};
-ghost use Rattle.answers.specs.Answer.{start, entry, entry_at, entries, feed, line, number_room, word_room, room};
+ghost use Rattle.answers.specs.Answer.{start, entry, entry_at, feed, line, number_room, word_room, room};
 ghost use Rattle.answers.specs.Answer.{start_room, entry_room};
 
 use digits::Digits;

@@ -10,7 +10,7 @@ ghost use Rattle.table.specs.Quorum.{can_be};
 ghost use Rattle.region.specs.Channel.{slot_size, count_of, first};
 ghost use Rattle.region.specs.Record.{record_size, record_of, record_bytes};
 ghost use Rattle.block.specs.Block.{block_size, record_in, keep_record, take_off, receive, halt, block_sound};
-ghost use Rattle.layout.specs.Layout.{cluster_size, blocks_place, block_place, size_for, stated, faults_in, block};
+ghost use Rattle.layout.specs.Layout.{cluster_size, blocks_place, block_place, size_for, faults_in, block};
 ghost use Rattle.layout.specs.Layout.{stopped, channel, on_block, fits, sound, is_node};
 
 use block::BLOCK;

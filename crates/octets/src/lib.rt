@@ -2,34 +2,12 @@
 // The definitions that the contracts cite are in specs/, the laws about them in proofs/.
 #![tactic(auto)]
 
-ghost use Rattle.std.specs.Prelude.{◌≡◌, ◌+◌, ◌-◌, ◌*◌, ◌<◌, ◌≤◌, min, length, replicate};
-ghost use Rattle.octets.specs.Test.{both};
+ghost use Rattle.std.specs.Prelude.{◌≡◌, ◌+◌, ◌-◌, ◌*◌, ◌<◌, ◌≤◌, length};
 ghost use Rattle.octets.specs.Bytes.{num, be, part, put};
 ghost use Rattle.octets.specs.Word.{word_size, word, word_bytes};
 
 // The bytes of a word.
 pub const WORD: usize = 8;
-
-// Both tests hold.
-pub fn and(a: bool, b: bool) -> bool
-    ensures { result ≡ both a b }
-{
-    a && b
-}
-
-// The difference, and 0 where it would be below 0.
-pub fn less(x: u64, y: u64) -> u64
-    ensures { result ≡ x - y }
-{
-    x.saturating_sub(y)
-}
-
-// The lesser of two numbers.
-pub fn least(x: usize, y: usize) -> usize
-    ensures { result ≡ min x y }
-{
-    x.min(y)
-}
 
 // The number of eight bytes.
 pub fn number8(s: &[u8]) -> u64
@@ -55,13 +33,6 @@ pub fn put_bytes(b: &mut [u8], at: usize, s: &[u8])
     for (i, x) in s.iter().enumerate() {
         b[at + i] = *x;
     }
-}
-
-// Makes every byte of b an x.
-pub fn fill(b: &mut [u8], x: u8)
-    ensures { b.new ≡ replicate (length b.old) x }
-{
-    b.fill(x);
 }
 
 // The word at a place.

@@ -57,13 +57,6 @@ pub fn is_answer(m: Message) -> bool
     matches!(m, Message::ReadAnswer { .. } | Message::WriteAnswer { .. })
 }
 
-// The difference, and 0 where it would be below 0.
-pub fn less(x: usize, y: usize) -> usize
-    ensures { result ≡ x - y }
-{
-    x.saturating_sub(y)
-}
-
 // How many of `left` entries are left after those of a message.
 pub fn left_after(n: usize, m: Message, left: usize) -> usize
     ensures { (a : ℕ) (v : View) → result ≡ left - length (addressed n a v m) }

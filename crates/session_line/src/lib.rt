@@ -13,7 +13,6 @@ use events::Reply;
 use layout::STATED_PLACE;
 use lines::Command;
 use record::Operation;
-use region::channel::index;
 use session_reply::{handler, printed_at};
 
 // Runs a command.
@@ -36,7 +35,7 @@ fn act(b: &mut [u8], c: Command) -> Reply
 fn nodes_in(b: &[u8]) -> usize
     ensures { result ≡ stated b.now }
 {
-    b.get(STATED_PLACE).map_or(0, |n| index(*n))
+    b.get(STATED_PLACE).map_or(0, |n| usize::from(*n))
 }
 
 // Runs a line as event e, writes what is printed at a place, and answers the place after it. A bad line says no command.

@@ -1,8 +1,7 @@
 // Views, which hold an entry for each writer, and the square table of the tags heard.
-ghost use Rattle.std.specs.Prelude.{◌≡◌, ◌-◌, ◌≤◌, leb, set};
-ghost use Rattle.octets.specs.Test.{pick};
+ghost use Rattle.std.specs.Prelude.{◌≡◌, ◌-◌, ◌≤◌};
 ghost use Rattle.view.specs.Size.{nodes};
-ghost use Rattle.table.specs.Table.{tag_of, report_of, put_entry, newest, entry_within, view_within, heard_within};
+ghost use Rattle.table.specs.Table.{tag_of, put_entry, newest, entry_within, view_within, heard_within};
 
 use crate::CELLS;
 use view::{LIMIT, NODES, Report, View, is_none};
