@@ -122,7 +122,7 @@ pub fn message_report(m: Message) -> [u8; REPORT]
     }
 }
 
-// The message of a kind's number, as C gives it, which may be any.
+// The message of a kind's number, which C gives, and which may be any: so the kinds are numbers here.
 pub fn message_of(kind: u64, request: u64, writer: usize, tag: u64, report: Report) -> Message
     ensures { result ≡ message_of kind request writer tag report }
 {

@@ -5,7 +5,9 @@ ghost use Rattle.std.specs.Prelude.{◌≡◌, ◌+◌, ◌≤◌, length, eqb, 
 ghost use Rattle.octets.specs.Answer.{returned, refused};
 ghost use Rattle.octets.specs.Test.{pick};
 ghost use Rattle.octets.specs.Word.{word};
-ghost use Rattle.view.specs.Size.{nodes, limit, tag_size, entry_size, view_size};
+ghost use Rattle.octets.specs.Bytes.{num, part};
+ghost use Rattle.view.specs.Size.{nodes, limit, tag_size, report_size, entry_size, view_size};
+ghost use Rattle.view.specs.Report.{report_of};
 ghost use Rattle.view.specs.View.{entry_ok, view_ok};
 ghost use Rattle.figures.specs.Figures.{no_totals, with_report, totals, figures_of, counted, waiting_sum};
 ghost use Rattle.figures.specs.Room.{Roomy};
@@ -72,6 +74,28 @@ fn is_entry(v: &[u8], at: usize) -> bool
     }
 }
 
+// The count at a place, two bytes.
+fn count_at(v: &[u8], at: usize) -> u16
+    requires { at + 2 ≤ length v.now }
+    ensures { result ≡ num (part v.now at 2) }
+{
+    u16::from_be_bytes([v[at], v[at + 1]])
+}
+
+// The report at a place, each count from its own two bytes: counts that are to be added up are quicker so than by way
+// of the report's number.
+fn report_at(v: &[u8], at: usize) -> Report
+    requires { at + report_size ≤ length v.now }
+    ensures { result ≡ report_of (part v.now at report_size) }
+{
+    Report {
+        extensions: count_at(v, at),
+        lines: count_at(v, at + 2),
+        waiting: count_at(v, at + 4),
+        wakeups: count_at(v, at + 6),
+    }
+}
+
 // The figures over n entries, if each of them may stand in a view. Calls waiting are added up too: then the four
 // additions of an entry are one instruction.
 fn count_entries(n: usize, v: &[u8]) -> Result<Counted, Refusal>
@@ -87,7 +111,7 @@ fn count_entries(n: usize, v: &[u8]) -> Result<Counted, Refusal>
         if !is_entry(v, at) {
             return Err(Refusal::Layout);
         }
-        let p = view::read_report(&v[at + TAG..at + ENTRY]);
+        let p = report_at(v, at + TAG);
         waiting_sum += u32::from(p.waiting);
         totals = with_report(totals, p);
     }

@@ -296,13 +296,8 @@ pub extern "C" fn snapshot_write(
         (message_in numbers.now report.now)
         view.now length.old out.old }
 {
-    let m = message_of(
-        numbers[0],
-        numbers[1],
-        numbers[2] as usize,
-        numbers[3],
-        read_report(report),
-    );
+    let [kind, request, writer, tag] = *numbers;
+    let m = message_of(kind, request, writer as usize, tag, read_report(report));
     match wire_write::write(n, m, view, out) {
         Ok(k) => {
             *length = k;

@@ -1,15 +1,13 @@
 -- `figures::count_entries` meets its contract.
 use borrow.Author.Rules.{rules}
-use Prim.Native.Nat.{ℕ, ◌+◌, ◌*◌, ◌<◌, ◌^◌}
+use Prim.Native.Nat.{ℕ, ◌+◌, ◌<◌, ◌^◌}
 use mathlib.Core.Path.{◌≡◌, sym, ap, ap₂, ◌∙◌}
 use mathlib.Core.Bool.{Bool}
 use native.Mathlib.Omega.{arith}
 use Rattle.octets.specs.Answer.{Answer, returned, refused}
 use Rattle.octets.specs.Test.{pick}
 use Rattle.octets.proofs.Loop.{all_to-none, all_to-more, all_to-false}
-use Rattle.octets.proofs.Lent.{lent}
-use Rattle.view.specs.Report.{report_of}
-use Rattle.view.specs.Size.{limit, tag_size, report_size, entry_size}
+use Rattle.view.specs.Size.{limit}
 use Rattle.view.specs.View.{view_ok, entry_ok_at}
 use Rattle.view.specs.declared.Report.{Report}
 use Rattle.figures.specs.declared.Totals.{Totals}
@@ -29,7 +27,7 @@ loop-i-init c =
 
 pub overflow_add-waiting_sum : goal.overflow_add-waiting_sum
 overflow_add-waiting_sum c =
-    let w : c.read_report-p.result.waiting < 2 ^ 16 = search rules in
+    let w : c.report_at-p.result.waiting < 2 ^ 16 = search rules in
     let f = waiting_sum-fits c.loop-i.i c.args.v.now
     (λ k. (c.type_inv.v k).fits)
     (omega arith) in
@@ -49,9 +47,7 @@ loop-i-preserved c =
     let i = l.i in
     let below = c.loop-i-test.true in
     let ok = all_to-more i (entry_ok_at limit v) l.invariant.0 (sym c.is_entry.ensures ∙ c.if-not-is_entry.false) in
-    let e : entry_size * i + tag_size + report_size ≡ entry_size * i + entry_size = omega arith in
-    let p : c.read_report-p.result ≡ counted_report v i = c.read_report-p.ensures
-    ∙ ap report_of (lent v (entry_size * i + tag_size) report_size e)
+    let p : c.report_at-p.result ≡ counted_report v i = c.report_at-p.ensures
     ∙ counted_report-is (i + 1) v ok (λ k. (c.type_inv.v k).fits)
     (omega (arith, c.requires.1, below)) i (omega arith) in (
       ok,
