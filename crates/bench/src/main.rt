@@ -3,23 +3,17 @@
 // memory. A read that fails ends the input; a write that fails is passed over.
 #![tactic(auto)]
 
-ghost use Rattle.std.specs.Prelude.{◌≤◌, length};
+ghost use Rattle.std.specs.Prelude.{◌≤◌};
 ghost use Rattle.session_progress.specs.Progress.{text_size};
 
 use session::{MEMORY, PIECE, TEXT};
 use std::io::{Read, Stdin, Stdout, Write};
 
 // Prints the front of a buffer.
-fn print_front(to: &mut Stdout, out: &[u8], end: usize)
-    requires { end ≤ length out.now }
-{
-    let _ = to.write_all(&out[..end]);
-}
-
 fn print(to: &mut Stdout, out: &[u8; TEXT], end: usize)
     requires { end ≤ text_size }
 {
-    print_front(to, out, end);
+    let _ = to.write_all(&out[..end]);
 }
 
 // A proved loop has to end, and nothing says that the input does. So the reads are counted, up to a number that no run
