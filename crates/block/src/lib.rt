@@ -8,7 +8,8 @@ ghost use Rattle.view.specs.Size.{nodes};
 ghost use Rattle.record.specs.Usable.{sizes_within};
 ghost use Rattle.region.specs.Channel.{channel_size, slot_size, first};
 ghost use Rattle.region.specs.Record.{record_size, record_of, record_bytes};
-ghost use Rattle.block.specs.Block.{block_size, channel_place, has_stopped, record_in, channel_in, waiting_in, keep_record, take_off};
+ghost use Rattle.block.specs.Block.{block_size, channel_place, has_stopped, record_in, channel_in, waiting_in};
+ghost use Rattle.block.specs.Block.{keep_record, take_off};
 ghost use Rattle.block.specs.Block.{receive, halt, channels_sound, block_sound};
 
 use judge::record_sound;

@@ -105,12 +105,12 @@ cut-end t w e q =
     let h : 1 ≤ length (word t) = rw w (omega arith) in
     field-split t h ∙ ap₂ (λ (r s : List ℕ). field r ++ s) w (last-field (after t) e q)
 
-cut-view : (t : List ℕ) (b : Bool) {m : Option ℕ} (e : Bool) → bytes_eq (word t) cut_is ≡ b → NumberView (word (after t)) m
-    → eqb (length (after (after t))) 0 ≡ e → EndView t (cut_by b m e)
+cut-view : (t : List ℕ) (b : Bool) {m : Option ℕ} (e : Bool) → bytes_eq (word t) cut_is ≡ b
+    → NumberView (word (after t)) m → eqb (length (after (after t))) 0 ≡ e → EndView t (cut_by b m e)
 cut-view t b e p none q = none
 cut-view t true true p (number n) q =
-    end (subst (λ (s : List ℕ). End s (Cut (value (word (after t))))) (sym (cut-end t ((bytes_eq-Decides (word t) cut_is).0 p) n
-    q)) (cut (word (after t)) n))
+    end (subst (λ (s : List ℕ). End s (Cut (value (word (after t)))))
+    (sym (cut-end t ((bytes_eq-Decides (word t) cut_is).0 p) n q)) (cut (word (after t)) n))
 cut-view t true false p (number n) q = none
 cut-view t false e p (number n) q = none
 
@@ -135,9 +135,8 @@ pub data LegalOrBad (s : List ℕ) : Option Command → Type 0 where
 legal-as : {s r : List ℕ} {l : Command} → s ≡ r → Legal r l → LegalOrBad s (Some l)
 legal-as {l = l} e h = legal (subst (λ (b : List ℕ). Legal b l) (sym e) h)
 
-update-view : (t : List ℕ) {c : Option ℕ} {p : Option Report} {x : Option Extent} → NumberView (word t) c → ReportView (word
-    (after t)) p
-    → EndView (after (after t)) x → LegalOrBad (117 ∷ t) (update_by c p x)
+update-view : (t : List ℕ) {c : Option ℕ} {p : Option Report} {x : Option Extent} → NumberView (word t) c
+    → ReportView (word (after t)) p → EndView (after (after t)) x → LegalOrBad (117 ∷ t) (update_by c p x)
 update-view t none p x = bad
 update-view t (number c) none x = bad
 update-view t (number c) (report p) none = bad
@@ -170,8 +169,8 @@ stop-view t true (number c) q = legal-as (ap (λ (r : List ℕ). 120 ∷ r) (las
 stop-view t false (number c) q = bad
 
 -- by the letter
-lettered : (x k : ℕ) (t : List ℕ) (b : Bool) {l m : Option Command} → eqb x k ≡ b → LegalOrBad (k ∷ t) l → LegalOrBad (x ∷ t) m
-    → LegalOrBad (x ∷ t) (pick b l m)
+lettered : (x k : ℕ) (t : List ℕ) (b : Bool) {l m : Option Command} → eqb x k ≡ b → LegalOrBad (k ∷ t) l
+    → LegalOrBad (x ∷ t) m → LegalOrBad (x ∷ t) (pick b l m)
 lettered x k t true {l} e p q = subst (λ (y : ℕ). LegalOrBad (y ∷ t) l) (sym (eqb-true x k e)) p
 lettered x k t false e p q = q
 

@@ -2,7 +2,8 @@
 -- document 02 have them: `n f` on the first line, n nodes of which f may stop, then one event a line, `u c h`, `s c`,
 -- `d a b` or `x c`, where u, s and d may end in `cut m`. Spaces are single. A report h has sixteen hexadecimal digits
 -- with small letters, every other number one to four digits. What is not of this form is a bad line.
-use Rattle.std.specs.Prelude.{ℕ, suc, ◌-◌, Bool, Option, Some, None, List, [], ◌∷◌, length, take, drop, get_or, leb, eqb}
+use Rattle.std.specs.Prelude.{ℕ, suc, ◌-◌, Bool, Option, Some, None, List, [], ◌∷◌, length, take, drop, get_or}
+use Rattle.std.specs.Prelude.{leb, eqb}
 use Rattle.std.specs.List.{position_or_len}
 use Rattle.std.specs.Str.{bytes_eq}
 use Rattle.octets.specs.Test.{pick, both}
@@ -116,7 +117,8 @@ event_of s = event_by (get_or s 0 0) (drop 1 s)
 -- ---- the first line: n from 1 to 5, and an f that n nodes tolerate
 
 abbrev pub opening_by : Option ℕ → Option ℕ → Bool → Option Opening
-opening_by (Some n) (Some f) e = pick (both e (both (leb n 5) (tolerates n f))) (Some (record { nodes = n; faults = f })) None
+opening_by (Some n) (Some f) e =
+    pick (both e (both (leb n 5) (tolerates n f))) (Some (record { nodes = n; faults = f })) None
 opening_by (Some n) None e = None
 opening_by None b e = None
 

@@ -24,8 +24,8 @@ pub fn digits8(x: u64) -> [u8; 8]
     x.to_be_bytes()
 }
 
-// Writes the bytes of s into b, from a place on. Byte by byte, which the compiler joins: for the library's copy it calls
-// memmove where it does not know the length, and the calls for C ask for memcpy and memset alone.
+// Writes the bytes of s into b, from a place on. Byte by byte, which the compiler joins: for the library's copy it
+// calls memmove where it does not know the length, and the calls for C ask for memcpy and memset alone.
 pub fn put_bytes(b: &mut [u8], at: usize, s: &[u8])
     requires { at + length s.now ≤ length b.old }
     ensures { b.new ≡ put b.old at s.now }

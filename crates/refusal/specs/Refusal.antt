@@ -2,8 +2,8 @@
 use Rattle.std.specs.Prelude.{ℕ, Result, Ok, Err}
 use Rattle.octets.specs.Answer.{Answer, returned, refused}
 use Rattle.refusal.specs.declared.Refusal.{Refusal}
-use Rattle.refusal.specs.declared.Refusal.TheVariants.{Size, Unusable, Node, Stopped, Open, Requests, Layout, Empty, Value}
-use Rattle.refusal.specs.declared.Refusal.TheVariants.{Stops, Full, Length, Frame, Page}
+use Rattle.refusal.specs.declared.Refusal.TheVariants.{Size, Unusable, Node, Stopped, Open, Requests, Layout}
+use Rattle.refusal.specs.declared.Refusal.TheVariants.{Empty, Value, Stops, Full, Length, Frame, Page}
 
 abbrev pub number : Refusal → ℕ
 number Size = 1

@@ -24,5 +24,6 @@ ran None b = refuse 1 b
 
 -- the bytes printed for event e: a scan's view with an entry for each node that the cluster's bytes state
 unfoldable pub printed : (e : ℕ) → Option Command → List ℕ → List ℕ
-printed e (Some l) b = line e (printed_for (handler l) (told_of (ran (Some l) b))) (stated b) (told_view (told_of (ran (Some l) b)))
+printed e (Some l) b =
+    line e (printed_for (handler l) (told_of (ran (Some l) b))) (stated b) (told_view (told_of (ran (Some l) b)))
 printed e None b = line e (Some (No 1)) (stated b) no_view

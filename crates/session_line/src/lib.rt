@@ -38,7 +38,8 @@ fn nodes_in(b: &[u8]) -> usize
     b.get(STATED_PLACE).map_or(0, |n| usize::from(*n))
 }
 
-// Runs a line as event e, writes what is printed at a place, and answers the place after it. A bad line says no command.
+// Runs a line as event e, writes what is printed at a place, and answers the place after it. A bad line says no
+// command.
 pub fn run_at(b: &mut [u8], e: u64, l: Option<Command>, out: &mut [u8], at: usize) -> usize
     requires { at + room ≤ length out.old }
     ensures { (b.new ≡ (ran l b.old).bytes)

@@ -26,12 +26,14 @@ unfoldable pub counted : ℕ → List (Option Command) → ℕ
 counted e [] = e
 counted e (l ∷ ls) = counted (next e) ls
 
-pub counted-more : (e : ℕ) (ls : List (Option Command)) (l : Option Command) → counted e (ls ++ (l ∷ [])) ≡ next (counted e ls)
+pub counted-more : (e : ℕ) (ls : List (Option Command)) (l : Option Command)
+    → counted e (ls ++ (l ∷ [])) ≡ next (counted e ls)
 unfolding counted
 counted-more e [] l = refl
 counted-more e (k ∷ ls) l = counted-more (next e) ls l
 
-pub left-more : (b : List ℕ) (ls : List (Option Command)) (l : Option Command) → left_by b (ls ++ (l ∷ [])) ≡ (ran l (left_by b ls)).bytes
+pub left-more : (b : List ℕ) (ls : List (Option Command)) (l : Option Command)
+    → left_by b (ls ++ (l ∷ [])) ≡ (ran l (left_by b ls)).bytes
 unfolding left_by
 left-more b [] l = refl
 left-more b (k ∷ ls) l = left-more (ran k b).bytes ls l

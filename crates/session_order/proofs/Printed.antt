@@ -68,7 +68,8 @@ module _ (n : ℕ) (most : n ≤ nodes) where
   says e l b h = rw h (shows e (handler l) (ran (Some l) b).answer (ran (Some l) b).view)
 
   -- from bytes b that state n whatever lines are run
-  pub lines-print : (e : ℕ) (b : List ℕ) (ls : List (Option Command)) → ((ks : List (Option Command)) → stated (left_by b ks) ≡ n)
+  pub lines-print : (e : ℕ) (b : List ℕ) (ls : List (Option Command))
+      → ((ks : List (Option Command)) → stated (left_by b ks) ≡ n)
       → Lines e ls (trace_from n b (events_of ls)) (printed_by e b ls)
   unfolding trace_from printed_by printed line left_by
   lines-print e b [] h = none

@@ -49,4 +49,5 @@ pub data Lines : (e : ℕ) → List (Option Command) → Trace → List ℕ → 
 
 -- Lines and what is seen of their events tell what is printed.
 abbrev pub Determined : Type 0
-Determined = (e : ℕ) (ls : List (Option Command)) (tr : Trace) (o u : List ℕ) → Lines e ls tr o → Lines e ls tr u → o ≡ u
+Determined =
+    (e : ℕ) (ls : List (Option Command)) (tr : Trace) (o u : List ℕ) → Lines e ls tr o → Lines e ls tr u → o ≡ u

@@ -151,7 +151,8 @@ module _ (n : ℕ) (b : List ℕ) (bytes : Bytes b) (l : first_at + number_size 
           ne_eqb k 7 (λ e. omega arith),
         )
 
-    begins-as : (k : ℕ) → get_or b 3 0 ≡ k → shape_as k n b ≡ true → begins b (encode (said_as k b) (view_at n b)) ≡ true
+    begins-as : (k : ℕ) → get_or b 3 0 ≡ k → shape_as k n b ≡ true
+        → begins b (encode (said_as k b) (view_at n b)) ≡ true
     unfolding shape_as encode
     begins-as zero e s = absurd (subst T (sym s) tt)
     begins-as (suc zero) e s = begins-of b (encode (Read (word b first_at)) (view_at n b)) (first_at + number_size) refl
@@ -160,8 +161,9 @@ module _ (n : ℕ) (b : List ℕ) (bytes : Bytes b) (l : first_at + number_size 
         begins-of b (encode (ReadAnswer (word b first_at) (word b second_at)) (view_at n b)) (second_at + number_size)
         refl
         (two 2 e s)
-    begins-as (suc (suc (suc zero))) e s = begins-of b (encode (Write (word b first_at) (word b second_at)) (view_at n b))
-        (second_at + number_size) refl
+    begins-as (suc (suc (suc zero))) e s =
+        begins-of b (encode (Write (word b first_at) (word b second_at)) (view_at n b)) (second_at + number_size)
+        refl
         (two 3 e s)
     begins-as (suc (suc (suc (suc zero)))) e s =
         begins-of b (encode (WriteAnswer (word b first_at) (word b second_at)) (view_at n b)) (second_at + number_size)

@@ -36,7 +36,8 @@ returns c =
     let s = c.first_at-s.result.now in
     let u = take (good_head + view_size n - good_head) (drop good_head s) in
     let is : u ≡ view_at n t = lent s good_head (view_size n) refl ∙ ap (view_at n) c.first_at-s.ensures in
-    let long : length (view_at n t) ≡ view_size n = length_part t good_head (view_size n) (omega (arith, p.0, full)) in (
+    let long : length (view_at n t) ≡ view_size n
+    = length_part t good_head (view_size n) (omega (arith, p.0, full)) in (
       c.put_bytes.auto.b,
       front-put _ u (view_size n) (ap (λ (x : List ℕ). length x) is ∙ long) c.put_bytes.ensures ∙ is,
     )
