@@ -40,9 +40,8 @@ use Rattle.outgoing.specs.Outgoing.{shortened, is_cut, may_cut, halt_if, let_out
 use Rattle.outgoing.specs.declared.Extent.{Extent}
 use Rattle.outgoing.proofs.Forwarded.{handled-entries}
 use Rattle.events.specs.Event.{refuse, open_in}
-use Rattle.events.specs.Outcome.{answer_of, Tells}
+use Rattle.events.specs.Outcome.{Reply, answer_of, view_by, Tells}
 use Rattle.events.specs.Ready.{Ready}
-use Rattle.events.specs.declared.Reply.{Reply}
 use Rattle.events.proofs.Settled.{open-settles, settle-full, settle-told}
 use Rattle.events.proofs.Told.{becomes}
 use Rattle.cluster.specs.First.{record_at}
@@ -113,7 +112,7 @@ module _ (n c : ℕ) (o : Operation) (x : Extent) (b : List ℕ) (h : Ready n c 
 
         pub opens : may_cut n x b ≡ true → r ≡ true → (p : Reply) {z : List ℕ}
             → z ≡ let_out n c (shortened x (entries_of n c no_view (listed y))) (halt_if (is_cut x) n c t)
-            → answer_of p.outcome ≡ returned None → p.view ≡ no_view → Tells p z (open_in n c o x b)
+            → answer_of p ≡ returned None → view_by p ≡ no_view → Tells p z (open_in n c o x b)
         unfolding begun
         opens cut fits p {z} k answer shown = becomes p z
             (open-settles n c o x b (node b c) refl idle more cut h.same h.half refl)

@@ -18,11 +18,12 @@ ghost use Rattle.events.specs.Outcome.{Tells};
 ghost use Rattle.events.specs.Ready.{Ready};
 
 use crate::here::{follow_at, is_stale_at, plan_at, take_first};
-use events::{Reply, answered, given, refused};
+use events::{Reply, answered, given};
 use layout::forward::first_place;
 use layout::{copy_record_at, faults_in, first_at};
 use outgoing::{Extent, is_cut};
 use react_bytes::{is_stale_in, react_in};
+use refusal::Refusal;
 use region::places::RECORD;
 use release::{has_spare, may_cut, release, release_handled, settle_delivery};
 use step::{Ending, Sent};
@@ -59,10 +60,10 @@ fn hand_on<'a>(
 {
     copy_record_at(b, c, r);
     if is_stale_in(r, a, m) {
-        return refused(9);
+        return Err(Refusal::Value);
     }
     if !may_cut(b, n, is_cut(x)) {
-        return refused(10);
+        return Err(Refusal::Stops);
     }
     let sent = handle_first(b, n, a, c, m, r);
     let p = plan_in(r, n, faults_in(b));
@@ -115,10 +116,10 @@ fn hand_here(b: &mut [u8], n: usize, a: usize, c: usize, m: Message, x: Extent) 
         (hand_over n a c x b.old (first (channel b.old a c)) m) }
 {
     if is_stale_at(b, a, c, m) {
-        return refused(9);
+        return Err(Refusal::Value);
     }
     if !may_cut(b, n, is_cut(x)) {
-        return refused(10);
+        return Err(Refusal::Stops);
     }
     step_here(b, n, a, c, m, x)
 }

@@ -5,21 +5,21 @@
 mod handing;
 mod here;
 
-ghost use Rattle.std.specs.Prelude.{◌≡◌, ◌+◌, ◌≤◌, length};
+ghost use Rattle.std.specs.Prelude.{◌≡◌, ◌+◌, ◌≤◌, length, IfOk};
 ghost use Rattle.octets.specs.Loop.{up_to};
 ghost use Rattle.view.specs.Size.{nodes};
 ghost use Rattle.record.specs.Record.{blank};
 ghost use Rattle.block.specs.Block.{keep_record};
-ghost use Rattle.layout.specs.Layout.{cluster_size, on_block};
+ghost use Rattle.layout.specs.Layout.{cluster_size, stated, on_block};
 ghost use Rattle.events.specs.Event.{admission as admission_of, open_in};
 ghost use Rattle.events.specs.Event.{fresh as fresh_event, begin as begin_event, deliver as deliver_event};
 ghost use Rattle.events.specs.Stop.{stop as stop_event};
-ghost use Rattle.events.specs.Outcome.{Tells};
+ghost use Rattle.events.specs.Outcome.{Tells, fault};
 ghost use Rattle.events.specs.Ready.{Ready};
 
 use block::BLOCK;
-pub use events::{Outcome, Reply};
-use events::{given, refused};
+use events::given;
+pub use events::{Ended, Reply};
 use handing::hand_over;
 use here::{ask_at, asked_at, is_full_at, is_open_at};
 use layout::{
@@ -28,6 +28,7 @@ use layout::{
 };
 use outgoing::{Extent, is_cut};
 use record::{Operation, blank_node};
+use refusal::Refusal;
 use region::channel::index;
 use release::{can_send, may_cut, release_handled};
 use step::Ending;
@@ -49,10 +50,10 @@ pub fn fresh(n: usize, f: usize, b: &mut [u8]) -> Reply
     ensures { Tells result b.new (fresh_event n f b.old) }
 {
     if !can_be(n, f) {
-        return refused(1);
+        return Err(Refusal::Size);
     }
     if b.len() != BLOCKS_PLACE + BLOCK * n {
-        return refused(12);
+        return Err(Refusal::Length);
     }
     b.fill(0);
     b[STATED_PLACE] = n as u8;
@@ -68,52 +69,49 @@ fn open_at(b: &mut [u8], n: usize, c: usize, o: Operation, x: Extent) -> Reply
     ensures { Tells result b.new (open_in n c o x b.old) }
 {
     if is_open_at(b, c) {
-        return refused(5);
+        return Err(Refusal::Open);
     }
     if is_full_at(b, c) {
-        return refused(6);
+        return Err(Refusal::Requests);
     }
     if !may_cut(b, n, is_cut(x)) {
-        return refused(10);
+        return Err(Refusal::Stops);
     }
     let sent = asked_at(b, c);
     if !can_send(b, n, c, sent, x) {
-        return refused(11);
+        return Err(Refusal::Full);
     }
     ask_at(b, c, o);
     release_handled(b, n, c, c, sent, 0, x);
     given(false, Ending::None, view::absent())
 }
 
-// The first of 12, 2, 3, 4 that refuses an event of node c, with a message from a; 0 where none does.
-fn admission(b: &[u8], a: usize, c: usize) -> u8
-    ensures { result ≡ admission_of a c b.now }
+// The number of nodes, or the first of 12, 2, 3, 4 that refuses an event of node c, with a message from a.
+fn admission(b: &[u8], a: usize, c: usize) -> Result<usize, Refusal>
+    ensures refused { fault result ≡ admission_of a c b.now }
+    ensures counted { IfOk result (λ n. n ≡ stated b.now) }
 {
     if !is_fit(b) {
-        return 12;
+        return Err(Refusal::Length);
     }
     if !is_sound(b) {
-        return 2;
+        return Err(Refusal::Unusable);
     }
     let n = index(b[STATED_PLACE]);
     if !(is_node(n, a) && is_node(n, c)) {
-        return 3;
+        return Err(Refusal::Node);
     }
     if stopped_at(b, c) {
-        return 4;
+        return Err(Refusal::Stopped);
     }
-    0
+    Ok(n)
 }
 
 // Begins an operation at node c, or refuses with 12, 2, 3, 4, 5, 6, 10, 11.
 pub fn begin(b: &mut [u8], c: usize, o: Operation, x: Extent) -> Reply
     ensures { Tells result b.new (begin_event c o x b.old) }
 {
-    let k = admission(b, c, c);
-    if k != 0 {
-        return refused(k);
-    }
-    let n = index(b[STATED_PLACE]);
+    let n = admission(b, c, c)?;
     open_at(b, n, c, o, x)
 }
 
@@ -121,16 +119,12 @@ pub fn begin(b: &mut [u8], c: usize, o: Operation, x: Extent) -> Reply
 pub fn deliver(b: &mut [u8], a: usize, c: usize, x: Extent) -> Reply
     ensures { Tells result b.new (deliver_event a c x b.old) }
 {
-    let k = admission(b, a, c);
-    if k != 0 {
-        return refused(k);
-    }
-    let n = index(b[STATED_PLACE]);
+    let n = admission(b, a, c)?;
     if waiting_at(b, a, c) == 0 {
-        return refused(8);
+        return Err(Refusal::Empty);
     }
     match parse_prefix(n, first_at(b, a, c)) {
-        Err(_) => refused(7),
+        Err(_) => Err(Refusal::Layout),
         Ok((m, _)) => hand_over(b, n, a, c, m, x),
     }
 }
@@ -139,13 +133,9 @@ pub fn deliver(b: &mut [u8], a: usize, c: usize, x: Extent) -> Reply
 pub fn stop(b: &mut [u8], c: usize) -> Reply
     ensures { Tells result b.new (stop_event c b.old) }
 {
-    let k = admission(b, c, c);
-    if k != 0 {
-        return refused(k);
-    }
-    let n = index(b[STATED_PLACE]);
+    let n = admission(b, c, c)?;
     if !may_cut(b, n, true) {
-        return refused(10);
+        return Err(Refusal::Stops);
     }
     halt_at(b, n, c);
     given(false, Ending::None, view::absent())

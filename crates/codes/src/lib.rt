@@ -4,18 +4,19 @@
 
 ghost use Rattle.std.specs.Prelude.{◌≡◌, ◌≤◌};
 ghost use Rattle.octets.specs.Answer.{returned};
+ghost use Rattle.refusal.specs.Refusal.{answer};
 ghost use Rattle.view.specs.declared.View.{View};
 ghost use Rattle.step.specs.Told.{told};
 ghost use Rattle.events.specs.Outcome.{answer_of, told_by};
-ghost use Rattle.calls_bytes.specs.Entry.{accepted};
 ghost use Rattle.calls_bytes.specs.Shown.{event_view};
-ghost use Rattle.codes.specs.Code.{numbers, report_in, message_of};
+ghost use Rattle.codes.specs.Code.{lent, numbers, report_in, message_of};
 ghost use Rattle.codes.specs.Code.{extent_of, rule_code, rule_in, event_code, route_of};
 
 use calls_bytes::show_view;
-use events::{Outcome, Reply};
+use events::Reply;
 use outgoing::Extent;
 use outgoing::entries::is_answer;
+use refusal::Refusal;
 use step::{Ending, Rule, SPENT};
 use view::{REPORT, Report, VIEW};
 use wire::Message;
@@ -58,35 +59,37 @@ fn ending_code(e: Ending) -> u8
 }
 
 // The code of an answer, whatever view stands beside it.
-pub fn outcome_code(outcome: Outcome) -> u8
-    ensures { ((v : View) → result ≡ event_code (told (answer_of outcome) v) (rule_in (answer_of outcome))) }
+pub fn outcome_code(said: Result<Ending, Refusal>) -> u8
+    ensures { ((v : View) → result ≡ event_code (told (answer said) v) (rule_in (answer said))) }
 {
-    match outcome {
-        Outcome::Refused(k) => k,
-        Outcome::Accepted(e) => ending_code(e),
+    match said {
+        Err(k) => k.number(),
+        Ok(e) => ending_code(e),
     }
 }
 
 // The code of an event's answer.
 pub fn event_code(r: Reply) -> u8
-    ensures { result ≡ event_code (told_by r) (rule_in (answer_of r.outcome)) }
+    ensures { result ≡ event_code (told_by r) (rule_in (answer_of r)) }
 {
-    outcome_code(r.outcome)
+    outcome_code(r.map(|e| e.ending))
 }
 
-// Whether an answer is no refusal.
-pub fn is_accepted(outcome: Outcome) -> bool
-    ensures { result ≡ accepted (answer_of outcome) }
+// The length of an accepted call goes to `length`; a refused one leaves it.
+pub fn lend_length(said: Result<usize, Refusal>, length: &mut usize)
+    ensures { length.new ≡ lent (λ k. k) (answer said) length.old }
 {
-    matches!(outcome, Outcome::Accepted(_))
+    if let Ok(k) = said {
+        *length = k;
+    }
 }
 
 // Writes the view of a scan that ended.
 pub fn show(r: Reply, out: &mut [u8; VIEW])
     ensures { out.new ≡ event_view (told_by r) out.old }
 {
-    if let Outcome::Accepted(e) = r.outcome {
-        show_view(e, r.view, out);
+    if let Ok(e) = r {
+        show_view(e.ending, e.view, out);
     }
 }
 

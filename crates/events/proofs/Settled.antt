@@ -18,9 +18,8 @@ use Rattle.step.proofs.Waits.{begin-asks}
 use Rattle.layout.specs.Layout.{faults_in, node}
 use Rattle.outgoing.specs.Outgoing.{is_cut, may_cut, has_room, released}
 use Rattle.outgoing.specs.declared.Extent.{Extent}
-use Rattle.events.specs.declared.Reply.{Reply}
 use Rattle.events.specs.Event.{refuse, demand, commit, settle, open_in}
-use Rattle.events.specs.Outcome.{answer_of, Tells}
+use Rattle.events.specs.Outcome.{Reply, answer_of, view_by, Tells}
 use Rattle.events.proofs.Told.{gives}
 
 module _ (n a c : ℕ) (x : Extent) (s : Step) (found b : List ℕ) where
@@ -36,14 +35,14 @@ module _ (n a c : ℕ) (x : Extent) (s : Step) (found b : List ℕ) where
   -- what the code tells, by whether there was room (t), and the bytes z that it left
   pub settle-told : {t cut : Bool} {z : List ℕ} (r : Reply) → t ≡ has_room n a c x s.node s.outbox found
       → z ≡ pick t (released n a c x s.node s.outbox found) b → cut ≡ is_cut x
-      → answer_of r.outcome ≡ pick t (returned (pick cut None s.ending)) (refused 11)
-      → r.view ≡ pick t (pick cut no_view s.view) no_view → Tells r z (settle n a c x s found b)
+      → answer_of r ≡ pick t (returned (pick cut None s.ending)) (refused 11)
+      → view_by r ≡ pick t (pick cut no_view s.view) no_view → Tells r z (settle n a c x s found b)
   unfolding settle
   settle-told {t} {cut} {z} r judged left e answer shown = rw (sym judged) (go t left answer shown)
     where
       go : (u : Bool) → z ≡ pick u (released n a c x s.node s.outbox found) b
-          → answer_of r.outcome ≡ pick u (returned (pick cut None s.ending)) (refused 11)
-          → r.view ≡ pick u (pick cut no_view s.view) no_view
+          → answer_of r ≡ pick u (returned (pick cut None s.ending)) (refused 11)
+          → view_by r ≡ pick u (pick cut no_view s.view) no_view
           → Tells r z (demand u 11 b (commit n a c x s found))
       go true q h v =
           gives r z {e = commit n a c x s found} refl

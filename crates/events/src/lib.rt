@@ -7,60 +7,44 @@ ghost use Rattle.octets.specs.Answer.{returned, refused};
 ghost use Rattle.octets.specs.Test.{pick};
 ghost use Rattle.view.specs.View.{no_view};
 ghost use Rattle.step.specs.declared.Ending.TheVariants.{None};
-ghost use Rattle.events.specs.declared.Outcome.TheVariants.{Refused};
-ghost use Rattle.events.specs.Outcome.{answer_of};
+ghost use Rattle.events.specs.Outcome.{answer_of, view_by};
 
+use refusal::Refusal;
 use step::Ending;
-use view::View;
+use view::{View, absent};
 
-// A refusal by its number in document 01, or the ending that an accepted event gives.
+// What an accepted event gives: how an operation ended, if one did, and the view of it.
 #[derive(Clone, Copy)]
-pub enum Outcome {
-    Refused(u8),
-    Accepted(Ending),
-}
-
-// The answer of an event, with the view of the operation that it ended.
-#[derive(Clone, Copy)]
-pub struct Reply {
-    pub outcome: Outcome,
+pub struct Ended {
+    pub ending: Ending,
     pub view: View,
 }
 
-pub fn refused(k: u8) -> Reply
-    ensures { result ≡ record { outcome = Refused k; view = no_view } }
-{
-    Reply {
-        outcome: Outcome::Refused(k),
-        view: view::absent(),
-    }
-}
+// The answer of an event.
+pub type Reply = Result<Ended, Refusal>;
 
 // What an accepted event answers: a cut one does not give its ending.
 pub fn given(cut: bool, ending: Ending, view: View) -> Reply
-    ensures { (answer_of result.outcome ≡ returned (pick cut None ending)) × (result.view ≡ pick cut no_view view) }
+    ensures { (answer_of result ≡ returned (pick cut None ending)) × (view_by result ≡ pick cut no_view view) }
 {
     if cut {
-        Reply {
-            outcome: Outcome::Accepted(Ending::None),
-            view: view::absent(),
-        }
+        Ok(Ended {
+            ending: Ending::None,
+            view: absent(),
+        })
     } else {
-        Reply {
-            outcome: Outcome::Accepted(ending),
-            view,
-        }
+        Ok(Ended { ending, view })
     }
 }
 
-// What an event that steps a node answers: 11 where a channel had no room.
+// What an event that steps a node answers: that it is refused where a channel had no room.
 pub fn answered(room: bool, cut: bool, ending: Ending, view: View) -> Reply
-    ensures { (answer_of result.outcome ≡ pick room (returned (pick cut None ending)) (refused 11))
-        × (result.view ≡ pick room (pick cut no_view view) no_view) }
+    ensures { (answer_of result ≡ pick room (returned (pick cut None ending)) (refused 11))
+        × (view_by result ≡ pick room (pick cut no_view view) no_view) }
 {
     if room {
         given(cut, ending, view)
     } else {
-        refused(11)
+        Err(Refusal::Full)
     }
 }

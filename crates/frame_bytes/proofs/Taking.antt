@@ -24,14 +24,12 @@ use Rattle.step.proofs.Numbers.{on-pick}
 use Rattle.calls.specs.CallResult.{CallResult}
 use Rattle.calls.specs.Entry as N
 use Rattle.region.specs.Record.{record_size, record_of}
-use Rattle.events.specs.Outcome.{answer_of}
 use Rattle.calls_bytes.specs.Entry.{LentResult, fits, at_record, in_bytes}
 use Rattle.calls_bytes.specs.Frame.{is_whole, is_ending, and_then, next_call, in_turn, at_start, one_by_one}
 use Rattle.calls_bytes.specs.Shown.{event_view}
 use Rattle.calls_bytes.specs.Walk.{Piece, walk_by, walk}
 use Rattle.calls_bytes.proofs.Walk.{walk_more, whole-more}
-use Rattle.node_bytes.specs.Called.{Shows}
-use Rattle.node_bytes.specs.declared.Called.{Called}
+use Rattle.node_bytes.specs.Called.{Reply, answer_of, length_of, Shows}
 use Rattle.frame_bytes.specs.Judged.{Goes}
 use Rattle.frame_bytes.proofs.Judging.{never, sticks}
 use Rattle.frame_bytes.proofs.Loops.{view-alone}
@@ -117,7 +115,7 @@ module _ (n s : ℕ) (low : 1 ≤ s) (high : s ≤ n) (t : List ℕ) (p : LentRe
   ends = next-ends n s low high p x h.stand piece read room not-stale
 
   -- the message was handled: what was done on the lent bytes
-  module _ (v : List ℕ) (w : v ≡ front_part n t) (o : List ℕ) (q : o ≡ drop p.length p.out) (a : Called)
+  module _ (v : List ℕ) (w : v ≡ front_part n t) (o : List ℕ) (q : o ≡ drop p.length p.out) (a : Reply)
       (r' o' view view' : List ℕ)
       (d : Shows a r' o' view' (in_bytes p.bytes (N.taken (record_of p.bytes) s v o (returned m))) view) where
     is-next : in_bytes p.bytes (N.taken (record_of p.bytes) s v o (returned m)) ≡ next_call s p piece
@@ -129,14 +127,14 @@ module _ (n s : ℕ) (low : 1 ≤ s) (high : s ≤ n) (t : List ℕ) (p : LentRe
     does : Shows a r' o' view' (next_call s p piece) view
     does = subst (λ (i : LentResult). Shows a r' o' view' i view) is-next d
 
-    pub later : answer_of a.outcome ≡ returned z
+    pub later : answer_of a ≡ returned z
     later = does.0.1 ∙ ends
 
-    pub length-is : a.length ≡ (next_call s p piece).length
+    pub length-is : length_of a ≡ (next_call s p piece).length
     length-is = does.0.2
 
     -- what has been sent stays in the buffer
-    pub sent-inside : p.length + a.length ≤ length p.out
+    pub sent-inside : p.length + length_of a ≤ length p.out
     sent-inside =
         let i = (then-stand n s low high p x h.stand piece read room not-stale).inside in
         let j = then-room n s low high p x h.stand piece read room not-stale in
@@ -148,19 +146,19 @@ module _ (n s : ℕ) (low : 1 ≤ s) (high : s ≤ n) (t : List ℕ) (p : LentRe
         abbrev pub tell' : Told
         tell' = (and_then p (next_call s p piece)).answer
 
-        same : so tell' x' r' (p.length + a.length) out' ≡ and_then p (next_call s p piece)
+        same : so tell' x' r' (p.length + length_of a) out' ≡ and_then p (next_call s p piece)
         same =
             let nx = next_call s p piece in
             let i : returned x' ≡ (and_then p nx).ending = ap returned f ∙ sym (ending-then p nx h.stand.ends ends) in
             let j : out' ≡ take p.length p.out ++ nx.out =
             g ∙ ap (λ (y : List ℕ). take p.length p.out ++ y) does.0.4 in
-            let l : p.length + a.length ≡ p.length + nx.length = ap (λ (y : ℕ). p.length + y) length-is in
+            let l : p.length + length_of a ≡ p.length + nx.length = ap (λ (y : ℕ). p.length + y) length-is in
             let b : r' ≡ nx.bytes = does.0.3 in
             ap₂ (λ (y : Answer Ending) (c : List ℕ). record {
               answer = tell';
               ending = y;
               bytes = c;
-              length = p.length + a.length;
+              length = p.length + length_of a;
               out = out';
             }) i b
             ∙ ap₂ (λ (y : ℕ) (c : List ℕ). record {
@@ -171,11 +169,11 @@ module _ (n s : ℕ) (low : 1 ≤ s) (high : s ≤ n) (t : List ℕ) (p : LentRe
               out = c;
             }) l j
 
-        pub on : Along n s (drop k t) (so tell' x' r' (p.length + a.length) out') x' all
+        pub on : Along n s (drop k t) (so tell' x' r' (p.length + length_of a) out') x' all
         on =
             record {
               stand =
-                  subst (λ (y : Ending). Stand n (so tell' x' r' (p.length + a.length) out') y) (sym f)
+                  subst (λ (y : Ending). Stand n (so tell' x' r' (p.length + length_of a) out') y) (sym f)
                   (subst (λ (y : LentResult). Stand n y (pick (is_ending x) x z)) (sym same)
                   (then-stand n s low high p x h.stand piece read room not-stale));
               rest = ap (λ (y : LentResult). in_turn s y (walk n (drop k t))) same ∙ after;
@@ -207,6 +205,15 @@ module _ (n s : ℕ) (low : 1 ≤ s) (high : s ≤ n) (t : List ℕ) (p : LentRe
             by false c =
                 does.1 ∙ ap (event_view (next_call s p piece).answer)
                 (i ∙ none_told (not-ended x c) h.stand.tells first)
+
+-- the ending that was given
+given_in : Answer Ending → Ending
+given_in (returned x) = x
+given_in (refused k) = None
+
+pub same_ending : {x y : Ending} → returned x ≡ returned y → x ≡ y
+unfolding given_in
+same_ending = ap given_in
 
 -- what was lent from a place on, given back
 pub back : (at : ℕ) (out o : List ℕ) → take at out ++ (o ++ drop (length out - at) (drop at out)) ≡ take at out ++ o

@@ -1,4 +1,7 @@
 -- A step that was done on the bytes of a record, and what it sends written out, is the call's result. Assumes nothing.
+use Rattle.std.specs.Prelude.{Ok, Err}
+use Rattle.refusal.specs.Refusal.{number}
+use Rattle.refusal.specs.declared.Refusal.{Refusal}
 use Prim.Native.Nat.{ℕ, ◌≤◌}
 use mathlib.Core.Path.{◌≡◌, refl, sym, ap, ap₂, ◌∙◌, subst}
 use mathlib.Core.Bool.{true, false}
@@ -46,26 +49,32 @@ use Rattle.step_bytes.specs.Moved.{IsStep, rested_of, followed, rests}
 use Rattle.step_bytes.specs.declared.Plan.{Plan}
 use Rattle.step_bytes.specs.declared.Plan.TheVariants.{Rest, Read as PlanRead, Compare, Agree, Borrow}
 use Rattle.step_bytes.specs.declared.Effect.{Effect}
-use Rattle.events.specs.declared.Outcome.TheVariants.{Accepted}
-use Rattle.calls_bytes.specs.Entry.{LentResult, in_bytes}
-use Rattle.node_bytes.specs.declared.Called.{Called}
+use Rattle.calls_bytes.specs.Entry.{LentResult, in_bytes, refuse}
 use Rattle.calls_bytes.specs.Shown.{event_view}
-use Rattle.node_bytes.specs.Called.{Tells, Shows}
+use Rattle.node_bytes.specs.Called.{Reply, Tells, Shows}
 
-pub becomes : (a : Called) (r out : List ℕ) {e f : LentResult} → e ≡ f → Tells a r out f → Tells a r out e
+pub becomes : (a : Reply) (r out : List ℕ) {e f : LentResult} → e ≡ f → Tells a r out f → Tells a r out e
 becomes a r out p t = subst (Tells a r out) (sym p) t
 
-pub becomes-shown : (a : Called) (r out view before : List ℕ) {e f : LentResult} → e ≡ f
+pub becomes-shown : (a : Reply) (r out view before : List ℕ) {e f : LentResult} → e ≡ f
     → Shows a r out view f before → Shows a r out view e before
 becomes-shown a r out view before p t = subst (λ (x : LentResult). Shows a r out view x before) (sym p) t
+
+-- a refusal leaves all that is lent
+pub refuses : (k : Refusal) {r out : List ℕ} {e : LentResult} → e ≡ refuse (number k) r out → Tells (Err k) r out e
+refuses k {r} {out} p = becomes (Err k) r out p (refl, refl, refl, refl, refl)
+
+pub refuses-shown : (k : Refusal) {r out view : List ℕ} {e : LentResult} → e ≡ refuse (number k) r out
+    → Shows (Err k) r out view e view
+refuses-shown k {r} {out} {view} p = becomes-shown (Err k) r out view view p ((refl, refl, refl, refl, refl), refl)
 
 -- the messages of an outbox for n nodes went to the start of `out`, which was `before`, and k is their length
 abbrev lets : ℕ → (out before : List ℕ) → ℕ → Outbox → Type 0
 lets k out before n o = (k ≡ length (out_bytes n o)) × (out ≡ put before 0 (out_bytes n o))
 
 -- what a call answers where its step has this ending
-abbrev pub called : Ending → ℕ → Called
-called ending k = record { outcome = Accepted ending; length = k }
+abbrev pub called : Ending → ℕ → Reply
+called ending k = Ok (record { ending = ending; length = k })
 
 -- r was the record before the step, r' is the one after it
 pub stepped : (s : Step) (n : ℕ) (r r' out out' : List ℕ) (k : ℕ) {e : Effect} → IsStep e r' s → s.node.n ≡ n

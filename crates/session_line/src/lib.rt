@@ -14,6 +14,7 @@ use layout::STATED_PLACE;
 use lines::Command;
 use record::Operation;
 use session_reply::{handler, printed_at};
+use view::absent;
 
 // Runs a command.
 fn act(b: &mut [u8], c: Command) -> Reply
@@ -50,9 +51,10 @@ pub fn run_at(b: &mut [u8], e: u64, l: Option<Command>, out: &mut [u8], at: usiz
     match l {
         Some(c) => {
             let a = act(b, c);
-            put_line(out, at, e, printed_at(handler(c), a), n, a.view)
+            let view = a.map_or(absent(), |r| r.view);
+            put_line(out, at, e, printed_at(handler(c), a), n, view)
         }
-        None => put_line(out, at, e, Some(Printed::No(1)), n, view::absent()),
+        None => put_line(out, at, e, Some(Printed::No(1)), n, absent()),
     }
 }
 

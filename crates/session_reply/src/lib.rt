@@ -10,7 +10,7 @@ ghost use Rattle.session_reply.specs.Reply.{printed_for};
 ghost use Rattle.session_reply.specs.Reply.{handler as handler_of};
 
 use answers::Printed;
-use events::{Outcome, Reply};
+use events::Reply;
 use lines::Command;
 use step::Ending;
 use view::View;
@@ -40,8 +40,8 @@ fn ending_at(c: usize, e: Ending) -> Option<Printed>
 pub fn printed_at(c: usize, a: Reply) -> Option<Printed>
     ensures { result ≡ printed_for c (told_by a) }
 {
-    match a.outcome {
-        Outcome::Refused(k) => Some(Printed::No(k as usize)),
-        Outcome::Accepted(e) => ending_at(c, e),
+    match a {
+        Err(k) => Some(Printed::No(usize::from(k.number()))),
+        Ok(e) => ending_at(c, e.ending),
     }
 }

@@ -42,11 +42,12 @@ ghost use Rattle.codes.specs.Code.{numbers as numbers_of, report_in, message_in,
 ghost use Rattle.codes.specs.Code.{answer_code, lent, Wrote, WrotePage, lent_code, LeavesNode, route_of};
 
 use codes::{
-    event_code, extent_of, is_accepted, message_numbers, message_of, message_report, outcome_code,
+    event_code, extent_of, lend_length, message_numbers, message_of, message_report, outcome_code,
     route_of, show,
 };
 use node_bytes::Called;
 use record::Operation;
+use refusal::Refusal;
 use table::quorum::most_faults;
 use view::{REPORT, VIEW, read_report};
 
@@ -154,18 +155,16 @@ pub extern "C" fn snapshot_node_fresh(n: usize, f: usize, own: usize, state: &mu
         × (state.new ≡ (fresh_node n f own state.old).bytes) }
 {
     let a = node_bytes::fresh(n, f, own, state);
-    outcome_code(a.outcome)
+    outcome_code(a.map(|c| c.ending))
 }
 
 // The code of a call at a node. One that was accepted tells the length of its messages.
-fn node_code(a: Called, length: &mut usize) -> u8
+fn node_code(a: Result<Called, Refusal>, length: &mut usize) -> u8
     ensures { (state out : List ℕ) (e : LentResult) → Tells a state out e
         → LeavesNode result state out length.new e length.old }
 {
-    if is_accepted(a.outcome) {
-        *length = a.length;
-    }
-    outcome_code(a.outcome)
+    lend_length(a.map(|c| c.length), length);
+    outcome_code(a.map(|c| c.ending))
 }
 
 // Begins an update with this report; the messages to send go to the front of `out`, and their length to `length`.

@@ -3,6 +3,7 @@ use borrow.Author.Rules.{rules}
 use lib.ListN.{length-set}
 use mathlib.Core.Path.{sym, ◌∙◌}
 use native.Mathlib.Omega.{arith}
+use Rattle.refusal.specs.declared.Refusal.TheVariants.{Length, Size}
 use Rattle.layout.specs.Layout.{stated_place}
 use Rattle.layout.proofs.Check.{can-be}
 use Rattle.events.proofs.Told.{gives, refuses, fresh-none, fresh-unfit, fresh-is, fresh-bytes, started-length}
@@ -10,9 +11,8 @@ use Rattle.cluster.proofs.fresh.Goals as goal
 
 pub returns-then-not-can_be : goal.returns-then-not-can_be
 returns-then-not-can_be c =
-    refuses 1 (fresh-none c.args.n c.args.f c.args.b.now (sym
+    refuses Size (fresh-none c.args.n c.args.f c.args.b.now (sym
     c.can_be.ensures ∙ c.if-not-can_be.true))
-    c.refused.ensures
 
 pub overflow_mul-n : goal.overflow_mul-n
 overflow_mul-n c =
@@ -26,9 +26,9 @@ overflow_add-n c =
 
 pub returns-then-b-n : goal.returns-then-b-n
 returns-then-b-n c =
-    refuses 12 (fresh-unfit c.args.n c.args.f
+    refuses Length (fresh-unfit c.args.n c.args.f
     c.args.b.now (sym c.can_be.ensures ∙ c.if-not-can_be.false)
-    c.if-b-n.true) c.refused-then-b-n.ensures
+    c.if-b-n.true)
 
 pub overflow_cast-b : goal.overflow_cast-b
 overflow_cast-b c =

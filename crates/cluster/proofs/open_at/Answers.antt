@@ -1,6 +1,7 @@
 -- `cluster::open_at` meets its contract.
 use native.Mathlib.Omega.{arith}
 use mathlib.Core.Path.{refl, sym, ◌∙◌}
+use Rattle.refusal.specs.declared.Refusal.TheVariants.{Full, Open, Requests, Stops}
 use Rattle.layout.specs.Layout.{node}
 use Rattle.outgoing.proofs.Judged.{cut-judged}
 use Rattle.events.proofs.Settled.{open-busy, open_full, open-uncut}
@@ -16,8 +17,8 @@ is_open_at-requires c =
 pub returns-then-is_open_at : goal.returns-then-is_open_at
 returns-then-is_open_at c =
     let a = c.args in
-    refuses 5 (open-busy a.n a.c a.o a.x a.b.now (node a.b.now a.c) refl
-    (sym c.is_open_at.ensures ∙ c.if-is_open_at.true)) c.refused.ensures
+    refuses Open (open-busy a.n a.c a.o a.x a.b.now (node a.b.now a.c) refl
+    (sym c.is_open_at.ensures ∙ c.if-is_open_at.true))
 
 pub is_full_at-requires : goal.is_full_at-requires
 is_full_at-requires c =
@@ -27,9 +28,9 @@ is_full_at-requires c =
 pub returns-then-is_full_at : goal.returns-then-is_full_at
 returns-then-is_full_at c =
     let a = c.args in
-    refuses 6 (open_full a.n a.c a.o a.x a.b.now (node a.b.now a.c) refl
+    refuses Requests (open_full a.n a.c a.o a.x a.b.now (node a.b.now a.c) refl
     (sym c.is_open_at.ensures ∙ c.if-is_open_at.false) (sym c.is_full_at.ensures
-    ∙ c.if-is_full_at.true)) c.refused-then-is_full_at.ensures
+    ∙ c.if-is_full_at.true))
 
 pub may_cut-requires : goal.may_cut-requires
 may_cut-requires c =
@@ -38,10 +39,10 @@ may_cut-requires c =
 pub returns-then-not-may_cut : goal.returns-then-not-may_cut
 returns-then-not-may_cut c =
     let a = c.args in
-    refuses 10 (open-uncut a.n a.c a.o a.x a.b.now (node a.b.now a.c) refl
+    refuses Stops (open-uncut a.n a.c a.o a.x a.b.now (node a.b.now a.c) refl
     (sym c.is_open_at.ensures ∙ c.if-is_open_at.false) (sym c.is_full_at.ensures ∙ c.if-is_full_at.false)
     (cut-judged a.n a.x a.b.now c.is_cut.ensures
-    c.may_cut.ensures c.if-not-may_cut.true)) c.refused-then-not-may_cut.ensures
+    c.may_cut.ensures c.if-not-may_cut.true))
 
 pub asked_at-sent-requires : goal.asked_at-sent-requires
 asked_at-sent-requires c =
@@ -56,11 +57,11 @@ can_send-requires c =
 pub returns-then-not-can_send : goal.returns-then-not-can_send
 returns-then-not-can_send c =
     let a = c.args in
-    refuses 11 (opens_not a.n a.c a.o a.x a.b.now c.requires
+    refuses Full (opens_not a.n a.c a.o a.x a.b.now c.requires
     (sym c.is_open_at.ensures ∙ c.if-is_open_at.false) (sym c.is_full_at.ensures ∙ c.if-is_full_at.false)
     c.asked_at-sent.result c.asked_at-sent.ensures c.can_send.result c.can_send.ensures
     (cut-judged a.n a.x a.b.now c.is_cut.ensures c.may_cut.ensures c.if-not-may_cut.false)
-    c.if-not-can_send.true) c.refused-then-not-can_send.ensures
+    c.if-not-can_send.true)
 
 pub ask_at-requires : goal.ask_at-requires
 ask_at-requires c =

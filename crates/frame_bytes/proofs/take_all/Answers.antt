@@ -1,4 +1,8 @@
 -- `frame_bytes::take_all` meets its contract.
+use Rattle.std.specs.Prelude.{Ok, Err}
+use Rattle.octets.specs.Test.{pick}
+use Rattle.calls_bytes.specs.Frame.{is_ending}
+use Rattle.frame_bytes.proofs.Judging.{never}
 use borrow.Author.Rules.{rules}
 use Prim.Native.Nat.{ℕ, ◌<◌}
 use mathlib.Core.Path.{refl, sym, ap, ◌∙◌, subst}
@@ -17,7 +21,7 @@ use Rattle.calls_bytes.proofs.Walk.{whole-none}
 use Rattle.node_bytes.specs.Called.{Shows}
 use Rattle.node_bytes.proofs.Stepped.{called}
 use Rattle.frame_bytes.proofs.Loops.{empty, found-allowed, found-bytes}
-use Rattle.frame_bytes.proofs.Taking.{so, room, sent-inside, later, tell', on, room-on, view-on, back}
+use Rattle.frame_bytes.proofs.Taking.{same_ending, so, room, sent-inside, later, tell', on, room-on, view-on, back}
 use Rattle.frame_bytes.proofs.Taking.{first-along, last-along, in-word}
 use Rattle.frame_bytes.proofs.take_all.Goals as goal
 
@@ -48,8 +52,8 @@ pub slice_bounds-take_message-end-in-loop-t : goal.slice_bounds-take_message-end
 slice_bounds-take_message-end-in-loop-t c =
     let h = c.loop-t.invariant.1.stand.inside in search rules
 
-pub take_message-a-requires : goal.take_message-a-requires
-take_message-a-requires c =
+pub take_message-requires : goal.take_message-requires
+take_message-requires c =
     let n = c.args.n in
     let p = c.requires.0 in
     let t = c.loop-t.t.now in
@@ -77,9 +81,9 @@ overflow_add-at c =
     let inside = sent-inside n c.args.s p.low p.high t (so c.loop-t.invariant.0 c.loop-t.ending c.loop-t.r c.loop-t.at
     c.loop-t.out)
     c.loop-t.ending _ c.loop-t.invariant.1 p.ends _ _ read _ view _ (part_end c.loop-t.at c.loop-t.out)
-    c.take_message-a.result _ _
+    (Ok c.in_ok-a.a) _ _
     _ _
-    c.take_message-a.ensures in
+    c.in_ok-a.ensures in
     in-word inside c.loop-t.invariant.3 c.well_formed.1.1.1.1.1.0.0
 
 pub slice_bounds-t-count : goal.slice_bounds-t-count
@@ -117,28 +121,41 @@ loop-t-preserved c =
     let view = c.found_view.ensures.0 ∙ found-view n t _ c.loop-t.invariant.4 in
     let whole = one_by_one c.args.r.now s c.args.b.now c.args.out.now in
     let so_far = so c.loop-t.invariant.0 c.loop-t.ending c.loop-t.r c.loop-t.at c.loop-t.out in
-    let x = c.first_ending-ending.ensures _ (later n s p.low p.high t so_far c.loop-t.ending whole c.loop-t.invariant.1
+    let x = c.first_ending-ending.ensures
+    ∙ ap (pick (is_ending c.loop-t.ending) c.loop-t.ending) (same_ending (later n s p.low p.high t so_far c.loop-t.ending whole c.loop-t.invariant.1
     p.ends _ k
-    read _ view _ (part_end c.loop-t.at c.loop-t.out) c.take_message-a.result _ _ _ _ c.take_message-a.ensures) in
-    let end = back c.loop-t.at c.loop-t.out c.take_message-a.new.out in (
+    read _ view _ (part_end c.loop-t.at c.loop-t.out) (Ok c.in_ok-a.a) _ _ _ _ c.in_ok-a.ensures)) in
+    let end = back c.loop-t.at c.loop-t.out c.take_message.new.out in (
       tell' n s p.low p.high t so_far c.loop-t.ending whole c.loop-t.invariant.1 p.ends _ k
-          read _ view _ (part_end c.loop-t.at c.loop-t.out) c.take_message-a.result _ _ _ _ c.take_message-a.ensures
+          read _ view _ (part_end c.loop-t.at c.loop-t.out) (Ok c.in_ok-a.a) _ _ _ _ c.in_ok-a.ensures
           c.first_ending-ending.result x _ end,
       rw (part_end k t) (on n s p.low p.high t so_far c.loop-t.ending whole c.loop-t.invariant.1 p.ends _ k
-          read _ view _ (part_end c.loop-t.at c.loop-t.out) c.take_message-a.result _ _ _ _ c.take_message-a.ensures
+          read _ view _ (part_end c.loop-t.at c.loop-t.out) (Ok c.in_ok-a.a) _ _ _ _ c.in_ok-a.ensures
           c.first_ending-ending.result x _
           end),
       view-on n s p.low p.high t so_far c.loop-t.ending whole c.loop-t.invariant.1 p.ends _ k
-          read _ view _ (part_end c.loop-t.at c.loop-t.out) c.take_message-a.result _ _ _ _ c.take_message-a.ensures
+          read _ view _ (part_end c.loop-t.at c.loop-t.out) (Ok c.in_ok-a.a) _ _ _ _ c.in_ok-a.ensures
           c.first_ending-ending.result x _
           end _
           c.loop-t.invariant.2,
       room-on n s p.low p.high t so_far c.loop-t.ending whole c.loop-t.invariant.1 p.ends _ k
-          read _ view _ (part_end c.loop-t.at c.loop-t.out) c.take_message-a.result _ _ _ _ c.take_message-a.ensures
+          read _ view _ (part_end c.loop-t.at c.loop-t.out) (Ok c.in_ok-a.a) _ _ _ _ c.in_ok-a.ensures
           c.first_ending-ending.result x _
           end ∙ c.loop-t.invariant.3,
       c.parse_prefix-f.ensures,
     )
+
+pub returns-in_err-a : goal.returns-in_err-a
+returns-in_err-a c =
+    let n = c.args.n in
+    let p = c.requires.0 in
+    let t = c.loop-t.t.now in
+    let read = sym c.loop-t.invariant.4 ∙ ap answer c.in-Ok.is in
+    let view = c.found_view.ensures.0 ∙ found-view n t _ c.loop-t.invariant.4 in
+    never (later n c.args.s p.low p.high t
+    (so c.loop-t.invariant.0 c.loop-t.ending c.loop-t.r c.loop-t.at c.loop-t.out) c.loop-t.ending _
+    c.loop-t.invariant.1 p.ends _ _ read _ view _ (part_end c.loop-t.at c.loop-t.out) (Err c.in_err-a.field-0.0)
+    _ _ _ _ c.in_err-a.ensures)
 
 pub returns-in_default : goal.returns-in_default
 returns-in_default c =

@@ -1,6 +1,9 @@
 -- `node_bytes::message` meets its contract.
+use Rattle.refusal.specs.declared.Refusal.TheVariants.{Layout, Node}
+use Rattle.std.proofs.lemmas.Result.{err_from_is_err_and}
+use Rattle.events.proofs.Told.{number-some}
 use borrow.Author.Rules.{rules}
-use mathlib.Core.Path.{◌≡◌, refl, sym, ap, ◌∙◌}
+use mathlib.Core.Path.{◌≡◌, sym, ap, ◌∙◌}
 use mathlib.Core.Bool.{true, false}
 use mathlib.Core.List.{List}
 use Prim.Native.Nat.{ℕ}
@@ -18,49 +21,42 @@ use Rattle.calls.specs.Entry as N
 use Rattle.calls.proofs.Refusals.{message-2, message-3, message-7, message-read}
 use Rattle.region.specs.Record.{record_of}
 use Rattle.calls_bytes.specs.Entry.{in_bytes}
-use Rattle.node_bytes.proofs.Admitted.{admitted, turned, at-admitted, refused-at, own-n}
-use Rattle.node_bytes.proofs.Stepped.{becomes-shown}
+use Rattle.node_bytes.proofs.Admitted.{admitted, turned, at-admitted, refused-at}
+use Rattle.node_bytes.proofs.Stepped.{becomes-shown, refuses-shown}
 use Rattle.node_bytes.proofs.message.Goals as goal
 
-pub returns-then-k-ne0 : goal.returns-then-k-ne0
-returns-then-k-ne0 c =
+pub returns-in_err-n : goal.returns-in_err-n
+returns-in_err-n c =
     let a = c.args in
-    becomes-shown c.turned_away.result _ _ _ _ (turned a.r.now a.out.now (λ d. N.message d a.s
-    a.b.now a.out.now)
-    (λ l u. message-2 _ a.s a.b.now a.out.now (le-ltb _ _ l) u) c.admission-k.ensures
-    c.if-k-ne0.true)
-    (c.turned_away.ensures _ _, refl)
-
-pub get_word-n-requires : goal.get_word-n-requires
-get_word-n-requires c =
-    let long = (admitted N.least_output c.args.r.now c.args.out.now (sym c.admission-k.ensures
-    ∙ c.if-k-ne0.false)).long in search rules
+    let k = c.in_err-n.field-0.0 in
+    let p = err_from_is_err_and c.from_residual.result c.from_residual.ensures.1 in
+    rw (p.1, p.2) (refuses-shown k (turned a.r.now a.out.now (λ d. N.message d a.s a.b.now a.out.now)
+    (λ l u. message-2 _ a.s a.b.now a.out.now (le-ltb _ _ l) u) c.in_err-n.ensures.refused (number-some k)))
 
 pub returns-then-not-s-n : goal.returns-then-not-s-n
 returns-then-not-s-n c =
     let a = c.args in
-    let test : both (leb 1 a.s) (leb a.s c.get_word-n.result) ≡ false = search rules in
-    let h = admitted N.least_output a.r.now a.out.now (sym c.admission-k.ensures ∙ c.if-k-ne0.false) in
+    let test : both (leb 1 a.s) (leb a.s c.in_ok-n.n) ≡ false = search rules in
+    let h = admitted N.least_output a.r.now a.out.now (sym c.in_ok-n.ensures.refused) in
     let d = record_of a.r.now in
-    let e = own-n a.r.now c.get_word-n.ensures in
-    becomes-shown c.turned_away-then-not-s-n.result _ _ _ _ (refused-at a.r.now a.out.now (λ d. N.message d a.s
+    let e = c.in_ok-n.ensures.counted in
+    refuses-shown Node (refused-at a.r.now a.out.now (λ d. N.message d a.s
     a.b.now a.out.now) h
     (message-3 d a.s a.b.now a.out.now (le-ltb _ _ h.room) h.can-step
     (ap (λ (j : ℕ). both (leb 1 a.s) (leb a.s j)) e ∙ test)))
-    (c.turned_away-then-not-s-n.ensures _ _, refl)
 
 pub parsed_view-requires : goal.parsed_view-requires
 parsed_view-requires c =
-    read-room c.get_word-n.result c.args.b.now _ (ap answer (sym c.in-Ok.is) ∙ c.parse-p.ensures)
+    read-room c.in_ok-n.n c.args.b.now _ (ap answer (sym c.in-Ok.is) ∙ c.parse-p.ensures)
 
 pub take_message-requires : goal.take_message-requires
 take_message-requires c =
     let a = c.args in
-    let test : both (leb 1 a.s) (leb a.s c.get_word-n.result) ≡ true = search rules in
-    let h = admitted N.least_output a.r.now a.out.now (sym c.admission-k.ensures ∙ c.if-k-ne0.false) in
+    let test : both (leb 1 a.s) (leb a.s c.in_ok-n.n) ≡ true = search rules in
+    let h = admitted N.least_output a.r.now a.out.now (sym c.in_ok-n.ensures.refused) in
     let d = record_of a.r.now in
-    let e = own-n a.r.now c.get_word-n.ensures in
-    let n = c.get_word-n.result in
+    let e = c.in_ok-n.ensures.counted in
+    let n = c.in_ok-n.n in
     let m = c.in-Ok.m in
     let read = sym c.parse-p.ensures ∙ ap answer c.in-Ok.is in
     let whole = read_only n a.b.now m read in
@@ -81,12 +77,12 @@ take_message-requires c =
 pub returns-in-Ok : goal.returns-in-Ok
 returns-in-Ok c =
     let a = c.args in
-    let test : both (leb 1 a.s) (leb a.s c.get_word-n.result) ≡ true = search rules in
-    let h = admitted N.least_output a.r.now a.out.now (sym c.admission-k.ensures ∙ c.if-k-ne0.false) in
+    let test : both (leb 1 a.s) (leb a.s c.in_ok-n.n) ≡ true = search rules in
+    let h = admitted N.least_output a.r.now a.out.now (sym c.in_ok-n.ensures.refused) in
     let d = record_of a.r.now in
-    let e = own-n a.r.now c.get_word-n.ensures in
+    let e = c.in_ok-n.ensures.counted in
     let sender = ap (λ (j : ℕ). both (leb 1 a.s) (leb a.s j)) e ∙ test in
-    let n = c.get_word-n.result in
+    let n = c.in_ok-n.n in
     let m = c.in-Ok.m in
     let read = sym c.parse-p.ensures ∙ ap answer c.in-Ok.is in
     let view = c.parsed_view.ensures.0 ∙ read_view n a.b.now _ (sym read) ∙ ap (λ (j : ℕ). view_part j
@@ -102,14 +98,13 @@ returns-in-Ok c =
 pub returns-in-Err : goal.returns-in-Err
 returns-in-Err c =
     let a = c.args in
-    let test : both (leb 1 a.s) (leb a.s c.get_word-n.result) ≡ true = search rules in
-    let h = admitted N.least_output a.r.now a.out.now (sym c.admission-k.ensures ∙ c.if-k-ne0.false) in
+    let test : both (leb 1 a.s) (leb a.s c.in_ok-n.n) ≡ true = search rules in
+    let h = admitted N.least_output a.r.now a.out.now (sym c.in_ok-n.ensures.refused) in
     let d = record_of a.r.now in
-    let e = own-n a.r.now c.get_word-n.ensures in
+    let e = c.in_ok-n.ensures.counted in
     let sender = ap (λ (j : ℕ). both (leb 1 a.s) (leb a.s j)) e ∙ test in
     let read = sym c.parse-p.ensures ∙ ap answer c.in-Err.is in
-    becomes-shown c.turned_away-in-Err.result _ _ _ _ (refused-at a.r.now a.out.now (λ d. N.message d a.s
+    refuses-shown Layout (refused-at a.r.now a.out.now (λ d. N.message d a.s
     a.b.now a.out.now) h
     (message-7 d a.s a.b.now a.out.now (le-ltb _ _ h.room) h.can-step sender _
     (ap (λ (j : ℕ). decode j a.b.now) e ∙ read)))
-    (c.turned_away-in-Err.ensures _ _, refl)

@@ -1,4 +1,5 @@
 -- `node_bytes::take_message` meets its contract.
+use Rattle.refusal.specs.declared.Refusal.TheVariants.{Value}
 use mathlib.Core.Path.{refl, sym, ap, ◌∙◌, subst}
 use native.Mathlib.Omega.{arith}
 use lib.ListN.{length}
@@ -17,7 +18,7 @@ use Rattle.step_bytes.specs.Moved.{IsStep}
 use Rattle.step_bytes.proofs.Planned.{can-plan, can-follow}
 use Rattle.calls_bytes.specs.Entry.{in_bytes}
 use Rattle.node_bytes.proofs.Admitted.{in-refused, small_n}
-use Rattle.node_bytes.proofs.Stepped.{called, becomes-shown, stepped, step-shows, handled, can_write}
+use Rattle.node_bytes.proofs.Stepped.{called, becomes-shown, refuses-shown, stepped, step-shows, handled, can_write}
 use Rattle.node_bytes.proofs.Stepped.{step, step-n, step-fit, at_rest, rest-can-write, rest-lets}
 use Rattle.node_bytes.proofs.Stepped.{handler-short, handler-received, step-received, f-in}
 use Rattle.node_bytes.proofs.take_message.Goals as goal
@@ -32,10 +33,9 @@ is_stale_in-requires c =
 pub returns-then-is_stale_in : goal.returns-then-is_stale_in
 returns-then-is_stale_in c =
     let a = c.args in
-    becomes-shown c.turned_away.result _ _ _ _ (ap (in_bytes a.r.now) (taken-9 _ a.s a.v.now
+    refuses-shown Value (ap (in_bytes a.r.now) (taken-9 _ a.s a.v.now
     a.out.now a.m (sym c.is_stale_in.ensures ∙ c.if-is_stale_in.true)) ∙ in-refused 9
     a.r.now a.out.now)
-    (c.turned_away.ensures _ _, refl)
 
 pub react_in-sent-requires : goal.react_in-sent-requires
 react_in-sent-requires c =
@@ -60,8 +60,8 @@ plan_in-p-requires c =
     (allowed-lawful a.n a.m a.v.now p.5) (c.react_in-sent.auto.r ∙ p.0) small _
     (omega (arith, c.get_word-f.ensures, f-in a.r.now, faults-below _ p.1, p.2))
 
-pub emit_handler-written-requires : goal.emit_handler-written-requires
-emit_handler-written-requires c =
+pub emit_handler-length-requires : goal.emit_handler-length-requires
+emit_handler-length-requires c =
     let a = c.args in
     let p = c.requires in
     let r = a.r.now in
@@ -105,12 +105,12 @@ returns-then-is_rest c =
     ∙ c.if-is_rest.true) bytes
     (sym (c.plan_in-p.ensures.0 a.s sent) ∙ whole) in
     let s = step r a.n a.s a.m a.v.now p.2 in
-    becomes-shown (called None c.emit_handler-written.result) _ _ _ _ (ap (in_bytes r)
+    becomes-shown (called None c.emit_handler-length.result) _ _ _ _ (ap (in_bytes r)
     (taken-goes (record_of r) a.s a.v.now a.out.now a.m (sym c.is_stale_in.ensures ∙
     c.if-is_stale_in.false))) (
-      stepped s a.n r r' a.out.now _ c.emit_handler-written.result does
+      stepped s a.n r r' a.out.now _ c.emit_handler-length.result does
           (step-n r a.n a.s a.m a.v.now p.2) (rest-lets a.n a.s sent _ _ a.out.now
-          c.emit_handler-written.ensures),
+          c.emit_handler-length.ensures),
       step-shows s r r' a.out.now _ _ does refl,
     )
 
@@ -124,8 +124,8 @@ follow_in-e-requires c =
     (allowed-lawful a.n a.m a.v.now p.5) (c.react_in-sent.auto.r ∙ p.0) small c.plan_in-p.result
     c.plan_in-p.ensures.1
 
-pub emit_all-written-requires : goal.emit_all-written-requires
-emit_all-written-requires c =
+pub emit_all-length-requires : goal.emit_all-length-requires
+emit_all-length-requires c =
     let a = c.args in
     let p = c.requires in
     let r = a.r.now in
@@ -162,11 +162,11 @@ returns c =
     c.follow_in-e.ensures in
     let s = step r a.n a.s a.m a.v.now p.2 in
     becomes-shown (called c.follow_in-e.result.ending
-    c.emit_all-written.result) _ _ _ _ (ap (in_bytes r)
+    c.emit_all-length.result) _ _ _ _ (ap (in_bytes r)
     (taken-goes (record_of r) a.s a.v.now a.out.now a.m (sym c.is_stale_in.ensures ∙
     c.if-is_stale_in.false))) (
       stepped s a.n r c.follow_in-e.new.r a.out.now _
-          c.emit_all-written.result does
-          (step-n r a.n a.s a.m a.v.now p.2) c.emit_all-written.ensures,
+          c.emit_all-length.result does
+          (step-n r a.n a.s a.m a.v.now p.2) c.emit_all-length.ensures,
       step-shows s r c.follow_in-e.new.r a.out.now _ _ does c.show_view.ensures,
     )

@@ -1,4 +1,5 @@
 -- `session_line::run_at` meets its contract.
+use borrow.Author.Rules.{rules}
 use Prim.Native.Nat.{ℕ}
 use mathlib.Core.Path.{◌≡◌, refl, sym, ap, ap₂, ◌∙◌}
 use mathlib.Core.List.{List}
@@ -9,8 +10,7 @@ use Rattle.step.specs.declared.Ending.{Ending}
 use Rattle.step.specs.declared.Ending.TheVariants.{None as Nothing, Done, Scan, Spent}
 use Rattle.step.specs.Told.{Told, told, told_view}
 use Rattle.layout.specs.Layout.{stated}
-use Rattle.events.specs.declared.Reply.{Reply}
-use Rattle.events.specs.Outcome.{answer_of, Tells, told_by, told_of}
+use Rattle.events.specs.Outcome.{Reply, answer_of, view_by, Tells, told_by, told_of}
 use Rattle.lines.specs.declared.Command.{Command}
 use Rattle.answers.specs.declared.Printed.{Printed}
 use Rattle.answers.specs.Answer.{line}
@@ -30,11 +30,11 @@ seen e c n (returned Spent) v = refl
 
 -- what is printed, from what was answered
 says : (e : ℕ) (l : Command) (b k : List ℕ) {c n : ℕ} (a : Reply) {r : Option Printed} → n ≡ stated b → c ≡ handler l
-    → r ≡ printed_for c (told_by a) → Tells a k (ran (Some l) b) → line e r n a.view ≡ printed e (Some l) b
+    → r ≡ printed_for c (told_by a) → Tells a k (ran (Some l) b) → line e r n (view_by a) ≡ printed e (Some l) b
 unfolding printed
 says e l b k {c} {n} a {r} p q s t =
     let u : told_by a ≡ told_of (ran (Some l) b) = t.0 in
-    ap (λ (x : Option Printed). line e x n a.view) s ∙ seen e c n (answer_of a.outcome) a.view
+    ap (λ (x : Option Printed). line e x n (view_by a)) s ∙ seen e c n (answer_of a) (view_by a)
     ∙ ap (λ (x : Told). line e (printed_for c x) n (told_view x)) u
     ∙ ap₂ (λ (i j : ℕ). line e (printed_for i (told_of (ran (Some l) b))) j (told_view (told_of (ran (Some l) b)))) q p
 
@@ -45,7 +45,8 @@ returns-in-Some c =
     let p = c.put_line.ensures in
     let s = says x.e c.in-Some.c x.b.now _ c.act-a.result c.nodes_in-n.ensures c.handler.ensures
     c.printed_at.ensures a in
-    rw (c.in-Some.is, sym s) (a.3, p.0, p.1)
+    let v : c.map_or-view.result ≡ view_by c.act-a.result = search rules in
+    rw (c.in-Some.is, sym s, sym v) (a.3, p.0, p.1)
 
 -- a bad line prints the same of every cluster
 pub returns-in-None : goal.returns-in-None

@@ -1,6 +1,7 @@
 -- `cluster::handing::hand_here` meets its contract.
 use native.Mathlib.Omega.{arith}
 use mathlib.Core.Path.{refl, sym, ◌∙◌}
+use Rattle.refusal.specs.declared.Refusal.TheVariants.{Stops, Value}
 use Rattle.step.proofs.Allowed.{lawful-writer}
 use Rattle.region.specs.Channel.{first}
 use Rattle.layout.specs.Layout.{node, channel}
@@ -24,9 +25,8 @@ is_stale_at-requires c =
 pub returns-then-is_stale_at : goal.returns-then-is_stale_at
 returns-then-is_stale_at c =
     let a = c.args in
-    refuses 9 (hand-stale a.n a.a a.c a.x a.b.now (first (channel a.b.now a.a a.c)) a.m
+    refuses Value (hand-stale a.n a.a a.c a.x a.b.now (first (channel a.b.now a.a a.c)) a.m
     (node a.b.now a.c) refl (sym c.is_stale_at.ensures ∙ c.if-is_stale_at.true))
-    c.refused.ensures
 
 pub may_cut-requires : goal.may_cut-requires
 may_cut-requires c = let h = c.requires.0 in (h.small, h.long)
@@ -34,10 +34,9 @@ may_cut-requires c = let h = c.requires.0 in (h.small, h.long)
 pub returns-then-not-may_cut : goal.returns-then-not-may_cut
 returns-then-not-may_cut c =
     let a = c.args in
-    refuses 10 (hand-uncut a.n a.a a.c a.x a.b.now (first (channel a.b.now a.a a.c)) a.m
+    refuses Stops (hand-uncut a.n a.a a.c a.x a.b.now (first (channel a.b.now a.a a.c)) a.m
     (node a.b.now a.c) refl (sym c.is_stale_at.ensures ∙ c.if-is_stale_at.false)
     (cut-judged a.n a.x a.b.now c.is_cut.ensures c.may_cut.ensures c.if-not-may_cut.true))
-    c.refused-then-not-may_cut.ensures
 
 pub returns : goal.returns
 returns c =

@@ -3,6 +3,7 @@ use borrow.Author.Rules.{rules}
 use Prim.Native.Nat.{ℕ}
 use mathlib.Core.Path.{◌≡◌, refl, sym, ap, ap₂, ◌∙◌, subst}
 use native.Mathlib.Omega.{arith}
+use Rattle.refusal.specs.declared.Refusal.TheVariants.{Stops, Value}
 use Rattle.view.specs.View.{view_of}
 use Rattle.wire.specs.Codec.{view_at}
 use Rattle.record.specs.Usable.{usable}
@@ -47,20 +48,19 @@ returns-then-is_stale_in c =
     let a = c.args in
     let d = record_of c.copy_record_at.new.r in
     let at : d ≡ node a.b.now a.c = ap record_of c.copy_record_at.ensures in
-    refuses 9 (hand-stale a.n a.a a.c a.x a.b.now (first (channel a.b.now a.a a.c))
+    refuses Value (hand-stale a.n a.a a.c a.x a.b.now (first (channel a.b.now a.a a.c))
     a.m d at
-    (sym c.is_stale_in.ensures ∙ c.if-is_stale_in.true)) c.refused.ensures
+    (sym c.is_stale_in.ensures ∙ c.if-is_stale_in.true))
 
 pub returns-then-not-may_cut : goal.returns-then-not-may_cut
 returns-then-not-may_cut c =
     let a = c.args in
     let d = record_of c.copy_record_at.new.r in
     let at : d ≡ node a.b.now a.c = ap record_of c.copy_record_at.ensures in
-    refuses 10 (hand-uncut a.n a.a a.c a.x a.b.now (first (channel a.b.now a.a a.c))
+    refuses Stops (hand-uncut a.n a.a a.c a.x a.b.now (first (channel a.b.now a.a a.c))
     a.m d at
     (sym c.is_stale_in.ensures ∙ c.if-is_stale_in.false)
     (cut-judged a.n a.x a.b.now c.is_cut.ensures c.may_cut.ensures c.if-not-may_cut.true))
-    c.refused-then-not-may_cut.ensures
 
 pub handle_first-sent-requires : goal.handle_first-sent-requires
 handle_first-sent-requires c =
