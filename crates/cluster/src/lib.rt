@@ -29,7 +29,6 @@ use layout::{
 use outgoing::{Extent, is_cut};
 use record::{Operation, blank_node};
 use refusal::Refusal;
-use region::channel::index;
 use release::{can_send, may_cut, release_handled};
 use step::Ending;
 use table::quorum::can_be;
@@ -97,7 +96,7 @@ fn admission(b: &[u8], a: usize, c: usize) -> Result<usize, Refusal>
     if !is_sound(b) {
         return Err(Refusal::Unusable);
     }
-    let n = index(b[STATED_PLACE]);
+    let n = usize::from(b[STATED_PLACE]);
     if !(is_node(n, a) && is_node(n, c)) {
         return Err(Refusal::Node);
     }

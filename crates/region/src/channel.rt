@@ -8,13 +8,6 @@ use crate::places::{CAPACITY, COUNT_PLACE, OLDEST_PLACE, SLOT, SLOTS_PLACE};
 // The capacity as a count.
 pub const FULL: u8 = CAPACITY as u8;
 
-// A byte as an index.
-pub fn index(x: u8) -> usize
-    ensures { (result ≡ x) × (result ≤ 255) }
-{
-    usize::from(x)
-}
-
 // Puts a message at the end of a channel; nothing where it is full.
 #[tactic(auto, unfolding(crate::specs::Channel::push))]
 pub fn push(t: &mut [u8], m: &[u8])

@@ -45,7 +45,9 @@ fn save_tables(b: &mut [u8], c: Node)
     requires { length b.old ≡ record_size }
     ensures { b.new ≡ put b.old heard_place (word_bytes c.heard ++ views_bytes c) }
 {
-    octets::put_words(b, HEARD_PLACE, &c.heard);
+    // A copy: lent out of the record, the whole of that would lie on the stack.
+    let heard = c.heard;
+    octets::put_words(b, HEARD_PLACE, &heard);
     save_views(b, c);
 }
 

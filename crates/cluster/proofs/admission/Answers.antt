@@ -28,31 +28,31 @@ bounds-b-0 c =
 pub returns-then-not-is_node-clause-refused : goal.returns-then-not-is_node-clause-refused
 returns-then-not-is_node-clause-refused c =
     let a = c.args in
-    let test : c.if-is_node.value ≡ both (is_node c.index-n.result a.a) (is_node c.index-n.result a.c) = search rules in
-    is-nowhere a.a a.c a.b.now c.index-n.result c.index-n.ensures.0
+    let test : c.if-is_node.value ≡ both (is_node c.from-n.result a.a) (is_node c.from-n.result a.c) = search rules in
+    is-nowhere a.a a.c a.b.now c.from-n.result c.from-n.ensures
     (sym c.is_fit.ensures ∙ c.if-not-is_fit.false) (sym c.is_sound.ensures ∙ c.if-not-is_sound.false)
     (sym test ∙ c.if-not-is_node.true)
 
 pub stopped_at-requires : goal.stopped_at-requires
 stopped_at-requires c =
     let a = c.args in
-    let test : c.if-is_node.value ≡ both (is_node c.index-n.result a.a) (is_node c.index-n.result a.c) = search rules in
-    has_block a.a a.c a.b.now c.index-n.result c.index-n.ensures.0
+    let test : c.if-is_node.value ≡ both (is_node c.from-n.result a.a) (is_node c.from-n.result a.c) = search rules in
+    has_block a.a a.c a.b.now c.from-n.result c.from-n.ensures
     (sym c.is_fit.ensures ∙ c.if-not-is_fit.false) (sym c.is_sound.ensures ∙ c.if-not-is_sound.false)
     (sym test ∙ c.if-not-is_node.false)
 
 pub returns-then-stopped_at-clause-refused : goal.returns-then-stopped_at-clause-refused
 returns-then-stopped_at-clause-refused c =
     let a = c.args in
-    let test : c.if-is_node.value ≡ both (is_node c.index-n.result a.a) (is_node c.index-n.result a.c) = search rules in
-    is-stopped a.a a.c a.b.now c.index-n.result c.index-n.ensures.0
+    let test : c.if-is_node.value ≡ both (is_node c.from-n.result a.a) (is_node c.from-n.result a.c) = search rules in
+    is-stopped a.a a.c a.b.now c.from-n.result c.from-n.ensures
     (sym c.is_fit.ensures ∙ c.if-not-is_fit.false) (sym c.is_sound.ensures ∙ c.if-not-is_sound.false)
     (sym test ∙ c.if-not-is_node.false) (sym c.stopped_at.ensures ∙ c.if-stopped_at.true)
 
 pub returns-clause-refused : goal.returns-clause-refused
 returns-clause-refused c =
     let a = c.args in
-    let test : c.if-is_node.value ≡ both (is_node c.index-n.result a.a) (is_node c.index-n.result a.c) = search rules in
-    is-admitted a.a a.c a.b.now c.index-n.result c.index-n.ensures.0
+    let test : c.if-is_node.value ≡ both (is_node c.from-n.result a.a) (is_node c.from-n.result a.c) = search rules in
+    is-admitted a.a a.c a.b.now c.from-n.result c.from-n.ensures
     (sym c.is_fit.ensures ∙ c.if-not-is_fit.false) (sym c.is_sound.ensures ∙ c.if-not-is_sound.false)
     (sym test ∙ c.if-not-is_node.false) (sym c.stopped_at.ensures ∙ c.if-stopped_at.false)
