@@ -52,7 +52,8 @@ fn fresh_in(m: &mut [u8], n: usize, f: usize)
     requires { length m.old ≡ memory_size }
     ensures { m.new ≡ on_cluster n (λ b. (fresh n f b).bytes) m.old }
 {
-    cluster::fresh(n, f, &mut m[..lent_for(n)]);
+    // A refusal leaves the memory as it was, and that is all that is said here.
+    let _ = cluster::fresh(n, f, &mut m[..lent_for(n)]);
 }
 
 // The first line, which says n and f where it is not bad.
