@@ -122,8 +122,8 @@ loop-t-preserved c =
     let whole = one_by_one c.args.r.now s c.args.b.now c.args.out.now in
     let so_far = so c.loop-t.invariant.0 c.loop-t.ending c.loop-t.r c.loop-t.at c.loop-t.out in
     let x = c.first_ending-ending.ensures
-    ∙ ap (pick (is_ending c.loop-t.ending) c.loop-t.ending) (same_ending (later n s p.low p.high t so_far c.loop-t.ending whole c.loop-t.invariant.1
-    p.ends _ k
+    ∙ ap (pick (is_ending c.loop-t.ending) c.loop-t.ending)
+    (same_ending (later n s p.low p.high t so_far c.loop-t.ending whole c.loop-t.invariant.1 p.ends _ k
     read _ view _ (part_end c.loop-t.at c.loop-t.out) (Ok c.in_ok-a.a) _ _ _ _ c.in_ok-a.ensures)) in
     let end = back c.loop-t.at c.loop-t.out c.take_message.new.out in (
       tell' n s p.low p.high t so_far c.loop-t.ending whole c.loop-t.invariant.1 p.ends _ k
