@@ -28,7 +28,7 @@ use layout::{
 };
 use outgoing::{Extent, is_cut};
 use record::{Operation, blank_node};
-use refusal::Refusal;
+pub use refusal::Refusal;
 use release::{can_send, may_cut, release_handled};
 use step::Ending;
 use table::quorum::can_be;

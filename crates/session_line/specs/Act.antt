@@ -1,7 +1,6 @@
 -- What a line of a session does on a cluster's bytes, and what is printed for it. A bad line changes nothing and is
 -- refused with 1.
 use Rattle.std.specs.Prelude.{ℕ, List, Option, Some, None}
-use Rattle.view.specs.View.{no_view}
 use Rattle.record.specs.declared.Operation.TheVariants.{Update as UpdateOf, Scan as ScanOf}
 use Rattle.step.specs.Told.{told_view}
 use Rattle.layout.specs.Layout.{stated}
@@ -11,7 +10,6 @@ use Rattle.events.specs.Stop.{stop}
 use Rattle.lines.specs.declared.Command.{Command}
 use Rattle.lines.specs.declared.Command.TheVariants.{Update, Scan, Deliver, Stop}
 use Rattle.answers.specs.Answer.{line}
-use Rattle.answers.specs.declared.Printed.TheVariants.{No}
 use Rattle.session_reply.specs.Reply.{handler, printed_for}
 
 -- the event that a line is
@@ -24,6 +22,4 @@ ran None b = refuse 1 b
 
 -- the bytes printed for event e: a scan's view with an entry for each node that the cluster's bytes state
 unfoldable pub printed : (e : ℕ) → Option Command → List ℕ → List ℕ
-printed e (Some l) b =
-    line e (printed_for (handler l) (told_of (ran (Some l) b))) (stated b) (told_view (told_of (ran (Some l) b)))
-printed e None b = line e (Some (No 1)) (stated b) no_view
+printed e l b = line e (printed_for (handler l) (told_of (ran l b))) (stated b) (told_view (told_of (ran l b)))

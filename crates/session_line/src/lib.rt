@@ -52,7 +52,7 @@ pub fn run_at(b: &mut [u8], e: u64, l: Option<Command>, out: &mut [u8], at: usiz
         Some(c) => {
             let a = act(b, c);
             let view = a.map_or(absent(), |r| r.view);
-            put_line(out, at, e, printed_at(handler(c), a), n, view)
+            put_line(out, at, e, printed_at(handler(l), a), n, view)
         }
         None => put_line(out, at, e, Some(Printed::No(1)), n, absent()),
     }

@@ -62,10 +62,10 @@ module _ (n : ℕ) (most : n ≤ nodes) where
   shows e c (returned (Scanned r)) v = rw (entries-reports n most v) (scan (rule_of r) (view_meaning n v))
   shows e c (returned Spent) v = spent
 
-  says : (e : ℕ) (l : Command) (b : List ℕ) → stated b ≡ n
-      → Shows e (handler l) (response_of n (ran (Some l) b).view (ran (Some l) b).answer) (printed e (Some l) b)
+  says : (e : ℕ) (l : Option Command) (b : List ℕ) → stated b ≡ n
+      → Shows e (handler l) (response_of n (ran l b).view (ran l b).answer) (printed e l b)
   unfolding printed
-  says e l b h = rw h (shows e (handler l) (ran (Some l) b).answer (ran (Some l) b).view)
+  says e l b h = rw h (shows e (handler l) (ran l b).answer (ran l b).view)
 
   -- from bytes b that state n whatever lines are run
   pub lines-print : (e : ℕ) (b : List ℕ) (ls : List (Option Command))
@@ -76,13 +76,13 @@ module _ (n : ℕ) (most : n ≤ nodes) where
   lines-print e b (None ∷ ls) h = bad (lines-print (next e) b ls h)
   lines-print e b (Some (Update c p x) ∷ ls) h =
       let l : Command = Update c p x in
-      event _ refl refl (says e l b (h [])) (lines-print (next e) (ran (Some l) b).bytes ls (λ ks. h (Some l ∷ ks)))
+      event _ refl refl (says e (Some l) b (h [])) (lines-print (next e) (ran (Some l) b).bytes ls (λ ks. h (Some l ∷ ks)))
   lines-print e b (Some (Scan c x) ∷ ls) h =
       let l : Command = Scan c x in
-      event _ refl refl (says e l b (h [])) (lines-print (next e) (ran (Some l) b).bytes ls (λ ks. h (Some l ∷ ks)))
+      event _ refl refl (says e (Some l) b (h [])) (lines-print (next e) (ran (Some l) b).bytes ls (λ ks. h (Some l ∷ ks)))
   lines-print e b (Some (Deliver a c x) ∷ ls) h =
       let l : Command = Deliver a c x in
-      event _ refl refl (says e l b (h [])) (lines-print (next e) (ran (Some l) b).bytes ls (λ ks. h (Some l ∷ ks)))
+      event _ refl refl (says e (Some l) b (h [])) (lines-print (next e) (ran (Some l) b).bytes ls (λ ks. h (Some l ∷ ks)))
   lines-print e b (Some (Stop c) ∷ ls) h =
       let l : Command = Stop c in
-      event _ refl refl (says e l b (h [])) (lines-print (next e) (ran (Some l) b).bytes ls (λ ks. h (Some l ∷ ks)))
+      event _ refl refl (says e (Some l) b (h [])) (lines-print (next e) (ran (Some l) b).bytes ls (λ ks. h (Some l ∷ ks)))

@@ -44,7 +44,7 @@ pub data Lines : (e : ℕ) → List (Option Command) → Trace → List ℕ → 
   bad : {e : ℕ} {ls : List (Option Command)} {tr : Trace} {o : List ℕ} → Lines (next e) ls tr o
       → Lines e (None ∷ ls) tr (bad_line e ++ o)
   event : {e : ℕ} {l : Command} {ls : List (Option Command)} {x : Seen} {tr : Trace} {u o : List ℕ} (y : Event)
-      → events_of (Some l ∷ []) ≡ y ∷ [] → x.event ≡ meaning y → Shows e (handler l) x.answer u
+      → events_of (Some l ∷ []) ≡ y ∷ [] → x.event ≡ meaning y → Shows e (handler (Some l)) x.answer u
       → Lines (next e) ls tr o → Lines e (Some l ∷ ls) (x ∷ tr) (u ++ o)
 
 -- Lines and what is seen of their events tell what is printed.

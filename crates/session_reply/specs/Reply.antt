@@ -6,12 +6,13 @@ use Rattle.lines.specs.declared.Command.TheVariants.{Update, Scan, Deliver, Stop
 use Rattle.answers.specs.declared.Printed.{Printed}
 use Rattle.answers.specs.declared.Printed.TheVariants.{Done as SayDone, Scan as SayScan, Spent as SaySpent, No}
 
--- the node that handles a command, and whose operation it may end: of a delivery the receiver
-abbrev pub handler : Command → ℕ
-handler (Update c p x) = c
-handler (Scan c x) = c
-handler (Deliver a c x) = c
-handler (Stop c) = c
+-- the node that handles it, and whose operation it may end: of a delivery the receiver; none of a bad line
+abbrev pub handler : Option Command → ℕ
+handler (Some (Update c p x)) = c
+handler (Some (Scan c x)) = c
+handler (Some (Deliver a c x)) = c
+handler (Some (Stop c)) = c
+handler None = 0
 
 -- what is said of it, by what it tells in document 01's terms: the ending at that node, or the refusal
 abbrev pub printed_for : ℕ → Told → Option Printed

@@ -1,5 +1,5 @@
-// What is said of a line of a session that is run: which node handles its command, and the reply by what its event
-// tells. The definitions are in specs/.
+// What is said of a line of a session that is run: which node handles it, and the reply by what its event tells. The
+// definitions are in specs/.
 #![tactic(auto)]
 
 ghost use Rattle.std.specs.Prelude.{◌≡◌};
@@ -15,10 +15,11 @@ use lines::Command;
 use step::Ending;
 use view::View;
 
-// The node that handles a command.
-pub fn handler(c: Command) -> usize
-    ensures { result ≡ handler_of c }
+// The node that handles a line; 0 where the line is bad.
+pub fn handler(l: Option<Command>) -> usize
+    ensures { result ≡ handler_of l }
 {
+    let Some(c) = l else { return 0 };
     match c {
         Command::Update { node, .. } | Command::Scan { node, .. } | Command::Stop { node } => node,
         Command::Deliver { to, .. } => to,

@@ -29,21 +29,21 @@ seen e c n (returned (Scan i)) v = refl
 seen e c n (returned Spent) v = refl
 
 -- what is printed, from what was answered
-says : (e : ℕ) (l : Command) (b k : List ℕ) {c n : ℕ} (a : Reply) {r : Option Printed} → n ≡ stated b → c ≡ handler l
-    → r ≡ printed_for c (told_by a) → Tells a k (ran (Some l) b) → line e r n (view_by a) ≡ printed e (Some l) b
+says : (e : ℕ) (l : Option Command) (b k : List ℕ) {c n : ℕ} (a : Reply) {r : Option Printed} → n ≡ stated b
+    → c ≡ handler l → r ≡ printed_for c (told_by a) → Tells a k (ran l b) → line e r n (view_by a) ≡ printed e l b
 unfolding printed
 says e l b k {c} {n} a {r} p q s t =
-    let u : told_by a ≡ told_of (ran (Some l) b) = t.0 in
+    let u : told_by a ≡ told_of (ran l b) = t.0 in
     ap (λ (x : Option Printed). line e x n (view_by a)) s ∙ seen e c n (answer_of a) (view_by a)
     ∙ ap (λ (x : Told). line e (printed_for c x) n (told_view x)) u
-    ∙ ap₂ (λ (i j : ℕ). line e (printed_for i (told_of (ran (Some l) b))) j (told_view (told_of (ran (Some l) b)))) q p
+    ∙ ap₂ (λ (i j : ℕ). line e (printed_for i (told_of (ran l b))) j (told_view (told_of (ran l b)))) q p
 
 pub returns-in-Some : goal.returns-in-Some
 returns-in-Some c =
     let x = c.args in
     let a = c.act-a.ensures in
     let p = c.put_line.ensures in
-    let s = says x.e c.in-Some.c x.b.now _ c.act-a.result c.nodes_in-n.ensures c.handler.ensures
+    let s = says x.e (Some c.in-Some.c) x.b.now _ c.act-a.result c.nodes_in-n.ensures c.handler.ensures
     c.printed_at.ensures a in
     let v : c.map_or-view.result ≡ view_by c.act-a.result = search rules in
     rw (c.in-Some.is, sym s, sym v) (a.3, p.0, p.1)
