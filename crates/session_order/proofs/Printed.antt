@@ -75,14 +75,14 @@ module _ (n : ℕ) (most : n ≤ nodes) where
   lines-print e b [] h = none
   lines-print e b (None ∷ ls) h = bad (lines-print (next e) b ls h)
   lines-print e b (Some (Update c p x) ∷ ls) h =
-      let l : Command = Update c p x in
-      event _ refl refl (says e (Some l) b (h [])) (lines-print (next e) (ran (Some l) b).bytes ls (λ ks. h (Some l ∷ ks)))
+      let l : Option Command = Some (Update c p x) in
+      event _ refl refl (says e l b (h [])) (lines-print (next e) (ran l b).bytes ls (λ ks. h (l ∷ ks)))
   lines-print e b (Some (Scan c x) ∷ ls) h =
-      let l : Command = Scan c x in
-      event _ refl refl (says e (Some l) b (h [])) (lines-print (next e) (ran (Some l) b).bytes ls (λ ks. h (Some l ∷ ks)))
+      let l : Option Command = Some (Scan c x) in
+      event _ refl refl (says e l b (h [])) (lines-print (next e) (ran l b).bytes ls (λ ks. h (l ∷ ks)))
   lines-print e b (Some (Deliver a c x) ∷ ls) h =
-      let l : Command = Deliver a c x in
-      event _ refl refl (says e (Some l) b (h [])) (lines-print (next e) (ran (Some l) b).bytes ls (λ ks. h (Some l ∷ ks)))
+      let l : Option Command = Some (Deliver a c x) in
+      event _ refl refl (says e l b (h [])) (lines-print (next e) (ran l b).bytes ls (λ ks. h (l ∷ ks)))
   lines-print e b (Some (Stop c) ∷ ls) h =
-      let l : Command = Stop c in
-      event _ refl refl (says e (Some l) b (h [])) (lines-print (next e) (ran (Some l) b).bytes ls (λ ks. h (Some l ∷ ks)))
+      let l : Option Command = Some (Stop c) in
+      event _ refl refl (says e l b (h [])) (lines-print (next e) (ran l b).bytes ls (λ ks. h (l ∷ ks)))
